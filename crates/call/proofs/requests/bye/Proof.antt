@@ -1,0 +1,30 @@
+-- `call::requests::bye` meets its contract. Each arm puts in the constructor or the test that led there, and takes what its callee ensures. Assumes nothing.
+use Rattle.call.proofs.requests.bye.Statement.{statement}
+use Rattle.call.proofs.requests.bye.Tie as tie
+use Rattle.call.specs.Rule.{bye}
+use borrow.Author.Needs.{needs}
+use mathlib.Core.Path.{sym, _∙_}
+
+admit-requires : tie.Need-admit-requires
+admit-requires c κs = search needs
+
+enum-known-o : tie.Need-enum-known-o
+enum-known-o c = search needs
+
+enum-known-d : tie.Need-enum-known-d
+enum-known-d c = search needs
+
+goes-requires : tie.Need-goes-requires
+goes-requires c κs = search needs
+
+returns : tie.Need-returns
+unfolding bye
+returns c = rw (sym (c .before .before .before .admit .ensures) ∙ c .before .o .given .1)
+
+returns-2 : tie.Need-returns-2
+unfolding bye
+returns-2 c = rw (sym (c .before .before .before .before .admit .ensures) ∙ c .before .before .d .given .1) (c .goes .ensures)
+
+pub bye-spec : {M : Type 1} → statement M
+bye-spec =
+    tie.close (tie.spec admit-requires enum-known-o enum-known-d goes-requires returns returns-2)

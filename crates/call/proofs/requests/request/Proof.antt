@@ -1,0 +1,114 @@
+-- `call::requests::request` meets its contract. Each arm puts in the constructor or the test that led there, and takes what its callee ensures. Assumes nothing.
+use Rattle.call.proofs.requests.request.Statement.{statement}
+use Rattle.call.proofs.requests.request.Tie as tie
+use Rattle.call.specs.Rule.{request}
+use borrow.Author.Needs.{needs}
+
+enum-told : tie.Need-enum-told
+enum-told c = search needs
+
+invite-requires : tie.Need-invite-requires
+invite-requires c κs = search needs
+
+enum-told-2 : tie.Need-enum-told-2
+enum-told-2 c = search needs
+
+bye-requires : tie.Need-bye-requires
+bye-requires c κs = search needs
+
+enum-told-3 : tie.Need-enum-told-3
+enum-told-3 c = search needs
+
+cancel-requires : tie.Need-cancel-requires
+cancel-requires c κs = search needs
+
+enum-told-4 : tie.Need-enum-told-4
+enum-told-4 c = search needs
+
+ack-requires : tie.Need-ack-requires
+ack-requires c κs = search needs
+
+enum-told-5 : tie.Need-enum-told-5
+enum-told-5 c = search needs
+
+message-requires : tie.Need-message-requires
+message-requires c κs = search needs
+
+enum-told-6 : tie.Need-enum-told-6
+enum-told-6 c = search needs
+
+callback-in-requires : tie.Need-callback-in-requires
+callback-in-requires c κs = search needs
+
+enum-told-7 : tie.Need-enum-told-7
+enum-told-7 c = search needs
+
+refer-requires : tie.Need-refer-requires
+refer-requires c κs = search needs
+
+enum-told-8 : tie.Need-enum-told-8
+enum-told-8 c = search needs
+
+notify-requires : tie.Need-notify-requires
+notify-requires c κs = search needs
+
+returns : tie.Need-returns
+unfolding request
+returns c = rw (c .before .enum-told .given .1) (c .invite .ensures)
+
+returns-2 : tie.Need-returns-2
+unfolding request
+returns-2 c = rw (c .before .enum-told2 .given .1) (c .bye .ensures)
+
+returns-3 : tie.Need-returns-3
+unfolding request
+returns-3 c = rw (c .before .enum-told3 .given .1) (c .cancel .ensures)
+
+returns-4 : tie.Need-returns-4
+unfolding request
+returns-4 c = rw (c .before .enum-told4 .given .1) (c .ack .ensures)
+
+returns-5 : tie.Need-returns-5
+unfolding request
+returns-5 c = rw (c .before .enum-told5 .given .1) (c .message .ensures)
+
+returns-6 : tie.Need-returns-6
+unfolding request
+returns-6 c = rw (c .before .enum-told6 .given .1) (c .callback-in .ensures)
+
+returns-7 : tie.Need-returns-7
+unfolding request
+returns-7 c = rw (c .before .enum-told7 .given .1) (c .refer .ensures)
+
+returns-8 : tie.Need-returns-8
+unfolding request
+returns-8 c = rw (c .before .enum-told8 .given .1) (c .notify .ensures)
+
+pub request-spec : {M : Type 1} → statement M
+request-spec =
+    tie.close
+    (tie.spec
+    enum-told
+    invite-requires
+    enum-told-2
+    bye-requires
+    enum-told-3
+    cancel-requires
+    enum-told-4
+    ack-requires
+    enum-told-5
+    message-requires
+    enum-told-6
+    callback-in-requires
+    enum-told-7
+    refer-requires
+    enum-told-8
+    notify-requires
+    returns
+    returns-2
+    returns-3
+    returns-4
+    returns-5
+    returns-6
+    returns-7
+    returns-8)

@@ -1,0 +1,81 @@
+-- `call::responses::failure` meets its contract. Each arm puts in the constructor or the test that led there, and takes what its callee ensures. Assumes nothing.
+use Rattle.call.proofs.responses.failure.Statement.{statement}
+use Rattle.call.proofs.responses.failure.Tie as tie
+use borrow.Author.Needs.{needs}
+
+enum-told : tie.Need-enum-told
+enum-told c = search needs
+
+goes-requires : tie.Need-goes-requires
+goes-requires c κs = search needs
+
+enum-told-2 : tie.Need-enum-told-2
+enum-told-2 c = search needs
+
+goes-requires-2 : tie.Need-goes-requires-2
+goes-requires-2 c κs = search needs
+
+enum-told-3 : tie.Need-enum-told-3
+enum-told-3 c = search needs
+
+not-now-requires : tie.Need-not-now-requires
+not-now-requires c κs = search needs
+
+enum-told-4 : tie.Need-enum-told-4
+enum-told-4 c = search needs
+
+not-now-requires-2 : tie.Need-not-now-requires-2
+not-now-requires-2 c κs = search needs
+
+enum-told-5 : tie.Need-enum-told-5
+enum-told-5 c = search needs
+
+not-now-requires-3 : tie.Need-not-now-requires-3
+not-now-requires-3 c κs = search needs
+
+enum-told-6 : tie.Need-enum-told-6
+enum-told-6 c = search needs
+
+goes-requires-3 : tie.Need-goes-requires-3
+goes-requires-3 c κs = search needs
+
+returns : tie.Need-returns
+returns c = rw (c .before .enum-told .given .1) (c .goes .ensures)
+
+returns-2 : tie.Need-returns-2
+returns-2 c = rw (c .before .enum-told2 .given .1) (c .goes2 .ensures)
+
+returns-3 : tie.Need-returns-3
+returns-3 c = rw (c .before .enum-told3 .given .1) (c .not-now .ensures)
+
+returns-4 : tie.Need-returns-4
+returns-4 c = rw (c .before .enum-told4 .given .1) (c .not-now2 .ensures)
+
+returns-5 : tie.Need-returns-5
+returns-5 c = rw (c .before .enum-told5 .given .1) (c .not-now3 .ensures)
+
+returns-6 : tie.Need-returns-6
+returns-6 c = rw (c .before .enum-told6 .given .1) (c .goes3 .ensures)
+
+pub failure-spec : {M : Type 1} → statement M
+failure-spec =
+    tie.close
+    (tie.spec
+    enum-told
+    goes-requires
+    enum-told-2
+    goes-requires-2
+    enum-told-3
+    not-now-requires
+    enum-told-4
+    not-now-requires-2
+    enum-told-5
+    not-now-requires-3
+    enum-told-6
+    goes-requires-3
+    returns
+    returns-2
+    returns-3
+    returns-4
+    returns-5
+    returns-6)

@@ -1,0 +1,159 @@
+// The rule, checked in the order of the numbers (01 Events): 20, 21, 22, then by the kind of event.
+use crate::answers::Answer;
+use crate::answers::Reason;
+use crate::answers::Shown;
+use crate::answers::State;
+use crate::answers::Waiting;
+use crate::answers::Word;
+use crate::events::Event;
+use crate::events::Method;
+use crate::events::Request;
+use crate::events::Response;
+use crate::records::After;
+use crate::records::Call;
+use crate::records::Held;
+use crate::records::Highest;
+use crate::records::Outcome;
+use crate::records::refused;
+use crate::requests::request;
+use crate::responses::response;
+use crate::ticks::tick_in;
+ghost use mathlib.Core.Path.{_≡_};
+ghost use mathlib.Core.Bool.{true};
+ghost use Rattle.call.specs.declared.answers.Waiting.the-variants.{Nobody};
+ghost use Rattle.call.specs.Rule.{checked, decided, held, opened, request, response, tickIn, unheld, unknown, waiting};
+
+// Who waits for the reply to a request.
+fn waiting(m: Method) -> Waiting
+    ensures { λ w. ⌜ w ≡ waiting m ⌝ }
+{
+    match m {
+        Method::Invite => Waiting::Requester,
+        Method::Bye => Waiting::Requester,
+        Method::Cancel => Waiting::Requester,
+        Method::Ack => Waiting::Nobody,
+        Method::Message => Waiting::Requester,
+        Method::Callback => Waiting::CallbackRequester,
+        Method::Refer => Waiting::Requester,
+        Method::Notify => Waiting::Requester,
+    }
+}
+
+// The record of a new call.
+fn opened(number: u32, secure: bool, now: u64) -> Call
+    ensures { λ c. ⌜ c ≡ opened number secure now ⌝ }
+{
+    let caller = Highest { number, method: 1 };
+    let callee = Highest {
+        number: 0,
+        method: 0,
+    };
+    Call {
+        state: State::Calling,
+        secure,
+        invite: number,
+        caller,
+        callee,
+        last: now,
+        entry: now,
+        chat: now,
+    }
+}
+
+// A request of method m that names no call: an INVITE opens one, any other is 20.
+fn unheld(m: Method, r: Request, now: u64) -> Outcome
+    ensures { λ o. ⌜ o ≡ unheld m r now ⌝ }
+{
+    match m {
+        Method::Invite => Outcome {
+            answer: Answer::Accepted(Word::Pass, Shown::In(State::Calling)),
+            after: After::Set(opened(r.number, r.secure, now)),
+        },
+        Method::Bye => refused(Reason::NoCall, Waiting::Requester),
+        Method::Cancel => refused(Reason::NoCall, Waiting::Requester),
+        Method::Ack => refused(Reason::NoCall, Waiting::Nobody),
+        Method::Message => refused(Reason::NoCall, Waiting::Requester),
+        Method::Callback => refused(Reason::NoCall, Waiting::CallbackRequester),
+        Method::Refer => refused(Reason::NoCall, Waiting::Requester),
+        Method::Notify => refused(Reason::NoCall, Waiting::Requester),
+    }
+}
+
+// 21 and 22 before what the request's method says.
+fn asked(m: Method, r: Request, agrees: bool, now: u64, c: Call) -> Outcome
+    ensures { λ o. ⌜ o ≡ checked agrees (waiting m) now c (request m r now c) ⌝ }
+{
+    let w = waiting(m);
+    if !agrees {
+        return refused(Reason::OtherParty, w);
+    }
+    if now < c.last {
+        return refused(Reason::Earlier, w);
+    }
+    request(m, r, now, c)
+}
+
+fn replied(m: Method, r: Response, agrees: bool, now: u64, c: Call) -> Outcome
+    ensures { λ o. ⌜ o ≡ checked agrees Nobody now c (response m r now c) ⌝ }
+{
+    if !agrees {
+        return refused(Reason::OtherParty, Waiting::Nobody);
+    }
+    if now < c.last {
+        return refused(Reason::Earlier, Waiting::Nobody);
+    }
+    response(m, r, now, c)
+}
+
+fn ticked(s: State, now: u64, c: Call) -> Outcome
+    ensures { λ o. ⌜ o ≡ checked true Nobody now c (tickIn s now c) ⌝ }
+{
+    if now < c.last {
+        return refused(Reason::Earlier, Waiting::Nobody);
+    }
+    tick_in(s, now, c)
+}
+
+// An event on a call's record.
+fn held(e: Event, now: u64, c: Call) -> Outcome
+    ensures { λ o. ⌜ o ≡ held e now c ⌝ }
+{
+    match e {
+        Event::Asks(r, agrees) => {
+            let m = r.method;
+            asked(m, r, agrees, now, c)
+        }
+        Event::Replies(r, agrees) => {
+            let m = r.method;
+            replied(m, r, agrees, now, c)
+        }
+        Event::Tick => {
+            let s = c.state;
+            ticked(s, now, c)
+        }
+    }
+}
+
+// An event that names no call on record.
+fn unknown(e: Event, now: u64) -> Outcome
+    ensures { λ o. ⌜ o ≡ unknown e now ⌝ }
+{
+    match e {
+        Event::Asks(r, _) => {
+            let m = r.method;
+            unheld(m, r, now)
+        }
+        Event::Replies(_, _) => refused(Reason::NoCall, Waiting::Nobody),
+        Event::Tick => refused(Reason::NoCall, Waiting::Nobody),
+    }
+}
+
+// What is answered to an event on a call's record, or on none, and what becomes of the record.
+pub fn decide(h: Held, e: Event, now: u64) -> Outcome
+    ensures { λ o. ⌜ o ≡ decided h e now ⌝ }
+{
+    match h {
+        Held::Nothing => unknown(e, now),
+        Held::Is(c) => held(e, now, c),
+    }
+}

@@ -1,0 +1,5 @@
+pub mod TextLaws
+pub mod ClassLaws
+pub mod Chain
+pub mod NumberLaws
+pub mod DecimalLaws

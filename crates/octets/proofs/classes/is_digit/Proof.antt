@@ -1,0 +1,15 @@
+-- `octets::classes::is_digit` meets its contract. By its definition and what the callees ensure. Assumes nothing.
+use Rattle.octets.proofs.classes.is_digit.Statement.{statement}
+use Rattle.octets.proofs.classes.is_digit.Tie as tie
+use Rattle.octets.specs.Class.{isDigit}
+use borrow.Author.Needs.{needs}
+
+among-requires : tie.Need-among-requires
+among-requires c κs = search needs
+
+returns : tie.Need-returns
+unfolding isDigit
+returns c = cc
+
+pub is-digit-spec : {M : Type 1} → statement M
+is-digit-spec = tie.close (tie.spec among-requires returns)

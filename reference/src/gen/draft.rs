@@ -1,0 +1,714 @@
+//! Messages on their way out: composed right from a plan, then spoiled in one
+//! place or more, then written with or without white space.
+
+use super::node::{Node, Spacing};
+use super::rng::Rng;
+use super::texts;
+use crate::fields;
+use crate::message::Side;
+use crate::rules::Method;
+
+/// A host, a destination and an organization.
+pub type Path = (Vec<u8>, Vec<u8>, Vec<u8>);
+
+/// What a request or response is to say.
+#[derive(Debug, Clone)]
+pub struct Plan {
+    pub response: Option<u16>,
+    pub number: u32,
+    pub method: Method,
+    pub from: Side,
+    pub call_id: Vec<u8>,
+    pub user: Vec<u8>,
+    pub caller_fire: Vec<u8>,
+    pub callee_fire: Vec<u8>,
+    pub secure: bool,
+    pub via: Vec<Path>,
+}
+
+/// A tag and fields in order.
+#[derive(Debug, Clone)]
+pub struct Draft {
+    pub tag: Node,
+    pub fields: Vec<(Vec<u8>, Node)>,
+}
+
+/// The side that sends a method, where there is a choice either.
+pub fn sender(rng: &mut Rng, method: Method) -> Side {
+    match method {
+        Method::Invite | Method::Ack | Method::Cancel | Method::Notify => Side::Caller,
+        Method::Refer | Method::Callback => Side::Callee,
+        Method::Bye | Method::Message => *rng.pick(&[Side::Caller, Side::Callee]),
+    }
+}
+
+/// A Via entry; 1 to 3 of them mostly, 16 rarely.
+pub fn path(rng: &mut Rng) -> Path {
+    (
+        texts::host(rng),
+        texts::destination(rng),
+        texts::organization(rng),
+    )
+}
+
+pub fn paths(rng: &mut Rng) -> Vec<Path> {
+    let count = match rng.below(60) {
+        0 => 16,
+        1 => 15,
+        2 => rng.between(4, 14),
+        _ => rng.between(1, 3),
+    };
+    (0..count).map(|_| path(rng)).collect()
+}
+
+impl Plan {
+    pub fn random(rng: &mut Rng) -> Plan {
+        let method = rng.pick(&Method::ALL).0;
+        let status = status(rng, method);
+        Plan {
+            response: rng.one_in(3).then_some(status),
+            number: match method {
+                Method::Callback => 1,
+                _ => number(rng),
+            },
+            method,
+            from: sender(rng, method),
+            call_id: texts::call_id(rng),
+            user: texts::user_id(rng),
+            caller_fire: texts::fire_id(rng),
+            callee_fire: texts::fire_id(rng),
+            secure: !rng.one_in(3),
+            via: paths(rng),
+        }
+    }
+
+    /// The message of this plan, all right.
+    pub fn compose(&self, rng: &mut Rng) -> Draft {
+        let caller = [
+            b"net119:",
+            &self.user[..],
+            b"@",
+            &self.caller_fire,
+            b".caller",
+        ]
+        .concat();
+        let callee = [b"net119:fire@", &self.callee_fire[..], b".callee"].concat();
+        let (from, to) = match self.from {
+            Side::Caller => (caller, callee),
+            Side::Callee => (callee, caller),
+        };
+        let cseq = format!("{} {}", self.number, self.method.name());
+        let mut draft = Draft {
+            tag: Node::text(if self.response.is_some() {
+                "response"
+            } else {
+                "request"
+            }),
+            fields: Vec::new(),
+        };
+        if let Some(status) = self.response {
+            let text = [format!("{status} ").as_bytes(), &texts::phrase(rng)].concat();
+            draft.set("Status", Node::text(text));
+        }
+        draft.set("CSeq", Node::text(cseq));
+        draft.set("To", Node::text(to));
+        draft.set("From", Node::text(from));
+        draft.set("Call-ID", Node::text(&self.call_id));
+        draft.set("Date", Node::text(texts::date(rng)));
+        if self.response.is_none() {
+            self.add_method_fields(rng, &mut draft);
+        }
+        draft.set("Via", via(rng, &self.via));
+        draft
+    }
+
+    fn add_method_fields(&self, rng: &mut Rng, draft: &mut Draft) {
+        match self.method {
+            Method::Invite => self.add_invite_fields(rng, draft),
+            Method::Message => {
+                let image = self.from == Side::Caller && rng.one_in(2);
+                draft.set("Message-ID", Node::text(texts::message_id(rng)));
+                draft.set_body(rng, if image { IMAGE } else { PLAIN });
+                if rng.one_in(4) {
+                    let count = rng.below(3);
+                    let options = (0..count).map(|_| Node::text(texts::free(rng)));
+                    draft.set("Options", Node::Array(options.collect()));
+                }
+            }
+            Method::Notify => {
+                let kind = *rng.pick(&[PRESENCE, LOCATION, REFER]);
+                draft.set_body(rng, kind);
+            }
+            Method::Refer => {
+                draft.set("Refer-To", Node::text(texts::fire_id(rng)));
+                draft.set("Referred-By", Node::text(texts::fire_id(rng)));
+                if rng.one_in(2) {
+                    draft.set("Refer-Memo", memo(rng));
+                }
+            }
+            Method::Bye | Method::Cancel | Method::Ack | Method::Callback => {}
+        }
+    }
+
+    fn add_invite_fields(&self, rng: &mut Rng, draft: &mut Draft) {
+        let service = *rng.pick(&["ambulance", "fire", "unknown", "callback"]);
+        let training = service != "callback" && rng.one_in(4);
+        let rescuee = *rng.pick(&["caller", "third-party"]);
+        let language = *rng.pick(&["ja", "en", "zz", "aa"]);
+        let secure = if self.secure { "true" } else { "false" };
+        draft.set("Session-ID", Node::text(texts::call_id(rng)));
+        draft.set(
+            "Call-Mode",
+            Node::text(if training { "training" } else { "emergency" }),
+        );
+        draft.set("Call-Test", Node::raw(rng.pick(&["0", "1"])));
+        draft.set("Secure-Call", Node::raw(secure));
+        draft.set("Rescuee", Node::text(rescuee));
+        draft.set("Request-Service", Node::text(service));
+        draft.set("Language", Node::text(language));
+        draft.set("Locations", locations(rng));
+        draft.set("User-Agent", Node::text(texts::free(rng)));
+        draft.set("Caller", caller(rng));
+        if rng.one_in(6) {
+            draft.set("Referred-By", Node::text(texts::fire_id(rng)));
+            draft.set("Refer-Memo", memo(rng));
+        }
+    }
+}
+
+const PLAIN: &str = "text/plain";
+const IMAGE: &str = "text/vnd.net119.uri.image";
+const PRESENCE: &str = "message/vnd.net119.presence";
+const LOCATION: &str = "message/vnd.net119.location";
+const REFER: &str = "message/vnd.net119.refer";
+
+/// A sequence number, at times at the end of its range.
+pub fn number(rng: &mut Rng) -> u32 {
+    match rng.below(30) {
+        0 => u32::MAX,
+        1 => u32::MAX - 1,
+        2 => rng.next() as u32 | 1,
+        _ => rng.between(1, 9) as u32,
+    }
+}
+
+/// A status of any class; 202 for REFER alone.
+pub fn status(rng: &mut Rng, method: Method) -> u16 {
+    const STATUSES: &[u16] = &[
+        100, 180, 181, 183, 199, 200, 201, 299, 300, 302, 399, 400, 404, 405, 481, 486, 487, 488,
+        500, 501, 503, 600, 699,
+    ];
+    match (method, rng.below(3)) {
+        (Method::Refer, 0) => 202,
+        (_, 1) => 200,
+        _ => *rng.pick(STATUSES),
+    }
+}
+
+fn memo(rng: &mut Rng) -> Node {
+    let count = match rng.below(4) {
+        0 => 128,
+        1 => 127,
+        2 => 0,
+        _ => rng.between(1, 30),
+    };
+    Node::text(texts::memo(rng, count))
+}
+
+fn via(rng: &mut Rng, paths: &[Path]) -> Node {
+    Node::Array(paths.iter().map(|path| hop(rng, path)).collect())
+}
+
+/// A Via object, now and then with members that are ignored or out of order.
+fn hop(rng: &mut Rng, (host, destination, organization): &Path) -> Node {
+    let mut members = vec![
+        Node::member("host", Node::text(host)),
+        Node::member("destination", Node::text(destination)),
+        Node::member("organization", Node::text(organization)),
+    ];
+    if rng.one_in(12) {
+        let name = *rng.pick(&["x-sender", "Host", "port", "\\u0068ost", "CSeq", ""]);
+        let value = rng
+            .pick(&[Node::text("#K46"), Node::raw("1"), Node::Array(Vec::new())])
+            .clone();
+        members.push(Node::member(name, value.clone()));
+        if rng.one_in(2) {
+            members.push(Node::member(name, value));
+        }
+        rng.shuffle(&mut members);
+    }
+    Node::Object(members)
+}
+
+fn locations(rng: &mut Rng) -> Node {
+    let count = rng.below(3);
+    let location = |rng: &mut Rng| {
+        Node::Object(vec![
+            Node::member("provider", Node::text(rng.pick(&["gps", "network", "map"]))),
+            Node::member(
+                "latitude",
+                Node::raw(rng.pick(&["34.688986", "-0.5", "1e1"])),
+            ),
+            Node::member("longitude", Node::raw("135.533802")),
+        ])
+    };
+    Node::Array((0..count).map(|_| location(rng)).collect())
+}
+
+fn caller(rng: &mut Rng) -> Node {
+    let mut members = vec![Node::member("region", Node::text("tokyo"))];
+    if rng.one_in(3) {
+        let contact = Node::Object(vec![Node::member("name", Node::text("山田花子"))]);
+        members.push(Node::member(
+            "emergency-contacts",
+            Node::Array(vec![contact]),
+        ));
+        members.push(Node::member("Via", Node::raw("null")));
+    }
+    Node::Object(members)
+}
+
+/// A ping or a pong, all right.
+pub fn ping_or_pong(rng: &mut Rng) -> Draft {
+    let ping = rng.one_in(2);
+    let queue = [texts::fire_id(rng), b".callee".to_vec()].concat();
+    let mut draft = Draft {
+        tag: Node::text(if ping { "ping" } else { "pong" }),
+        fields: Vec::new(),
+    };
+    if ping {
+        draft.set("Destination", Node::text(queue));
+    } else {
+        draft.set("Responded-By", Node::text(queue));
+        draft.set(
+            "Status",
+            Node::text(rng.pick(&["available", "unavailable"])),
+        );
+    }
+    draft.set("Date", Node::text(texts::date(rng)));
+    let paths = paths(rng);
+    draft.set("Via", via(rng, &paths));
+    draft
+}
+
+impl Draft {
+    /// Puts a field in the place of one of its name, or at the end.
+    pub fn set(&mut self, name: &str, value: Node) {
+        match self.index(name) {
+            Some(index) => self.fields[index].1 = value,
+            None => self.fields.push(Node::member(name, value)),
+        }
+    }
+
+    fn index(&self, name: &str) -> Option<usize> {
+        self.fields
+            .iter()
+            .position(|(known, _)| known == name.as_bytes())
+    }
+
+    fn get(&self, name: &str) -> Option<&Node> {
+        self.index(name).map(|index| &self.fields[index].1)
+    }
+
+    /// A Content-Type with a Body that fits it.
+    fn set_body(&mut self, rng: &mut Rng, content_type: &str) {
+        let body = match content_type {
+            IMAGE => Node::text(rng.pick(&["https://", "https://x.jp/1.jpg", "https://\\u0041"])),
+            PRESENCE => Node::text(rng.pick(&["online", "offline"])),
+            LOCATION => Node::Object(vec![Node::member("latitude", Node::raw("34.68952"))]),
+            REFER => Node::text(rng.pick(&["180 Ringing", "202 Accepted", "699 ", "100 \\n"])),
+            _ => Node::text(texts::free(rng)),
+        };
+        self.set("Content-Type", Node::text(content_type));
+        self.set("Body", body);
+    }
+
+    /// The whole message as a tree.
+    pub fn tree(&self) -> Node {
+        Node::Array(vec![self.tag.clone(), Node::Object(self.fields.clone())])
+    }
+
+    /// The bytes: mostly compact and in order.
+    pub fn render(&self, rng: &mut Rng) -> Vec<u8> {
+        let mut draft = self.clone();
+        if rng.one_in(4) {
+            rng.shuffle(&mut draft.fields);
+        }
+        let spacing = rng.weighted(&[(7, Spacing::None), (2, Spacing::Light), (1, Spacing::Heavy)]);
+        draft.tree().render(rng, spacing)
+    }
+
+    /// Adds fields that are ignored: unknown ones, or known ones of other methods.
+    pub fn add_ignored(&mut self, rng: &mut Rng) {
+        const NAMES: &[&str] = &[
+            "x-trace",
+            "cseq",
+            "CSEQ",
+            "",
+            "\\u0043Seq",
+            "Call_ID",
+            "名",
+            "Via ",
+            "x-trace",
+        ];
+        let name = if rng.one_in(3) {
+            let unused = fields::NAMES
+                .iter()
+                .filter(|name| self.index(name).is_none());
+            let unused: Vec<&&str> = unused.collect();
+            match unused.is_empty() {
+                true => "x-trace",
+                false => rng.pick(&unused),
+            }
+        } else {
+            rng.pick(NAMES)
+        };
+        let value = any_value(rng);
+        let at = rng.below(self.fields.len() + 1);
+        self.fields.insert(at, Node::member(name, value));
+    }
+
+    /// Spoils the draft in one way, for one of the rows 5 to 10.
+    pub fn spoil(&mut self, rng: &mut Rng) {
+        match rng.below(16) {
+            0 => self.spoil_envelope(rng),
+            1..=2 => self.double_a_field(rng),
+            3..=5 => self.drop_a_field(rng),
+            6..=10 => self.break_a_field(rng),
+            11 => self.nest(rng),
+            _ => self.disagree(rng),
+        }
+    }
+
+    /// Row 6, as far as a draft can show it.
+    fn spoil_envelope(&mut self, rng: &mut Rng) {
+        const TAGS: &[&str] = &[
+            "\"Request\"",
+            "\"request \"",
+            "\"\"",
+            "\"reques\"",
+            "\"pang\"",
+            "\"\\u0072equest\"",
+            "null",
+            "1",
+            "[\"request\"]",
+            "{}",
+            "\"request\",{}",
+            "\"request\",null",
+        ];
+        self.tag = Node::raw(rng.pick(TAGS));
+    }
+
+    /// Row 7; an unknown name may be there twice.
+    fn double_a_field(&mut self, rng: &mut Rng) {
+        let index = rng.below(self.fields.len());
+        let mut double = self.fields[index].clone();
+        if rng.one_in(2) {
+            double.1 = any_value(rng);
+        }
+        let at = rng.below(self.fields.len() + 1);
+        self.fields.insert(at, double);
+    }
+
+    /// Row 8.
+    fn drop_a_field(&mut self, rng: &mut Rng) {
+        let count = if rng.one_in(4) { 2 } else { 1 };
+        for _ in 0..count.min(self.fields.len() - 1) {
+            let index = rng.below(self.fields.len());
+            if rng.one_in(4) {
+                self.fields[index].0.push(b'x');
+            } else {
+                self.fields.remove(index);
+            }
+        }
+    }
+
+    /// Row 9.
+    pub fn break_a_field(&mut self, rng: &mut Rng) {
+        let count = if rng.one_in(4) { 2 } else { 1 };
+        for _ in 0..count {
+            let index = self.pick_a_field(rng);
+            let name = self.fields[index].0.clone();
+            if let Some(number) = fields::number_of(&name) {
+                self.fields[index].1 = bad_value(rng, number, &self.fields[index].1);
+            }
+        }
+        if self.get("Message-ID").is_some() && rng.one_in(4) {
+            self.set("Options", bad_value(rng, fields::OPTIONS, &Node::raw("[]")));
+        }
+        let may_have_memo = self.get("Refer-To").is_some() || self.get("Call-Mode").is_some();
+        if may_have_memo && rng.one_in(5) {
+            let memo = bad_value(rng, fields::REFER_MEMO, &Node::raw("\"\""));
+            self.set("Refer-Memo", memo);
+        }
+    }
+
+    /// Any field, but half the time one of the method's own if there is any.
+    fn pick_a_field(&self, rng: &mut Rng) -> usize {
+        let is_own = |index: &usize| {
+            let number = fields::number_of(&self.fields[*index].0);
+            number.is_some_and(|number| number > fields::VIA)
+        };
+        let own: Vec<usize> = (0..self.fields.len()).filter(is_own).collect();
+        match own.is_empty() || rng.one_in(2) {
+            true => rng.below(self.fields.len()),
+            false => *rng.pick(&own),
+        }
+    }
+
+    /// Row 5 and its near side: a value so deep that eight or nine are open.
+    fn nest(&mut self, rng: &mut Rng) {
+        let levels = rng.between(5, 8);
+        let deep = nested(rng, levels);
+        match rng.below(3) {
+            0 if self.get("Caller").is_some() => {
+                self.set("Caller", Node::Object(vec![Node::member("a", deep)]));
+            }
+            1 if self.get("Locations").is_some() => {
+                self.set("Locations", Node::Array(vec![deep]));
+            }
+            _ => self.set("x-deep", deep),
+        }
+    }
+
+    /// Row 10.
+    fn disagree(&mut self, rng: &mut Rng) {
+        let (Some(to), Some(from)) = (self.index("To"), self.index("From")) else {
+            return self.set("Date", Node::text(texts::bad_date(rng)));
+        };
+        match rng.below(5) {
+            0 => {
+                let sent = self.fields[from].1.clone();
+                self.fields[from].1 = std::mem::replace(&mut self.fields[to].1, sent);
+            }
+            1 => self.fields[to].1 = self.fields[from].1.clone(),
+            2 => {
+                let cseq = *rng.pick(&["2 CALLBACK", "4294967295 CALLBACK"]);
+                self.set("CSeq", Node::text(cseq));
+            }
+            3 => {
+                self.set("Status", Node::text("202 Accepted"));
+            }
+            _ if self.get("Call-Mode").is_some() => {
+                self.set("Call-Mode", Node::text("training"));
+                self.set("Request-Service", Node::text("callback"));
+            }
+            _ => {
+                self.set_body(rng, IMAGE);
+                self.fields[from].1 = Node::text("net119:fire@kita.callee");
+                self.fields[to].1 = Node::text("net119:u1@nishi.caller");
+            }
+        }
+    }
+}
+
+/// Arrays and objects in each other, so many levels of them.
+pub fn nested(rng: &mut Rng, levels: usize) -> Node {
+    let mut node = match rng.below(4) {
+        0 => Node::raw("1"),
+        1 => Node::text("[{"),
+        2 => Node::Array(Vec::new()),
+        _ => Node::Object(Vec::new()),
+    };
+    let own = usize::from(!matches!(node, Node::Raw(_)));
+    for _ in own..levels {
+        node = match rng.below(4) {
+            0 => Node::Array(vec![node]),
+            1 => Node::Array(vec![Node::raw("[]"), node, Node::raw("{}")]),
+            2 => Node::Object(vec![Node::member("a", node)]),
+            _ => Node::Object(vec![
+                Node::member("b", Node::raw("{}")),
+                Node::member("b", node),
+            ]),
+        };
+    }
+    node
+}
+
+/// Any JSON value, small.
+pub fn any_value(rng: &mut Rng) -> Node {
+    const VALUES: &[&str] = &[
+        "null",
+        "true",
+        "false",
+        "0",
+        "1",
+        "-1.5e+3",
+        "2",
+        "\"\"",
+        "\"x\"",
+        "\"\\n\"",
+        "[]",
+        "{}",
+        "[1]",
+        "[\"a\",null]",
+        "{\"host\":1}",
+        "\"online\"",
+        "00000001e0",
+    ];
+    // The last one is not JSON; it is to come rarely.
+    let count = VALUES.len() - usize::from(!rng.one_in(8));
+    Node::raw(VALUES[rng.below(count)])
+}
+
+/// A value that breaks the field's rule, or seldom one that just meets it.
+fn bad_value(rng: &mut Rng, field: usize, old: &Node) -> Node {
+    if rng.one_in(5) {
+        return any_value(rng);
+    }
+    if rng.one_in(10) {
+        return escape_a_letter(rng, old);
+    }
+    use fields::*;
+    let text = match field {
+        CSEQ => {
+            let method = rng.pick(&Method::ALL).1;
+            texts::bad_cseq(rng, method)
+        }
+        TO | FROM => texts::bad_address(rng),
+        DATE => texts::bad_date(rng),
+        CALL_ID | SESSION_ID => texts::bad_call_id(rng),
+        VIA => return bad_via(rng, old),
+        STATUS => texts::bad_status(rng),
+        MESSAGE_ID => texts::bad_message_id(rng),
+        CONTENT_TYPE => {
+            const TYPES: &[&str] = &[
+                PLAIN,
+                IMAGE,
+                PRESENCE,
+                LOCATION,
+                REFER,
+                "message/vnd.net119.uri.image",
+                "text/html",
+                "text/plain ",
+                "Text/plain",
+                "text\\/plain",
+                "",
+            ];
+            rng.pick(TYPES).as_bytes().to_vec()
+        }
+        BODY => bad_body(rng, old),
+        REFER_TO | REFERRED_BY => texts::bad_fire_id(rng),
+        REFER_MEMO => match rng.below(3) {
+            0 => texts::memo(rng, 129),
+            1 => b"a\\nb".to_vec(),
+            _ => texts::memo(rng, 128),
+        },
+        CALL_MODE => b"Emergency".to_vec(),
+        CALL_TEST => {
+            const TESTS: &[&str] = &["2", "-0", "0.0", "1e0", "\"0\"", "true", "10", "-1", "0e0"];
+            return Node::raw(rng.pick(TESTS));
+        }
+        SECURE_CALL => return Node::raw(rng.pick(&["\"true\"", "0", "1", "null", "[true]"])),
+        RESCUEE => b"third_party".to_vec(),
+        REQUEST_SERVICE => b"police".to_vec(),
+        LANGUAGE => rng.pick(&["j", "jpn", "JA", "j1", ""]).as_bytes().to_vec(),
+        LOCATIONS | OPTIONS => {
+            const LISTS: &[&str] = &[
+                "{}",
+                "\"[]\"",
+                "[1]",
+                "[\"a\",1]",
+                "[[]]",
+                "[\"\\n\"]",
+                "[]",
+            ];
+            return Node::raw(rng.pick(LISTS));
+        }
+        USER_AGENT | CALLER => return any_value(rng),
+        _ => [texts::bad_fire_id(rng), b".callee".to_vec()].concat(),
+    };
+    Node::text(text)
+}
+
+/// A Body that the Content-Type it stands with seldom allows.
+fn bad_body(rng: &mut Rng, old: &Node) -> Vec<u8> {
+    const LINKS: &[&str] = &[
+        "https:/x",
+        "https:/",
+        "http://x",
+        "https:\\/\\/x",
+        "HTTPS://x",
+    ];
+    const BODIES: &[&str] = &[
+        "Online",
+        "online ",
+        "on\\u006cine",
+        "https://x",
+        "700 x",
+        "099 x",
+        "200",
+        "180 \\n",
+        "",
+    ];
+    let is_link = matches!(old, Node::Raw(bytes) if bytes.starts_with(b"\"https:"));
+    let bodies = if is_link { LINKS } else { BODIES };
+    rng.pick(bodies).as_bytes().to_vec()
+}
+
+/// One letter of a string written as an escape: raw bytes then differ.
+fn escape_a_letter(rng: &mut Rng, node: &Node) -> Node {
+    match node {
+        Node::Raw(bytes) if bytes.len() > 2 && bytes[0] == b'"' => {
+            let at = rng.between(1, bytes.len() - 2);
+            if !bytes[at].is_ascii_alphanumeric() || bytes.contains(&b'\\') {
+                return node.clone();
+            }
+            let escape = format!("\\u{:04x}", bytes[at]);
+            Node::Raw([&bytes[..at], escape.as_bytes(), &bytes[at + 1..]].concat())
+        }
+        _ => any_value(rng),
+    }
+}
+
+/// A Via that breaks its rule by its count or in one of its objects.
+fn bad_via(rng: &mut Rng, old: &Node) -> Node {
+    let Node::Array(mut hops) = old.clone() else {
+        return any_value(rng);
+    };
+    match rng.below(5) {
+        0 => hops.clear(),
+        1 => {
+            let path = path(rng);
+            let count = rng.between(16, 17);
+            hops.resize(count, hop(rng, &path));
+        }
+        2 => {
+            let at = rng.below(hops.len() + 1);
+            hops.insert(at, any_value(rng));
+        }
+        _ => {
+            let at = rng.below(hops.len().max(1));
+            if let Some(Node::Object(members)) = hops.get_mut(at) {
+                break_hop(rng, members);
+            }
+        }
+    }
+    Node::Array(hops)
+}
+
+fn break_hop(rng: &mut Rng, members: &mut Vec<(Vec<u8>, Node)>) {
+    if members.is_empty() {
+        return;
+    }
+    let at = rng.below(members.len());
+    match rng.below(6) {
+        0 => {
+            members.remove(at);
+        }
+        1 => {
+            let double = members[at].clone();
+            members.push(double);
+        }
+        2 => members[at].1 = any_value(rng),
+        3 => members[at].0.push(b' '),
+        _ => {
+            let text = match &members[at].0[..] {
+                b"host" => texts::bad_host(rng),
+                b"destination" => texts::bad_destination(rng),
+                _ => texts::bad_organization(rng),
+            };
+            members[at].1 = Node::text(text);
+        }
+    }
+}

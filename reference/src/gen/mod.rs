@@ -1,0 +1,119 @@
+//! Random but mostly sensible cases for both programs, the same for the same
+//! seed.
+
+mod damage;
+mod draft;
+mod flow;
+mod image;
+mod log;
+mod node;
+mod raw;
+mod rng;
+mod script;
+mod texts;
+
+use std::io::{self, Write};
+
+/// So many lines for `keep`.
+pub fn keep_lines(seed: u64, count: u64, output: impl Write) -> io::Result<()> {
+    let mut log = log::Log::new(seed);
+    write_lines(seed, count, output, || log.line())
+}
+
+/// So many lines for `probe`.
+pub fn probe_lines(seed: u64, count: u64, output: impl Write) -> io::Result<()> {
+    let mut script = script::Script::new(seed);
+    write_lines(seed, count, output, || script.line())
+}
+
+/// Every fourth seed leaves out the last line feed.
+fn write_lines(
+    seed: u64,
+    count: u64,
+    mut output: impl Write,
+    mut line: impl FnMut() -> Vec<u8>,
+) -> io::Result<()> {
+    for index in 1..=count {
+        let bytes = line();
+        output.write_all(&bytes)?;
+        let left_out = index == count && seed % 4 == 3 && !bytes.is_empty();
+        if !left_out {
+            output.write_all(b"\n")?;
+        }
+    }
+    output.flush()
+}
+
+#[cfg(test)]
+mod tests {
+    use super::*;
+    use crate::{count, keep, probe};
+
+    fn keep_log(seed: u64, count: u64) -> Vec<u8> {
+        let mut log = Vec::new();
+        keep_lines(seed, count, &mut log).unwrap();
+        log
+    }
+
+    fn probe_script(seed: u64, count: u64) -> Vec<u8> {
+        let mut script = Vec::new();
+        probe_lines(seed, count, &mut script).unwrap();
+        script
+    }
+
+    #[test]
+    fn the_same_seed_gives_the_same_lines() {
+        assert_eq!(keep_log(5, 500), keep_log(5, 500));
+        assert_eq!(probe_script(5, 500), probe_script(5, 500));
+        assert_ne!(keep_log(5, 500), keep_log(6, 500));
+        assert_ne!(probe_script(5, 500), probe_script(6, 500));
+        assert!(keep_log(9, 700).starts_with(&keep_log(9, 300)));
+    }
+
+    #[test]
+    fn there_are_as_many_lines_as_asked_for() {
+        for seed in 0..8 {
+            for text in [keep_log(seed, 300), probe_script(seed, 300)] {
+                let mut lines = crate::lines::Lines::new(&text[..], 10);
+                let mut count = 0;
+                while lines.next().unwrap().is_some() {
+                    count += 1;
+                }
+                assert_eq!(count, 300);
+            }
+        }
+    }
+
+    /// The lines that `count` prints with 0, or that no answer should have.
+    fn never_reached(answers: &[u8]) -> Vec<String> {
+        let mut out = Vec::new();
+        count::run(answers, &mut out).unwrap();
+        let text = String::from_utf8(out).unwrap();
+        let odd = |line: &&str| line.trim_start().starts_with("0 ") || line.ends_with("other");
+        text.lines().filter(odd).map(str::to_string).collect()
+    }
+
+    #[test]
+    fn a_log_reaches_every_word_state_and_number() {
+        let mut answers = Vec::new();
+        keep::run(&keep_log(1, 15_000)[..], &mut answers).unwrap();
+        assert_eq!(never_reached(&answers), Vec::<String>::new());
+    }
+
+    #[test]
+    fn a_script_reaches_every_shape() {
+        let mut answers = Vec::new();
+        probe::run(&probe_script(1, 15_000)[..], &mut answers).unwrap();
+        assert_eq!(never_reached(&answers), Vec::<String>::new());
+    }
+
+    /// Whatever happens, a table that was well-formed stays so.
+    #[test]
+    fn tables_stay_well_formed() {
+        let mut keep = keep::Keep::new();
+        for line in keep_log(2, 4000).split(|byte| *byte == b'\n') {
+            keep.answer(line, &mut io::sink()).unwrap();
+            assert!(crate::table::well_formed(keep.image()));
+        }
+    }
+}

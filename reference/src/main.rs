@@ -1,0 +1,69 @@
+//! An independent reading of the NET119 call rules: the same logs and the same
+//! probe lines as the program it is held against, and cases for both.
+
+mod call;
+mod count;
+mod fields;
+mod gen;
+mod hex;
+mod json;
+mod keep;
+mod keeper;
+mod lines;
+mod message;
+mod probe;
+mod rules;
+mod table;
+mod utf8;
+mod writing;
+
+#[cfg(test)]
+mod marks;
+#[cfg(test)]
+mod samples;
+
+use std::ffi::OsString;
+use std::io::{self, BufReader, BufWriter, ErrorKind};
+use std::process::ExitCode;
+
+const USAGE: &str = "usage: reference keep | probe | count
+       reference gen keep SEED COUNT
+       reference gen probe SEED COUNT";
+
+/// Bytes that input and output are buffered by.
+const BUFFER: usize = 1 << 16;
+
+fn main() -> ExitCode {
+    let arguments: Vec<OsString> = std::env::args_os().skip(1).collect();
+    let words: Vec<&str> = arguments.iter().filter_map(|word| word.to_str()).collect();
+    if words.len() != arguments.len() {
+        return usage();
+    }
+    let input = BufReader::with_capacity(BUFFER, io::stdin().lock());
+    let output = BufWriter::with_capacity(BUFFER, io::stdout().lock());
+    let result = match words[..] {
+        ["keep"] => keep::run(input, output),
+        ["probe"] => probe::run(input, output),
+        ["count"] => count::run(input, output),
+        ["gen", kind, seed, count] => match (kind, seed.parse(), count.parse()) {
+            ("keep", Ok(seed), Ok(count)) => gen::keep_lines(seed, count, output),
+            ("probe", Ok(seed), Ok(count)) => gen::probe_lines(seed, count, output),
+            _ => return usage(),
+        },
+        _ => return usage(),
+    };
+    match result {
+        Ok(()) => ExitCode::SUCCESS,
+        // Whoever read our output has seen enough.
+        Err(error) if error.kind() == ErrorKind::BrokenPipe => ExitCode::SUCCESS,
+        Err(error) => {
+            eprintln!("reference: {error}");
+            ExitCode::FAILURE
+        }
+    }
+}
+
+fn usage() -> ExitCode {
+    eprintln!("{USAGE}");
+    ExitCode::from(2)
+}

@@ -1,0 +1,941 @@
+//! Reading: from bytes to a message, or to the first refusal of rows 2 to 10
+//! of 01 Reading with its place.
+
+use crate::fields::{self, *};
+use crate::json::{self, Fault, Kind, Member, Value};
+use crate::rules::{self, Address, Method};
+use crate::utf8;
+
+/// The longest message, and the longest result of the writers (house).
+pub const MAX_LENGTH: usize = 32_768;
+/// The most objects in a Via (house).
+pub const MAX_VIA: usize = 16;
+/// The most code points in a Refer-Memo.
+const MAX_MEMO: usize = 128;
+
+/// A number of 01 Reading's table, and its place.
+#[derive(Debug, Clone, Copy, PartialEq, Eq)]
+pub struct Refusal {
+    pub number: u8,
+    pub place: usize,
+}
+
+/// An accepted message.
+#[derive(Debug)]
+pub enum Message<'a> {
+    Request(Exchange<'a>),
+    Response(Exchange<'a>, u16),
+    /// A ping or a pong.
+    Probe,
+}
+
+#[derive(Debug, Clone, Copy, PartialEq, Eq)]
+pub enum Side {
+    Caller,
+    Callee,
+}
+
+/// What a request and its responses have in common. All slices are parts of
+/// the message itself.
+#[derive(Debug)]
+pub struct Exchange<'a> {
+    pub number: u32,
+    pub method: Method,
+    /// The side that sent the request.
+    pub from: Side,
+    pub user: &'a [u8],
+    pub caller_fire: &'a [u8],
+    pub callee_fire: &'a [u8],
+    pub call_id: &'a [u8],
+    /// Was a Secure-Call of true there? Only a new INVITE's is ever used.
+    pub secure: bool,
+    pub values: CopiedValues<'a>,
+    pub via: Vec<Hop<'a>>,
+}
+
+/// The five values that a reply copies, as they stand.
+#[derive(Debug)]
+pub struct CopiedValues<'a> {
+    pub cseq: &'a [u8],
+    pub to: &'a [u8],
+    pub from: &'a [u8],
+    pub call_id: &'a [u8],
+    pub via: &'a [u8],
+}
+
+/// One object of a Via: where it ends in the message, and two of its texts.
+#[derive(Debug)]
+pub struct Hop<'a> {
+    pub end: usize,
+    pub host: &'a [u8],
+    pub destination: &'a [u8],
+}
+
+/// The checks of 01 Reading, in its order.
+pub fn read(bytes: &[u8]) -> Result<Message<'_>, Refusal> {
+    let refuse = |number, place| Err(Refusal { number, place });
+    if bytes.is_empty() || bytes.len() > MAX_LENGTH {
+        return refuse(2, 0);
+    }
+    if let Some(place) = utf8::first_bad(bytes) {
+        return refuse(3, place);
+    }
+    let text = match json::parse(bytes) {
+        Ok(value) => value,
+        Err(Fault::NotJson(place)) => return refuse(4, place),
+        Err(Fault::TooDeep(place)) => return refuse(5, place),
+    };
+    let Some((tag, members)) = envelope(bytes, &text) else {
+        return refuse(6, 0);
+    };
+    let draft = Draft::collect(bytes, tag, members)?;
+    draft.check_present(tag.required())?;
+    draft.check_rules(tag.required())?;
+    if let (Tag::Request, Some((_, method))) = (tag, draft.cseq()) {
+        draft.check_present(fields::required_by(method))?;
+        draft.check_rules(
+            fields::required_by(method)
+                .iter()
+                .chain(fields::optional_for(method)),
+        )?;
+    }
+    draft.agree()
+}
+
+/// Row 6: an array of two, a tag and an object.
+fn envelope<'v>(bytes: &[u8], text: &'v Value) -> Option<(Tag, &'v [Member])> {
+    let [first, second] = text.array()? else {
+        return None;
+    };
+    let tag = Tag::of_name(first.string(bytes)?)?;
+    Some((tag, second.object()?))
+}
+
+/// A message on its way through rows 7 to 10: its known fields by number.
+struct Draft<'a, 'v> {
+    bytes: &'a [u8],
+    tag: Tag,
+    values: [Option<&'v Value>; 27],
+}
+
+impl<'a, 'v> Draft<'a, 'v> {
+    /// Row 7: sorts the members by number, known names only.
+    fn collect(bytes: &'a [u8], tag: Tag, members: &'v [Member]) -> Result<Self, Refusal> {
+        let mut values = [None; 27];
+        for member in members {
+            let Some(number) = fields::number_of(member.name.text(bytes)) else {
+                continue;
+            };
+            if values[number].is_some() {
+                let place = member.name.start;
+                return Err(Refusal { number: 7, place });
+            }
+            values[number] = Some(&member.value);
+        }
+        Ok(Draft { bytes, tag, values })
+    }
+
+    /// Row 8: the place is the lowest missing field's number.
+    fn check_present(&self, required: &[usize]) -> Result<(), Refusal> {
+        let missing = required
+            .iter()
+            .filter(|field| self.values[**field].is_none());
+        match missing.min() {
+            Some(field) => Err(Refusal {
+                number: 8,
+                place: *field,
+            }),
+            None => Ok(()),
+        }
+    }
+
+    /// Row 9: the place is the first byte of the lowest broken field's value.
+    fn check_rules<'f>(&self, fields: impl IntoIterator<Item = &'f usize>) -> Result<(), Refusal> {
+        let broken = fields.into_iter().filter_map(|field| {
+            let value = self.values[*field]?;
+            (!self.meets_rule(*field, value)).then_some((field, value.start))
+        });
+        match broken.min() {
+            Some((_, place)) => Err(Refusal { number: 9, place }),
+            None => Ok(()),
+        }
+    }
+
+    /// The text of a field that is there and a string.
+    fn text(&self, field: usize) -> Option<&'a [u8]> {
+        self.values[field]?.string(self.bytes)
+    }
+
+    fn cseq(&self) -> Option<(u32, Method)> {
+        rules::parse_cseq(self.text(CSEQ)?)
+    }
+
+    /// 01 Reading, 'Rules': does this value meet its field's rule?
+    fn meets_rule(&self, field: usize, value: &Value) -> bool {
+        match field {
+            VIA => hops(self.bytes, value).is_some(),
+            BODY => self.is_body(value),
+            CALL_TEST => value.kind == Kind::Number && matches!(value.raw(self.bytes), b"0" | b"1"),
+            SECURE_CALL => matches!(value.kind, Kind::True | Kind::False),
+            LOCATIONS => value.array().is_some(),
+            USER_AGENT => value.kind == Kind::String,
+            CALLER => value.object().is_some(),
+            OPTIONS => value
+                .array()
+                .is_some_and(|options| options.iter().all(|option| option.kind == Kind::String)),
+            _ => value
+                .string(self.bytes)
+                .is_some_and(|text| self.text_meets_rule(field, text)),
+        }
+    }
+
+    /// The same for the fields whose rule is on a string's raw bytes.
+    fn text_meets_rule(&self, field: usize, text: &[u8]) -> bool {
+        match field {
+            CSEQ => rules::parse_cseq(text).is_some(),
+            TO | FROM => rules::parse_address(text).is_some(),
+            DATE => rules::is_date(text),
+            CALL_ID | SESSION_ID => rules::is_call_id(text),
+            STATUS if self.tag == Tag::Pong => matches!(text, b"available" | b"unavailable"),
+            STATUS => rules::parse_status(text).is_some(),
+            MESSAGE_ID => rules::is_message_id(text),
+            CONTENT_TYPE => self.body_kind().is_some(),
+            REFER_TO | REFERRED_BY => rules::is_fire_id(text),
+            REFER_MEMO => !text.contains(&b'\\') && utf8::code_points(text) <= MAX_MEMO,
+            CALL_MODE => matches!(text, b"emergency" | b"training"),
+            RESCUEE => matches!(text, b"caller" | b"third-party"),
+            REQUEST_SERVICE => {
+                matches!(text, b"ambulance" | b"fire" | b"unknown" | b"callback")
+            }
+            LANGUAGE => rules::is_language(text),
+            DESTINATION | RESPONDED_BY => rules::is_callee_queue(text),
+            _ => unreachable!("field {field} has no rule on a text"),
+        }
+    }
+
+    /// What the Content-Type says of the Body, if it is one that the method allows.
+    fn body_kind(&self) -> Option<BodyKind> {
+        let (_, method) = self.cseq()?;
+        match (method, self.text(CONTENT_TYPE)?) {
+            (Method::Message, b"text/plain") => Some(BodyKind::Plain),
+            (Method::Message, b"text/vnd.net119.uri.image") => Some(BodyKind::Image),
+            (Method::Notify, b"message/vnd.net119.presence") => Some(BodyKind::Presence),
+            (Method::Notify, b"message/vnd.net119.location") => Some(BodyKind::Location),
+            (Method::Notify, b"message/vnd.net119.refer") => Some(BodyKind::Refer),
+            _ => None,
+        }
+    }
+
+    /// The Body's rule. Without a good Content-Type it does not matter: that
+    /// field has the lower number.
+    fn is_body(&self, value: &Value) -> bool {
+        let text = value.string(self.bytes);
+        match self.body_kind() {
+            None => false,
+            Some(BodyKind::Plain) => text.is_some(),
+            Some(BodyKind::Image) => text.is_some_and(|text| text.starts_with(b"https://")),
+            Some(BodyKind::Presence) => matches!(text, Some(b"online" | b"offline")),
+            Some(BodyKind::Location) => value.object().is_some(),
+            Some(BodyKind::Refer) => text.and_then(rules::parse_status).is_some(),
+        }
+    }
+
+    /// Row 10, and the message itself.
+    fn agree(&self) -> Result<Message<'a>, Refusal> {
+        if matches!(self.tag, Tag::Ping | Tag::Pong) {
+            return Ok(Message::Probe);
+        }
+        let agreed = self.exchange().and_then(|exchange| match self.tag {
+            Tag::Request => self
+                .request_agrees(&exchange)
+                .then_some(Message::Request(exchange)),
+            _ => {
+                let status = rules::parse_status(self.text(STATUS)?)?;
+                let fits = status != 202 || exchange.method == Method::Refer;
+                fits.then_some(Message::Response(exchange, status))
+            }
+        });
+        agreed.ok_or(Refusal {
+            number: 10,
+            place: 0,
+        })
+    }
+
+    /// The part of row 10 that binds responses too: sides and CALLBACK's 1.
+    /// All fields read here have met their rules.
+    fn exchange(&self) -> Option<Exchange<'a>> {
+        let (number, method) = self.cseq()?;
+        let from = rules::parse_address(self.text(FROM)?)?;
+        let to = rules::parse_address(self.text(TO)?)?;
+        let (side, user, caller_fire, callee_fire) = match (from, to) {
+            (Address::Caller { user, fire }, Address::Callee { fire: callee }) => {
+                (Side::Caller, user, fire, callee)
+            }
+            (Address::Callee { fire: callee }, Address::Caller { user, fire }) => {
+                (Side::Callee, user, fire, callee)
+            }
+            _ => return None,
+        };
+        if !may_send(side, method) || (method == Method::Callback && number != 1) {
+            return None;
+        }
+        let raw = |field: usize| self.values[field].map(|value| value.raw(self.bytes));
+        Some(Exchange {
+            number,
+            method,
+            from: side,
+            user,
+            caller_fire,
+            callee_fire,
+            call_id: self.text(CALL_ID)?,
+            secure: self.values[SECURE_CALL].is_some_and(|value| value.kind == Kind::True),
+            values: CopiedValues {
+                cseq: raw(CSEQ)?,
+                to: raw(TO)?,
+                from: raw(FROM)?,
+                call_id: raw(CALL_ID)?,
+                via: raw(VIA)?,
+            },
+            via: hops(self.bytes, self.values[VIA]?)?,
+        })
+    }
+
+    /// The part of row 10 that binds requests alone.
+    fn request_agrees(&self, exchange: &Exchange) -> bool {
+        match exchange.method {
+            Method::Invite => {
+                self.text(REQUEST_SERVICE) != Some(b"callback")
+                    || self.text(CALL_MODE) != Some(b"training")
+            }
+            Method::Message => {
+                exchange.from == Side::Caller || self.body_kind() == Some(BodyKind::Plain)
+            }
+            _ => true,
+        }
+    }
+}
+
+#[derive(Debug, Clone, Copy, PartialEq, Eq)]
+enum BodyKind {
+    Plain,
+    Image,
+    Presence,
+    Location,
+    Refer,
+}
+
+/// 01 Reading, 'Number 10': which side may send which method.
+fn may_send(side: Side, method: Method) -> bool {
+    match method {
+        Method::Invite | Method::Ack | Method::Cancel | Method::Notify => side == Side::Caller,
+        Method::Refer | Method::Callback => side == Side::Callee,
+        Method::Bye | Method::Message => true,
+    }
+}
+
+/// The Via rule: 1 to 16 objects with their three texts, once each.
+fn hops<'a>(bytes: &'a [u8], via: &Value) -> Option<Vec<Hop<'a>>> {
+    let objects = via.array()?;
+    if !(1..=MAX_VIA).contains(&objects.len()) {
+        return None;
+    }
+    objects.iter().map(|object| hop(bytes, object)).collect()
+}
+
+fn hop<'a>(bytes: &'a [u8], object: &Value) -> Option<Hop<'a>> {
+    let members = object.object()?;
+    let host = only_text(bytes, members, b"host")?;
+    let destination = only_text(bytes, members, b"destination")?;
+    let organization = only_text(bytes, members, b"organization")?;
+    let good = rules::is_host(host)
+        && rules::is_destination(destination)
+        && rules::is_organization(organization);
+    good.then_some(Hop {
+        end: object.end,
+        host,
+        destination,
+    })
+}
+
+/// The text of the one member of this name: none if it is missing, there
+/// twice, or not a string.
+fn only_text<'a>(bytes: &'a [u8], members: &[Member], name: &[u8]) -> Option<&'a [u8]> {
+    let mut named = members
+        .iter()
+        .filter(|member| member.name.text(bytes) == name);
+    match (named.next(), named.next()) {
+        (Some(member), None) => member.value.string(bytes),
+        _ => None,
+    }
+}
+
+#[cfg(test)]
+mod tests {
+    use super::*;
+    use crate::samples::{Sample, CALLEE, CALLER};
+
+    fn verdict(bytes: &[u8]) -> Option<(u8, usize)> {
+        read(bytes).err().map(|no| (no.number, no.place))
+    }
+
+    fn of(sample: Sample) -> Option<(u8, usize)> {
+        verdict(&sample.bytes())
+    }
+
+    /// The place of a field's value in a sample's text.
+    fn value_place(sample: &Sample, name: &str) -> usize {
+        let name = format!("\"{name}\":");
+        sample.text().find(&name).unwrap() + name.len()
+    }
+
+    /// Values of one field that break its rule, and values that meet it.
+    fn rule(sample: Sample, name: &str, good: &[&str], bad: &[&str]) {
+        for value in good {
+            let changed = sample.clone().with(name, value);
+            assert_eq!(of(changed), None, "{name}: {value}");
+        }
+        for value in bad {
+            let changed = sample.clone().with(name, value);
+            let place = value_place(&changed, name);
+            assert_eq!(of(changed), Some((9, place)), "{name}: {value}");
+        }
+    }
+
+    const METHODS: [&str; 8] = [
+        "INVITE", "BYE", "CANCEL", "ACK", "MESSAGE", "CALLBACK", "REFER", "NOTIFY",
+    ];
+
+    fn cseq(method: &str) -> String {
+        format!("1 {method}")
+    }
+
+    #[test]
+    fn samples_are_read() {
+        for method in METHODS {
+            assert_eq!(of(Sample::request(&cseq(method))), None, "{method}");
+            assert_eq!(of(Sample::response(&cseq(method), "200 OK")), None);
+        }
+        assert_eq!(of(Sample::ping()), None);
+        assert_eq!(of(Sample::pong()), None);
+    }
+
+    #[test]
+    fn row_2_length() {
+        assert_eq!(verdict(b""), Some((2, 0)));
+        let bye = Sample::request("1 BYE");
+        assert_eq!(of(bye.clone().of_length(32_767)), None);
+        assert_eq!(of(bye.clone().of_length(32_768)), None);
+        assert_eq!(of(bye.of_length(32_769)), Some((2, 0)));
+        assert_eq!(verdict(&[0xff; 32_769]), Some((2, 0)));
+        assert_eq!(verdict(&[0xff; 32_768]), Some((3, 0)));
+    }
+
+    #[test]
+    fn row_3_comes_before_row_4() {
+        assert_eq!(verdict(b"x\x80"), Some((3, 1)));
+        assert_eq!(verdict(b"\"\xed\xa0\x80\""), Some((3, 1)));
+        assert_eq!(verdict("\u{feff}[]".as_bytes()), Some((4, 0)));
+    }
+
+    #[test]
+    fn rows_4_and_5_are_one_walk() {
+        assert_eq!(verdict(b"[01]"), Some((4, 2)));
+        assert_eq!(verdict(b"[[[[[[[[[01"), Some((5, 8)));
+        assert_eq!(verdict(b"[[[[[[[[]x"), Some((4, 9)));
+        let deep = |brackets: usize| {
+            let value = format!("{}{}", "[".repeat(brackets), "]".repeat(brackets));
+            Sample::ping().with("x", &value)
+        };
+        assert_eq!(of(deep(6)), None);
+        let place = value_place(&deep(7), "x") + 6;
+        assert_eq!(of(deep(7)), Some((5, place)));
+    }
+
+    #[test]
+    fn row_6_envelope() {
+        for text in [
+            "[]",
+            "{}",
+            "null",
+            "\"request\"",
+            "[\"request\"]",
+            "[\"request\",{},{}]",
+            "[\"request\",[]]",
+            "[\"request\",null]",
+            "[{},\"request\"]",
+            "[\"Request\",{}]",
+            "[\"request \",{}]",
+            "[\"\\u0072equest\",{}]",
+            "[null,{}]",
+            "[\"\",{}]",
+        ] {
+            assert_eq!(verdict(text.as_bytes()), Some((6, 0)), "{text}");
+        }
+        assert_eq!(verdict(b"[\"request\",{}]"), Some((8, 1)));
+        assert_eq!(verdict(b" [ \"ping\" , { } ] "), Some((8, 4)));
+    }
+
+    #[test]
+    fn row_7_doubled_names() {
+        let text = r#"["ping",{"To":1,"x":1,"x":2,"Date":1,"To":2,"Date":2}]"#;
+        let place = text.rfind("\"To\"").unwrap();
+        assert_eq!(verdict(text.as_bytes()), Some((7, place)));
+        // Unknown names may be doubled, and names are compared raw.
+        assert_eq!(of(Sample::ping().and("x", "1").and("x", "1")), None);
+        assert_eq!(of(Sample::ping().and("\\u0044ate", "1")), None);
+        // Every known name counts, even where the field itself is ignored.
+        for name in fields::NAMES {
+            let doubled = Sample::ping().without(name).and(name, "1").and(name, "1");
+            let place = doubled.text().rfind(&format!("\"{name}\":")).unwrap();
+            assert_eq!(of(doubled), Some((7, place)), "{name}");
+        }
+        // Names inside other values do not count.
+        assert_eq!(
+            of(Sample::ping().with("x", "{\"Date\":1,\"Date\":2}")),
+            None
+        );
+    }
+
+    /// Drops each required field: the answer is 8 with its number.
+    fn needs(sample: &Sample, numbers: &[usize]) {
+        for number in 1..=26 {
+            let name = fields::NAMES[number - 1];
+            let wanted = numbers.contains(&number).then_some((8, number));
+            assert_eq!(of(sample.clone().without(name)), wanted, "{name}");
+        }
+    }
+
+    #[test]
+    fn row_8_missing_fields() {
+        let head = [1, 2, 3, 4, 5, 6];
+        for method in ["BYE", "CANCEL", "ACK", "CALLBACK"] {
+            needs(&Sample::request(&cseq(method)), &head);
+        }
+        let invite = [head.to_vec(), (14..=23).collect()].concat();
+        needs(&Sample::request("1 INVITE"), &invite);
+        needs(&Sample::request("1 MESSAGE"), &[1, 2, 3, 4, 5, 6, 8, 9, 10]);
+        needs(&Sample::request("1 NOTIFY"), &[1, 2, 3, 4, 5, 6, 9, 10]);
+        needs(&Sample::request("1 REFER"), &[1, 2, 3, 4, 5, 6, 11, 12]);
+        for method in METHODS {
+            needs(
+                &Sample::response(&cseq(method), "200 OK"),
+                &[1, 2, 3, 4, 5, 6, 7],
+            );
+        }
+        needs(&Sample::ping(), &[4, 6, 25]);
+        needs(&Sample::pong(), &[4, 6, 7, 26]);
+        // The lowest number, wherever the fields stand.
+        let two = Sample::request("1 INVITE")
+            .without("Caller")
+            .without("Language");
+        assert_eq!(of(two), Some((8, 20)));
+    }
+
+    #[test]
+    fn rows_8_and_9_run_twice() {
+        // The tag's run: 8 before 9.
+        let sample = Sample::request("1 MESSAGE").with("To", "1");
+        assert_eq!(of(sample.clone().without("Via")), Some((8, 6)));
+        // The tag's 9 before the method's 8.
+        let place = value_place(&sample.clone().without("Body"), "To");
+        assert_eq!(of(sample.without("Body")), Some((9, place)));
+        // The method's 8 before its 9.
+        let sample = Sample::request("1 MESSAGE").with("Message-ID", "1");
+        assert_eq!(of(sample.without("Body")), Some((8, 10)));
+        // The lowest number, not the first place; optional fields among them.
+        let sample = Sample::request("1 INVITE")
+            .with("Caller", "1")
+            .with("Language", "1")
+            .with("Refer-Memo", "1");
+        let place = value_place(&sample, "Refer-Memo");
+        assert_eq!(of(sample.clone()), Some((9, place)));
+        let place = value_place(&sample.clone().without("Refer-Memo"), "Language");
+        assert_eq!(of(sample.without("Refer-Memo")), Some((9, place)));
+        // A method that is not known leaves only the tag's run.
+        let sample = Sample::request("1 MESSAGE").with("CSeq", "\"1 OPTIONS\"");
+        assert_eq!(of(sample.without("Body")), Some((9, 19)));
+        // 9 before 10.
+        let sample = Sample::request("1 BYE")
+            .with("To", CALLER)
+            .with("Via", "[]");
+        let place = value_place(&sample, "Via");
+        assert_eq!(of(sample), Some((9, place)));
+    }
+
+    #[test]
+    fn fields_of_other_methods_are_ignored() {
+        for number in 7..=26 {
+            let name = fields::NAMES[number - 1];
+            assert_eq!(of(Sample::request("1 BYE").with(name, "[{}]")), None);
+            if number > 7 {
+                let response = Sample::response("1 INVITE", "200 OK");
+                assert_eq!(of(response.with(name, "[{}]")), None);
+            }
+        }
+        let ping = Sample::ping().with("CSeq", "0").with("Status", "0");
+        assert_eq!(of(ping), None);
+        assert_eq!(of(Sample::request("1 REFER").with("Options", "0")), None);
+    }
+
+    #[test]
+    fn row_9_heads() {
+        let bye = Sample::request("2 BYE");
+        rule(
+            bye.clone(),
+            "CSeq",
+            &["\"4294967295 BYE\"", "\"1 BYE\""],
+            &[
+                "\"4294967296 BYE\"",
+                "\"01 BYE\"",
+                "\"0 BYE\"",
+                "1",
+                "null",
+                "\"1 B\\u0059E\"",
+            ],
+        );
+        rule(
+            bye.clone(),
+            "To",
+            &[CALLEE, "\"net119:fire@a1.callee\""],
+            &["\"net119:u1@kita.callee\"", "{}", "\"\""],
+        );
+        rule(
+            bye.clone(),
+            "From",
+            &[CALLER],
+            &["\"net119:u1@kita\"", "true"],
+        );
+        rule(
+            bye.clone(),
+            "Date",
+            &["\"2000-02-29T00:00:00+0000\""],
+            &["\"1900-02-29T00:00:00+0000\"", "0"],
+        );
+        rule(
+            bye.clone(),
+            "Call-ID",
+            &["\"A1\"", &format!("\"{}\"", "A".repeat(64))],
+            &[
+                "\"A.\"",
+                "\"A\"",
+                &format!("\"{}\"", "A".repeat(65)),
+                "\"A\\u0031\"",
+            ],
+        );
+        rule(
+            Sample::response("2 BYE", "200 OK"),
+            "Status",
+            &["\"100 \"", "\"699 a\\n\\\"\""],
+            &[
+                "\"099 x\"",
+                "\"700 x\"",
+                "\"200\"",
+                "200",
+                "\"available\"",
+                "\"2\\u00300 OK\"",
+            ],
+        );
+        rule(
+            Sample::pong(),
+            "Status",
+            &["\"available\"", "\"unavailable\""],
+            &["\"200 OK\"", "\"Available\"", "true", "\"available \""],
+        );
+        rule(
+            Sample::pong(),
+            "Responded-By",
+            &["\"a1.callee\""],
+            &["\"a1.caller\"", "1"],
+        );
+        rule(
+            Sample::ping(),
+            "Destination",
+            &["\"a1.callee\""],
+            &["\"a.callee\"", "[]"],
+        );
+    }
+
+    #[test]
+    fn row_9_via() {
+        let bye = Sample::request("2 BYE");
+        assert_eq!(of(bye.clone().with_via(1, &[])), None);
+        assert_eq!(of(bye.clone().with_via(16, &[])), None);
+        let seventeen = bye.clone().with_via(17, &[]);
+        let place = value_place(&seventeen, "Via");
+        assert_eq!(of(seventeen), Some((9, place)));
+        let entry = |host: &str, destination: &str, organization: &str| {
+            format!(
+                r#"[{{"host":"{host}","destination":"{destination}","organization":"{organization}"}}]"#
+            )
+        };
+        let long = |count: usize| "a".repeat(count);
+        let good = [
+            entry("a", "!", "nx"),
+            entry(&long(253), &long(64), &long(10)),
+            entry("-.", "~[]{}", "a-b"),
+            r#" [ { "organization":"nx","x":[],"x":1,"destination":"d","host":"h" } ] "#.into(),
+        ];
+        let bad = [
+            "[]".into(),
+            "{}".into(),
+            "\"[]\"".into(),
+            "[1]".into(),
+            "[{}]".into(),
+            entry("", "d", "nx"),
+            entry(&long(254), "d", "nx"),
+            entry("h_", "d", "nx"),
+            entry("h", "", "nx"),
+            entry("h", &long(65), "nx"),
+            entry("h", "d d", "nx"),
+            entry("h", "\\\\", "nx"),
+            entry("h", "d", "n"),
+            entry("h", "d", &long(11)),
+            entry("h", "d", "-nx"),
+            entry("h", "d", "nx-"),
+            r#"[{"host":"h","destination":"d"}]"#.into(),
+            r#"[{"host":"h","destination":"d","organization":1}]"#.into(),
+            r#"[{"host":"h","host":"h","destination":"d","organization":"nx"}]"#.into(),
+            r#"[{"host":"h","destination":"d","organization":"nx"},[]]"#.into(),
+            r#"[{"\u0068ost":"h","destination":"d","organization":"nx"}]"#.into(),
+        ];
+        let good: Vec<&str> = good.iter().map(|text: &String| text.trim()).collect();
+        let bad: Vec<&str> = bad.iter().map(String::as_str).collect();
+        rule(bye, "Via", &good, &bad);
+    }
+
+    #[test]
+    fn row_9_invite() {
+        let invite = Sample::request("1 INVITE");
+        let memo = |unit: &str, count: usize| format!("\"{}\"", unit.repeat(count));
+        rule(invite.clone(), "Session-ID", &["\"A1\""], &["\"A\"", "1"]);
+        rule(
+            invite.clone(),
+            "Call-Mode",
+            &["\"emergency\"", "\"training\""],
+            &["\"Emergency\"", "\"test\"", "null"],
+        );
+        rule(
+            invite.clone(),
+            "Call-Test",
+            &["0", "1"],
+            &["2", "-0", "0.0", "1e0", "\"0\"", "true", "10"],
+        );
+        rule(
+            invite.clone(),
+            "Secure-Call",
+            &["true", "false"],
+            &["\"true\"", "1", "null"],
+        );
+        rule(
+            invite.clone(),
+            "Rescuee",
+            &["\"caller\"", "\"third-party\""],
+            &["\"callee\"", "\"third\\u002dparty\""],
+        );
+        rule(
+            invite.clone(),
+            "Request-Service",
+            &["\"ambulance\"", "\"fire\"", "\"unknown\"", "\"callback\""],
+            &["\"police\"", "\"\""],
+        );
+        rule(
+            invite.clone(),
+            "Language",
+            &["\"ja\"", "\"zz\""],
+            &["\"JA\"", "\"j\"", "\"jpn\"", "\"j1\""],
+        );
+        rule(
+            invite.clone(),
+            "Locations",
+            &["[]", "[1,{}]"],
+            &["{}", "\"\"", "null"],
+        );
+        rule(
+            invite.clone(),
+            "User-Agent",
+            &["\"\"", "\"a\\n\""],
+            &["{}", "1", "null"],
+        );
+        rule(
+            invite.clone(),
+            "Caller",
+            &["{}", "{\"a\":1}"],
+            &["[]", "\"\"", "null"],
+        );
+        rule(
+            invite.clone(),
+            "Referred-By",
+            &["\"a1\""],
+            &["\"a\"", "\"_a\"", "1"],
+        );
+        rule(
+            invite,
+            "Refer-Memo",
+            &["\"\"", &memo("a", 128), &memo("語", 128), &memo("😀", 128)],
+            &[&memo("a", 129), &memo("語", 129), "\"a\\nb\"", "1"],
+        );
+    }
+
+    #[test]
+    fn row_9_other_methods() {
+        let message = Sample::request("1 MESSAGE");
+        rule(
+            message.clone(),
+            "Message-ID",
+            &["\"callee-k_1-Z9\""],
+            &["\"caller-kita-\"", "1", "\"caller-kita-\\u0031\""],
+        );
+        rule(
+            message.clone(),
+            "Content-Type",
+            &["\"text/plain\""],
+            &[
+                "\"text/html\"",
+                "\"message/vnd.net119.refer\"",
+                "1",
+                "\"text\\/plain\"",
+            ],
+        );
+        rule(
+            message.clone(),
+            "Body",
+            &["\"\"", "\"a\\n\\u3042\"", "\"https://\""],
+            &["{}", "1", "null", "[]"],
+        );
+        rule(
+            message.clone(),
+            "Options",
+            &["[]", "[\"a\",\"\\n\"]"],
+            &["{}", "[1]", "[\"a\",null]", "\"a\"", "[[]]"],
+        );
+        rule(
+            message.with("Content-Type", "\"text/vnd.net119.uri.image\""),
+            "Body",
+            &["\"https://\"", "\"https://x\\n\""],
+            &[
+                "\"http://x\"",
+                "\"\"",
+                "\"https:\\/\\/x\"",
+                "\"HTTPS://x\"",
+                "{}",
+            ],
+        );
+        let notify = |kind: &str| {
+            let kind = format!("\"message/vnd.net119.{kind}\"");
+            Sample::request("1 NOTIFY").with("Content-Type", &kind)
+        };
+        rule(
+            notify("presence"),
+            "Content-Type",
+            &["\"message/vnd.net119.presence\""],
+            &[
+                "\"text/plain\"",
+                "\"presence\"",
+                "\"message/vnd.net119.\"",
+                "null",
+            ],
+        );
+        rule(
+            notify("presence"),
+            "Body",
+            &["\"online\"", "\"offline\""],
+            &["\"Online\"", "\"on\\u006cine\"", "{}", "\"\""],
+        );
+        rule(
+            notify("location"),
+            "Body",
+            &["{}", "{\"a\":[]}"],
+            &["[]", "\"online\"", "null"],
+        );
+        rule(
+            notify("refer"),
+            "Body",
+            &["\"180 Ringing\"", "\"202 \\n\"", "\"699 \""],
+            &["\"99 x\"", "\"700 x\"", "\"180\"", "180"],
+        );
+        // A broken Content-Type is the lower field, whatever the Body is.
+        let both = notify("x").with("Body", "1");
+        let place = value_place(&both, "Content-Type");
+        assert_eq!(of(both), Some((9, place)));
+        let refer = Sample::request("1 REFER");
+        rule(
+            refer.clone(),
+            "Refer-To",
+            &["\"a1\""],
+            &["\"a\"", "\"A1\"", "1"],
+        );
+        rule(refer.clone(), "Referred-By", &["\"a1\""], &["\"a1_\"", "1"]);
+        rule(refer, "Refer-Memo", &["\"\""], &["\"\\\\\"", "null"]);
+    }
+
+    #[test]
+    fn row_10_sides() {
+        let ten = Some((10, 0));
+        for method in METHODS {
+            let by_caller = !matches!(method, "REFER" | "CALLBACK");
+            let by_callee = matches!(method, "BYE" | "MESSAGE" | "REFER" | "CALLBACK");
+            for sample in [
+                Sample::request(&cseq(method)),
+                Sample::response(&cseq(method), "200 OK"),
+            ] {
+                let caller = of(sample.clone().sent_by_caller());
+                assert_eq!(caller, if by_caller { None } else { ten }, "{method}");
+                let callee = of(sample.clone().sent_by_callee());
+                assert_eq!(callee, if by_callee { None } else { ten }, "{method}");
+                for side in [CALLER, CALLEE] {
+                    let same = sample.clone().with("From", side).with("To", side);
+                    assert_eq!(of(same), ten, "{method}");
+                }
+            }
+        }
+    }
+
+    #[test]
+    fn row_10_the_rest() {
+        let ten = Some((10, 0));
+        assert_eq!(of(Sample::request("2 CALLBACK")), ten);
+        assert_eq!(of(Sample::response("2 CALLBACK", "200 OK")), ten);
+        let invite = Sample::request("1 INVITE").with("Request-Service", "\"callback\"");
+        assert_eq!(of(invite.clone()), None);
+        assert_eq!(of(invite.clone().with("Call-Mode", "\"training\"")), ten);
+        let fire = invite.with("Request-Service", "\"fire\"");
+        assert_eq!(of(fire.with("Call-Mode", "\"training\"")), None);
+        let image = Sample::request("1 MESSAGE")
+            .with("Content-Type", "\"text/vnd.net119.uri.image\"")
+            .with("Body", "\"https://x\"");
+        assert_eq!(of(image.clone()), None);
+        assert_eq!(of(image.sent_by_callee()), ten);
+        for method in METHODS {
+            let wanted = if method == "REFER" { None } else { ten };
+            assert_eq!(of(Sample::response(&cseq(method), "202 OK")), wanted);
+            assert_eq!(of(Sample::response(&cseq(method), "201 OK")), None);
+        }
+        // A Status in a request, and a Body of 202, are not the Status meant.
+        assert_eq!(
+            of(Sample::request("1 BYE").with("Status", "\"202 OK\"")),
+            None
+        );
+        let notify = Sample::request("1 NOTIFY")
+            .with("Content-Type", "\"message/vnd.net119.refer\"")
+            .with("Body", "\"202 Accepted\"");
+        assert_eq!(of(notify), None);
+    }
+
+    #[test]
+    fn what_is_read() {
+        let bytes = Sample::request("7 BYE").sent_by_callee().bytes();
+        let Ok(Message::Request(exchange)) = read(&bytes) else {
+            panic!("a request");
+        };
+        assert_eq!((exchange.number, exchange.method), (7, Method::Bye));
+        assert_eq!(exchange.from, Side::Callee);
+        assert_eq!(exchange.user, b"u1");
+        assert_eq!(exchange.caller_fire, b"nishi");
+        assert_eq!(exchange.callee_fire, b"kita");
+        assert_eq!(exchange.call_id, b"A1.nx");
+        assert_eq!(exchange.values.cseq, b"\"7 BYE\"");
+        assert_eq!(exchange.via.len(), 1);
+        assert_eq!(exchange.via[0].host, b"h1.nx");
+        assert_eq!(bytes[exchange.via[0].end - 1], b'}');
+    }
+}

@@ -1,0 +1,442 @@
+//! The rules of 01 Reading for single texts: each sees only the raw bytes
+//! between the quotes. No class of bytes below holds a backslash or a quote,
+//! so an escape breaks each of these rules by itself.
+
+/// The eight methods with their codes (01 Reading, CSeq).
+#[derive(Debug, Clone, Copy, PartialEq, Eq, Hash)]
+pub enum Method {
+    Invite = 1,
+    Bye = 2,
+    Cancel = 3,
+    Ack = 4,
+    Message = 5,
+    Callback = 6,
+    Refer = 7,
+    Notify = 8,
+}
+
+impl Method {
+    pub const ALL: [(Method, &'static str); 8] = [
+        (Method::Invite, "INVITE"),
+        (Method::Bye, "BYE"),
+        (Method::Cancel, "CANCEL"),
+        (Method::Ack, "ACK"),
+        (Method::Message, "MESSAGE"),
+        (Method::Callback, "CALLBACK"),
+        (Method::Refer, "REFER"),
+        (Method::Notify, "NOTIFY"),
+    ];
+
+    fn of_name(name: &[u8]) -> Option<Method> {
+        let found = Self::ALL.iter().find(|(_, known)| known.as_bytes() == name);
+        found.map(|(method, _)| *method)
+    }
+
+    pub fn of_code(code: u8) -> Option<Method> {
+        let found = Self::ALL.iter().find(|(method, _)| method.code() == code);
+        found.map(|(method, _)| *method)
+    }
+
+    pub fn name(self) -> &'static str {
+        Self::ALL[self as usize - 1].1
+    }
+
+    pub fn code(self) -> u8 {
+        self as u8
+    }
+}
+
+/// A To or From address.
+#[derive(Debug, Clone, Copy, PartialEq, Eq)]
+pub enum Address<'a> {
+    Caller { user: &'a [u8], fire: &'a [u8] },
+    Callee { fire: &'a [u8] },
+}
+
+/// CSeq: the number and the method.
+pub fn parse_cseq(text: &[u8]) -> Option<(u32, Method)> {
+    let space = text.iter().position(|byte| *byte == b' ')?;
+    let number = parse_sequence_number(&text[..space])?;
+    let method = Method::of_name(&text[space + 1..])?;
+    Some((number, method))
+}
+
+/// A decimal number from 1 to 4294967295 without a leading zero.
+fn parse_sequence_number(digits: &[u8]) -> Option<u32> {
+    if digits.first() == Some(&b'0') {
+        return None;
+    }
+    parse_decimal(digits)?.try_into().ok()
+}
+
+/// One or more decimal digits whose value is below 2^64.
+pub fn parse_decimal(digits: &[u8]) -> Option<u64> {
+    if digits.is_empty() {
+        return None;
+    }
+    digits.iter().try_fold(0u64, |value, byte| {
+        if !byte.is_ascii_digit() {
+            return None;
+        }
+        value.checked_mul(10)?.checked_add(u64::from(byte - b'0'))
+    })
+}
+
+/// Length between `low` and `high`, and every byte of the class.
+fn made_of(text: &[u8], low: usize, high: usize, class: impl Fn(u8) -> bool) -> bool {
+    (low..=high).contains(&text.len()) && text.iter().all(|byte| class(*byte))
+}
+
+/// Neither the first nor the last byte of a text that is not empty is of the class.
+fn ends_are_not(text: &[u8], class: impl Fn(u8) -> bool) -> bool {
+    let ends = [text.first(), text.last()];
+    ends.into_iter().all(|end| end.is_some_and(|b| !class(*b)))
+}
+
+pub fn is_fire_id(text: &[u8]) -> bool {
+    let class = |b: u8| b.is_ascii_lowercase() || b.is_ascii_digit() || b == b'_';
+    made_of(text, 2, 15, class) && ends_are_not(text, |b| b == b'_')
+}
+
+pub fn is_user_id(text: &[u8]) -> bool {
+    made_of(text, 1, 15, |b| b.is_ascii_alphanumeric())
+}
+
+/// To, From: `net119:USER@FIRE.caller` or `net119:fire@FIRE.callee`.
+pub fn parse_address(text: &[u8]) -> Option<Address<'_>> {
+    let rest = text.strip_prefix(b"net119:")?;
+    let sign = rest.iter().position(|byte| *byte == b'@')?;
+    let (user, place) = (&rest[..sign], &rest[sign + 1..]);
+    if let Some(fire) = place.strip_suffix(b".caller") {
+        (is_user_id(user) && is_fire_id(fire)).then_some(Address::Caller { user, fire })
+    } else {
+        let fire = place.strip_suffix(b".callee")?;
+        (user == b"fire" && is_fire_id(fire)).then_some(Address::Callee { fire })
+    }
+}
+
+/// Call-ID and Session-ID.
+pub fn is_call_id(text: &[u8]) -> bool {
+    let class = |b: u8| b.is_ascii_alphanumeric() || b == b'-' || b == b'.';
+    made_of(text, 2, 64, class) && ends_are_not(text, |b| !b.is_ascii_alphanumeric())
+}
+
+/// Date: `YYYY-MM-DDThh:mm:ss+ZZZZ`.
+pub fn is_date(text: &[u8]) -> bool {
+    const SHAPE: &[u8] = b"dddd-dd-ddTdd:dd:dd+dddd";
+    let shaped = text.len() == SHAPE.len()
+        && text.iter().zip(SHAPE).all(|(byte, shape)| match shape {
+            b'd' => byte.is_ascii_digit(),
+            mark => byte == mark,
+        });
+    if !shaped {
+        return false;
+    }
+    let number = |from: usize, to: usize| parse_decimal(&text[from..to]).unwrap_or(0);
+    let (year, month, day) = (number(0, 4), number(5, 7), number(8, 10));
+    let (hour, minute, second) = (number(11, 13), number(14, 16), number(17, 19));
+    let (zone_hour, zone_minute) = (number(20, 22), number(22, 24));
+    year >= 1
+        && (1..=12).contains(&month)
+        && (1..=days_of_month(year, month)).contains(&day)
+        && (hour <= 23 && minute <= 59 && second <= 59)
+        && (zone_hour <= 14 && zone_minute <= 59)
+}
+
+fn days_of_month(year: u64, month: u64) -> u64 {
+    let leap = year % 4 == 0 && (year % 100 != 0 || year % 400 == 0);
+    match month {
+        4 | 6 | 9 | 11 => 30,
+        2 if leap => 29,
+        2 => 28,
+        _ => 31,
+    }
+}
+
+pub fn is_host(text: &[u8]) -> bool {
+    made_of(text, 1, 253, |b| {
+        b.is_ascii_alphanumeric() || b == b'-' || b == b'.'
+    })
+}
+
+pub fn is_destination(text: &[u8]) -> bool {
+    made_of(text, 1, 64, |b| {
+        (0x21..=0x7e).contains(&b) && b != b'"' && b != b'\\'
+    })
+}
+
+pub fn is_organization(text: &[u8]) -> bool {
+    let class = |b: u8| b.is_ascii_alphanumeric() || b == b'-';
+    made_of(text, 2, 10, class) && ends_are_not(text, |b| b == b'-')
+}
+
+/// Status of a response: the code. The text after the space is free.
+pub fn parse_status(text: &[u8]) -> Option<u16> {
+    let code = text.get(..3)?;
+    let value = parse_decimal(code)?;
+    let fits = (100..=699).contains(&value) && text.get(3) == Some(&b' ');
+    fits.then_some(value as u16)
+}
+
+/// Destination and Responded-By: a Fire-ID, then `.callee`.
+pub fn is_callee_queue(text: &[u8]) -> bool {
+    text.strip_suffix(b".callee").is_some_and(is_fire_id)
+}
+
+/// Message-ID: a side, a Fire-ID and letters or digits, parted by `-`.
+pub fn is_message_id(text: &[u8]) -> bool {
+    let parts: Vec<&[u8]> = text.split(|byte| *byte == b'-').collect();
+    match parts[..] {
+        [side, fire, own] => {
+            text.len() <= 64
+                && (side == b"caller" || side == b"callee")
+                && is_fire_id(fire)
+                && !own.is_empty()
+                && own.iter().all(u8::is_ascii_alphanumeric)
+        }
+        _ => false,
+    }
+}
+
+pub fn is_language(text: &[u8]) -> bool {
+    made_of(text, 2, 2, |b| b.is_ascii_lowercase())
+}
+
+#[cfg(test)]
+mod tests {
+    use super::*;
+
+    fn letters(count: usize) -> Vec<u8> {
+        vec![b'a'; count]
+    }
+
+    /// A good text stays good up to its longest length and no further.
+    fn bounds(rule: fn(&[u8]) -> bool, low: usize, high: usize) {
+        for (length, good) in [
+            (low - 1, false),
+            (low, true),
+            (high, true),
+            (high + 1, false),
+        ] {
+            assert_eq!(rule(&letters(length)), good, "length {length}");
+        }
+    }
+
+    #[test]
+    fn lengths() {
+        bounds(is_fire_id, 2, 15);
+        bounds(is_user_id, 1, 15);
+        bounds(is_call_id, 2, 64);
+        bounds(is_host, 1, 253);
+        bounds(is_destination, 1, 64);
+        bounds(is_organization, 2, 10);
+        bounds(is_language, 2, 2);
+    }
+
+    #[test]
+    fn classes() {
+        for byte in 0..=255u8 {
+            let inner = [b'a', byte, b'a'];
+            let lower_or_digit = byte.is_ascii_lowercase() || byte.is_ascii_digit();
+            let letter_or_digit = byte.is_ascii_alphanumeric();
+            assert_eq!(is_fire_id(&inner), lower_or_digit || byte == b'_');
+            assert_eq!(is_fire_id(&[byte, b'a']), lower_or_digit);
+            assert_eq!(is_fire_id(&[b'a', byte]), lower_or_digit);
+            assert_eq!(is_user_id(&inner), letter_or_digit);
+            assert_eq!(
+                is_call_id(&inner),
+                letter_or_digit || byte == b'-' || byte == b'.'
+            );
+            assert_eq!(is_call_id(&[byte, b'a']), letter_or_digit);
+            assert_eq!(is_call_id(&[b'a', byte]), letter_or_digit);
+            assert_eq!(
+                is_host(&[byte]),
+                letter_or_digit || byte == b'-' || byte == b'.'
+            );
+            assert_eq!(is_organization(&inner), letter_or_digit || byte == b'-');
+            assert_eq!(is_organization(&[byte, b'a']), letter_or_digit);
+            assert_eq!(is_organization(&[b'a', byte]), letter_or_digit);
+            let graphic = (0x21..=0x7e).contains(&byte) && byte != b'"' && byte != b'\\';
+            assert_eq!(is_destination(&[byte]), graphic);
+            assert_eq!(is_language(&[b'a', byte]), byte.is_ascii_lowercase());
+        }
+    }
+
+    #[test]
+    fn call_id_of_the_mark() {
+        assert!(is_call_id(b"A1"));
+        assert!(!is_call_id(b"A."));
+        assert!(is_call_id(b"A.1"));
+        assert!(is_call_id(b"a..--.b"));
+    }
+
+    #[test]
+    fn cseq() {
+        assert_eq!(
+            parse_cseq(b"4294967295 BYE"),
+            Some((4294967295, Method::Bye))
+        );
+        for (method, name) in Method::ALL {
+            let text = format!("1 {name}");
+            assert_eq!(parse_cseq(text.as_bytes()), Some((1, method)));
+            assert_eq!(method.name(), name);
+            assert_eq!(Method::of_code(method.code()), Some(method));
+        }
+        for bad in [
+            "4294967296 BYE",
+            "01 BYE",
+            "0 BYE",
+            " BYE",
+            "BYE",
+            "1BYE",
+            "1  BYE",
+            "1 BYE ",
+            "1 bye",
+            "1 BY",
+            "1 BYES",
+            "-1 BYE",
+            "+1 BYE",
+            "1\tBYE",
+            "1 ",
+            "1",
+            "",
+            "99999999999999999999999 BYE",
+            "1 OPTIONS",
+        ] {
+            assert_eq!(parse_cseq(bad.as_bytes()), None, "{bad}");
+        }
+        assert_eq!(Method::of_code(0), None);
+        assert_eq!(Method::of_code(9), None);
+    }
+
+    #[test]
+    fn addresses() {
+        let caller = Address::Caller {
+            user: b"u1",
+            fire: b"nishi",
+        };
+        assert_eq!(parse_address(b"net119:u1@nishi.caller"), Some(caller));
+        let callee = Address::Callee { fire: b"kita" };
+        assert_eq!(parse_address(b"net119:fire@kita.callee"), Some(callee));
+        assert!(parse_address(b"net119:fire@kita.caller").is_some());
+        for bad in [
+            "net119:u1@kita.callee",
+            "net119:Fire@kita.callee",
+            "net119:@kita.caller",
+            "net119:u_1@kita.caller",
+            "net119:u1@k.caller",
+            "net119:u1@kita.Caller",
+            "net119:u1@kita.caller ",
+            "net119:u1@kita.callers",
+            "net119:u1@@kita.caller",
+            "net119:u1@.caller",
+            "net119:u1@kita",
+            "net119:u1.caller",
+            "NET119:u1@kita.caller",
+            "sip:u1@kita.caller",
+            "net119:u234567890123456@kita.caller",
+            "net119:fire@k234567890123456.callee",
+            "net119:fire@kita.caller.callee",
+            "",
+        ] {
+            assert_eq!(parse_address(bad.as_bytes()), None, "{bad}");
+        }
+    }
+
+    #[test]
+    fn dates() {
+        for good in [
+            "2024-02-29T23:59:59+0900",
+            "2000-02-29T00:00:00+0000",
+            "0001-01-01T00:00:00+1459",
+            "9999-12-31T23:59:59+1400",
+            "2023-04-30T12:00:00+0059",
+            "0004-02-29T00:00:00+0000",
+            "2023-01-31T00:00:00+0000",
+        ] {
+            assert!(is_date(good.as_bytes()), "{good}");
+        }
+        for bad in [
+            "1900-02-29T00:00:00+0000",
+            "2100-02-29T00:00:00+0000",
+            "2023-02-29T00:00:00+0000",
+            "2024-02-30T00:00:00+0000",
+            "2023-04-31T00:00:00+0000",
+            "2023-06-31T00:00:00+0000",
+            "2023-09-31T00:00:00+0000",
+            "2023-11-31T00:00:00+0000",
+            "2023-01-32T00:00:00+0000",
+            "2023-01-00T00:00:00+0000",
+            "2023-00-01T00:00:00+0000",
+            "2023-13-01T00:00:00+0000",
+            "0000-01-01T00:00:00+0000",
+            "2023-01-01T24:00:00+0000",
+            "2023-01-01T00:60:00+0000",
+            "2023-01-01T00:00:60+0000",
+            "2023-01-01T00:00:00+1500",
+            "2023-01-01T00:00:00+1460",
+            "2023-01-01T00:00:00-0900",
+            "2023-01-01T00:00:00+09:00",
+            "2023-01-01T00:00:00+090",
+            "2023-01-01T00:00:00+09000",
+            "2023-01-01t00:00:00+0900",
+            "2023-01-01 00:00:00+0900",
+            "2023/01/01T00:00:00+0900",
+            "2023-01-01T00:00:00Z",
+            " 2023-01-01T00:00:00+090",
+            "2o23-01-01T00:00:00+0900",
+            "",
+        ] {
+            assert!(!is_date(bad.as_bytes()), "{bad}");
+        }
+    }
+
+    #[test]
+    fn statuses() {
+        assert_eq!(parse_status(b"100 "), Some(100));
+        assert_eq!(parse_status(b"699 x\\n y"), Some(699));
+        assert_eq!(parse_status(b"200 OK"), Some(200));
+        for bad in [
+            "099 x", "700 x", "200", "200OK", "20 OK", "2000 OK", "200\tOK", "+20 OK", "", "000 x",
+            "999 x", " 200 x",
+        ] {
+            assert_eq!(parse_status(bad.as_bytes()), None, "{bad}");
+        }
+    }
+
+    #[test]
+    fn queues_and_message_ids() {
+        assert!(is_callee_queue(b"kita.callee"));
+        for bad in ["kita.caller", "k.callee", ".callee", "kita", "_kita.callee"] {
+            assert!(!is_callee_queue(bad.as_bytes()), "{bad}");
+        }
+        let longest = format!("caller-kita-{}", "x".repeat(52));
+        assert_eq!(longest.len(), 64);
+        assert!(is_message_id(longest.as_bytes()));
+        assert!(!is_message_id(format!("{longest}x").as_bytes()));
+        assert!(is_message_id(b"callee-k_1-0A"));
+        for bad in [
+            "caller-kita-",
+            "caller-kita",
+            "caller--1",
+            "Caller-kita-1",
+            "desk-kita-1",
+            "caller-k-1",
+            "caller-kita-1-2",
+            "caller-kita-1.2",
+            "callerkita-1",
+            "",
+        ] {
+            assert!(!is_message_id(bad.as_bytes()), "{bad}");
+        }
+    }
+
+    #[test]
+    fn decimals() {
+        assert_eq!(parse_decimal(b"18446744073709551615"), Some(u64::MAX));
+        assert_eq!(parse_decimal(b"18446744073709551616"), None);
+        assert_eq!(parse_decimal(b"007"), Some(7));
+        assert_eq!(parse_decimal(b""), None);
+        assert_eq!(parse_decimal(b"1a"), None);
+    }
+}
