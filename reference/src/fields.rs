@@ -1,6 +1,6 @@
 //! The known fields by number, and which of them each kind of message needs.
 
-use crate::rules::Method;
+use crate::rules::{self, Method};
 
 /// 01 Reading, 'Known fields by number': the field of number n stands at n - 1.
 pub const NAMES: [&str; 26] = [
@@ -69,14 +69,17 @@ pub enum Tag {
 }
 
 impl Tag {
+    /// In the order of 01 Reading, row 6.
+    pub const ALL: [Tag; 4] = [Tag::Request, Tag::Response, Tag::Ping, Tag::Pong];
+    pub const NAMES: [&'static str; 4] = ["request", "response", "ping", "pong"];
+
     pub fn of_name(name: &[u8]) -> Option<Tag> {
-        match name {
-            b"request" => Some(Tag::Request),
-            b"response" => Some(Tag::Response),
-            b"ping" => Some(Tag::Ping),
-            b"pong" => Some(Tag::Pong),
-            _ => None,
-        }
+        rules::number_among(&Self::NAMES, name).and_then(Self::of_number)
+    }
+
+    /// The tag of this number, counted from 1.
+    pub fn of_number(number: usize) -> Option<Tag> {
+        Self::ALL.get(number.checked_sub(1)?).copied()
     }
 
     /// The fields that a message of this tag must have.
@@ -92,8 +95,7 @@ impl Tag {
 
 /// The number of a known name.
 pub fn number_of(name: &[u8]) -> Option<usize> {
-    let index = NAMES.iter().position(|known| known.as_bytes() == name);
-    index.map(|index| index + 1)
+    rules::number_among(&NAMES, name)
 }
 
 /// The fields that a request of this method must have besides those of its tag.
@@ -165,5 +167,21 @@ mod tests {
             assert_eq!(number_of(name.as_bytes()), Some(number));
         }
         assert_eq!(number_of(b"cseq"), None);
+    }
+
+    #[test]
+    fn tags_by_name_and_number() {
+        for (number, name, tag) in [
+            (1, "request", Tag::Request),
+            (2, "response", Tag::Response),
+            (3, "ping", Tag::Ping),
+            (4, "pong", Tag::Pong),
+        ] {
+            assert_eq!(Tag::of_name(name.as_bytes()), Some(tag));
+            assert_eq!(Tag::of_number(number), Some(tag));
+        }
+        assert_eq!(Tag::of_name(b"Ping"), None);
+        assert_eq!(Tag::of_number(0), None);
+        assert_eq!(Tag::of_number(5), None);
     }
 }

@@ -7,7 +7,15 @@ pub fn decode(word: &[u8]) -> Option<Vec<u8>> {
     if word == b"-" {
         return Some(Vec::new());
     }
-    if word.is_empty() || word.len() % 2 != 0 {
+    if word.is_empty() {
+        return None;
+    }
+    decode_pairs(word)
+}
+
+/// The bytes of pairs of digits alone, so that an empty word is no bytes.
+pub fn decode_pairs(word: &[u8]) -> Option<Vec<u8>> {
+    if word.len() % 2 != 0 {
         return None;
     }
     let pairs = word.chunks_exact(2);
@@ -53,6 +61,12 @@ mod tests {
     fn other_words() {
         for word in ["", "0", "0A", "g0", "--", "00 ", " 00", "0x", "000"] {
             assert_eq!(decode(word.as_bytes()), None, "{word}");
+            if !word.is_empty() {
+                assert_eq!(decode_pairs(word.as_bytes()), None, "{word}");
+            }
         }
+        assert_eq!(decode_pairs(b""), Some(Vec::new()));
+        assert_eq!(decode_pairs(b"-"), None);
+        assert_eq!(decode_pairs(b"0aff"), Some(vec![0x0a, 0xff]));
     }
 }

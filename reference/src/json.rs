@@ -43,6 +43,16 @@ pub enum Fault {
     TooDeep(usize),
 }
 
+impl Fault {
+    /// The row's number and the place.
+    pub fn row(self) -> (u8, usize) {
+        match self {
+            Fault::NotJson(place) => (4, place),
+            Fault::TooDeep(place) => (5, place),
+        }
+    }
+}
+
 impl Value {
     /// The bytes of the value as they stand in the message.
     pub fn raw<'a>(&self, message: &'a [u8]) -> &'a [u8] {

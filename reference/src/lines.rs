@@ -1,7 +1,30 @@
 //! Lines of an input of any length in constant memory: split at line feeds
 //! only, and a line longer than the limit is stepped over, not stored.
 
-use std::io::{self, BufRead};
+use std::io::{self, BufRead, Write};
+
+/// Answers every line of `input` on `output` with what `answer` puts at the
+/// end of its room, and a line over the limit with `?`.
+pub fn answer_each(
+    input: impl BufRead,
+    mut output: impl Write,
+    limit: usize,
+    mut answer: impl FnMut(&[u8], &mut Vec<u8>),
+) -> io::Result<()> {
+    let mut lines = Lines::new(input, limit);
+    let mut room = Vec::new();
+    while let Some(line) = lines.next()? {
+        room.clear();
+        if line.cut {
+            room.push(b'?');
+        } else {
+            answer(line.bytes, &mut room);
+        }
+        room.push(b'\n');
+        output.write_all(&room)?;
+    }
+    output.flush()
+}
 
 /// A line without its line feed.
 pub struct Line<'b> {
@@ -81,6 +104,21 @@ mod tests {
                 assert_eq!((line.0.as_str(), line.1), (text, cut));
             }
         }
+    }
+
+    #[test]
+    fn answers_every_line() {
+        let answers = |input: &str| {
+            let mut out = Vec::new();
+            answer_each(input.as_bytes(), &mut out, 3, |line, room| {
+                room.extend(line.iter().rev());
+            })
+            .unwrap();
+            String::from_utf8(out).unwrap()
+        };
+        assert_eq!(answers(""), "");
+        assert_eq!(answers("\n"), "\n");
+        assert_eq!(answers("ab\n\nabcd\nabc"), "ba\n\n?\ncba\n");
     }
 
     #[test]

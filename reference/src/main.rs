@@ -1,5 +1,6 @@
 //! An independent reading of the NET119 call rules: the same logs and the same
-//! probe lines as the program it is held against, and cases for both.
+//! probe lines as the program it is held against, single rules and the JSON walk
+//! by themselves, and cases for all of them.
 
 mod call;
 mod count;
@@ -7,11 +8,13 @@ mod fields;
 mod gen;
 mod hex;
 mod json;
+mod json_lines;
 mod keep;
 mod keeper;
 mod lines;
 mod message;
 mod probe;
+mod rule_lines;
 mod rules;
 mod table;
 mod utf8;
@@ -26,9 +29,11 @@ use std::ffi::OsString;
 use std::io::{self, BufReader, BufWriter, ErrorKind};
 use std::process::ExitCode;
 
-const USAGE: &str = "usage: reference keep | probe | count
+const USAGE: &str = "usage: reference keep | probe | json | rules | count
        reference gen keep SEED COUNT
-       reference gen probe SEED COUNT";
+       reference gen probe SEED COUNT
+       reference gen json SEED COUNT
+       reference gen rules SEED COUNT";
 
 /// Bytes that input and output are buffered by.
 const BUFFER: usize = 1 << 16;
@@ -44,10 +49,14 @@ fn main() -> ExitCode {
     let result = match words[..] {
         ["keep"] => keep::run(input, output),
         ["probe"] => probe::run(input, output),
+        ["json"] => json_lines::run(input, output),
+        ["rules"] => rule_lines::run(input, output),
         ["count"] => count::run(input, output),
         ["gen", kind, seed, count] => match (kind, seed.parse(), count.parse()) {
             ("keep", Ok(seed), Ok(count)) => gen::keep_lines(seed, count, output),
             ("probe", Ok(seed), Ok(count)) => gen::probe_lines(seed, count, output),
+            ("json", Ok(seed), Ok(count)) => gen::json_lines(seed, count, output),
+            ("rules", Ok(seed), Ok(count)) => gen::rule_lines(seed, count, output),
             _ => return usage(),
         },
         _ => return usage(),

@@ -2,16 +2,14 @@
 //! of 01 Reading with its place.
 
 use crate::fields::{self, *};
-use crate::json::{self, Fault, Kind, Member, Value};
-use crate::rules::{self, Address, Method};
+use crate::json::{self, Kind, Member, Value};
+use crate::rules::{self, Address, ContentType, Method};
 use crate::utf8;
 
 /// The longest message, and the longest result of the writers (house).
 pub const MAX_LENGTH: usize = 32_768;
 /// The most objects in a Via (house).
 pub const MAX_VIA: usize = 16;
-/// The most code points in a Refer-Memo.
-const MAX_MEMO: usize = 128;
 
 /// A number of 01 Reading's table, and its place.
 #[derive(Debug, Clone, Copy, PartialEq, Eq)]
@@ -82,8 +80,10 @@ pub fn read(bytes: &[u8]) -> Result<Message<'_>, Refusal> {
     }
     let text = match json::parse(bytes) {
         Ok(value) => value,
-        Err(Fault::NotJson(place)) => return refuse(4, place),
-        Err(Fault::TooDeep(place)) => return refuse(5, place),
+        Err(fault) => {
+            let (number, place) = fault.row();
+            return refuse(number, place);
+        }
     };
     let Some((tag, members)) = envelope(bytes, &text) else {
         return refuse(6, 0);
@@ -175,8 +175,8 @@ impl<'a, 'v> Draft<'a, 'v> {
         match field {
             VIA => hops(self.bytes, value).is_some(),
             BODY => self.is_body(value),
-            CALL_TEST => value.kind == Kind::Number && matches!(value.raw(self.bytes), b"0" | b"1"),
-            SECURE_CALL => matches!(value.kind, Kind::True | Kind::False),
+            CALL_TEST => rules::is_one_of(&rules::CALL_TESTS, value.raw(self.bytes)),
+            SECURE_CALL => rules::is_one_of(&rules::SECURE_CALLS, value.raw(self.bytes)),
             LOCATIONS => value.array().is_some(),
             USER_AGENT => value.kind == Kind::String,
             CALLER => value.object().is_some(),
@@ -196,17 +196,15 @@ impl<'a, 'v> Draft<'a, 'v> {
             TO | FROM => rules::parse_address(text).is_some(),
             DATE => rules::is_date(text),
             CALL_ID | SESSION_ID => rules::is_call_id(text),
-            STATUS if self.tag == Tag::Pong => matches!(text, b"available" | b"unavailable"),
+            STATUS if self.tag == Tag::Pong => rules::is_one_of(&rules::AVAILABILITIES, text),
             STATUS => rules::parse_status(text).is_some(),
             MESSAGE_ID => rules::is_message_id(text),
-            CONTENT_TYPE => self.body_kind().is_some(),
+            CONTENT_TYPE => self.content_type().is_some(),
             REFER_TO | REFERRED_BY => rules::is_fire_id(text),
-            REFER_MEMO => !text.contains(&b'\\') && utf8::code_points(text) <= MAX_MEMO,
-            CALL_MODE => matches!(text, b"emergency" | b"training"),
-            RESCUEE => matches!(text, b"caller" | b"third-party"),
-            REQUEST_SERVICE => {
-                matches!(text, b"ambulance" | b"fire" | b"unknown" | b"callback")
-            }
+            REFER_MEMO => rules::is_memo(text),
+            CALL_MODE => rules::is_one_of(&rules::CALL_MODES, text),
+            RESCUEE => rules::is_one_of(&rules::RESCUEES, text),
+            REQUEST_SERVICE => rules::is_one_of(&rules::SERVICES, text),
             LANGUAGE => rules::is_language(text),
             DESTINATION | RESPONDED_BY => rules::is_callee_queue(text),
             _ => unreachable!("field {field} has no rule on a text"),
@@ -214,29 +212,24 @@ impl<'a, 'v> Draft<'a, 'v> {
     }
 
     /// What the Content-Type says of the Body, if it is one that the method allows.
-    fn body_kind(&self) -> Option<BodyKind> {
+    fn content_type(&self) -> Option<ContentType> {
         let (_, method) = self.cseq()?;
-        match (method, self.text(CONTENT_TYPE)?) {
-            (Method::Message, b"text/plain") => Some(BodyKind::Plain),
-            (Method::Message, b"text/vnd.net119.uri.image") => Some(BodyKind::Image),
-            (Method::Notify, b"message/vnd.net119.presence") => Some(BodyKind::Presence),
-            (Method::Notify, b"message/vnd.net119.location") => Some(BodyKind::Location),
-            (Method::Notify, b"message/vnd.net119.refer") => Some(BodyKind::Refer),
-            _ => None,
-        }
+        ContentType::of_method(method, self.text(CONTENT_TYPE)?)
     }
 
     /// The Body's rule. Without a good Content-Type it does not matter: that
     /// field has the lower number.
     fn is_body(&self, value: &Value) -> bool {
         let text = value.string(self.bytes);
-        match self.body_kind() {
+        match self.content_type() {
             None => false,
-            Some(BodyKind::Plain) => text.is_some(),
-            Some(BodyKind::Image) => text.is_some_and(|text| text.starts_with(b"https://")),
-            Some(BodyKind::Presence) => matches!(text, Some(b"online" | b"offline")),
-            Some(BodyKind::Location) => value.object().is_some(),
-            Some(BodyKind::Refer) => text.and_then(rules::parse_status).is_some(),
+            Some(ContentType::Plain) => text.is_some(),
+            Some(ContentType::Image) => text.is_some_and(rules::is_image),
+            Some(ContentType::Presence) => {
+                text.is_some_and(|text| rules::is_one_of(&rules::PRESENCES, text))
+            }
+            Some(ContentType::Location) => value.object().is_some(),
+            Some(ContentType::Refer) => text.and_then(rules::parse_status).is_some(),
         }
     }
 
@@ -308,20 +301,11 @@ impl<'a, 'v> Draft<'a, 'v> {
                     || self.text(CALL_MODE) != Some(b"training")
             }
             Method::Message => {
-                exchange.from == Side::Caller || self.body_kind() == Some(BodyKind::Plain)
+                exchange.from == Side::Caller || self.content_type() == Some(ContentType::Plain)
             }
             _ => true,
         }
     }
-}
-
-#[derive(Debug, Clone, Copy, PartialEq, Eq)]
-enum BodyKind {
-    Plain,
-    Image,
-    Presence,
-    Location,
-    Refer,
 }
 
 /// 01 Reading, 'Number 10': which side may send which method.
@@ -344,9 +328,9 @@ fn hops<'a>(bytes: &'a [u8], via: &Value) -> Option<Vec<Hop<'a>>> {
 
 fn hop<'a>(bytes: &'a [u8], object: &Value) -> Option<Hop<'a>> {
     let members = object.object()?;
-    let host = only_text(bytes, members, b"host")?;
-    let destination = only_text(bytes, members, b"destination")?;
-    let organization = only_text(bytes, members, b"organization")?;
+    let [host, destination, organization] =
+        rules::HOP_MEMBERS.map(|name| only_text(bytes, members, name.as_bytes()));
+    let (host, destination, organization) = (host?, destination?, organization?);
     let good = rules::is_host(host)
         && rules::is_destination(destination)
         && rules::is_organization(organization);

@@ -8,7 +8,7 @@
 
 use crate::hex;
 use crate::keeper;
-use crate::lines::Lines;
+use crate::lines;
 use crate::message;
 use crate::rules;
 use crate::table;
@@ -25,21 +25,9 @@ pub const MAX_SMALL: u64 = 65_535;
 const FILL: u8 = 0x5a;
 
 /// Answers every line of `input` on `output`.
-pub fn run(input: impl BufRead, mut output: impl Write) -> io::Result<()> {
+pub fn run(input: impl BufRead, output: impl Write) -> io::Result<()> {
     let mut probe = Probe::new();
-    let mut lines = Lines::new(input, MAX_LINE);
-    let mut answer = Vec::new();
-    while let Some(line) = lines.next()? {
-        answer.clear();
-        if line.cut {
-            answer.push(b'?');
-        } else {
-            probe.answer(line.bytes, &mut answer);
-        }
-        answer.push(b'\n');
-        output.write_all(&answer)?;
-    }
-    output.flush()
+    lines::answer_each(input, output, MAX_LINE, |line, out| probe.answer(line, out))
 }
 
 /// The held table.

@@ -2,6 +2,33 @@
 //! between the quotes. No class of bytes below holds a backslash or a quote,
 //! so an escape breaks each of these rules by itself.
 
+use crate::utf8;
+
+/// The most code points in a Refer-Memo.
+const MAX_MEMO: usize = 128;
+
+/// The words that a value may be, each list in the order of 01 Reading.
+pub const AVAILABILITIES: [&str; 2] = ["available", "unavailable"];
+pub const PRESENCES: [&str; 2] = ["online", "offline"];
+pub const CALL_MODES: [&str; 2] = ["emergency", "training"];
+pub const RESCUEES: [&str; 2] = ["caller", "third-party"];
+pub const SERVICES: [&str; 4] = ["ambulance", "fire", "unknown", "callback"];
+/// Values that are no strings, as they are written.
+pub const CALL_TESTS: [&str; 2] = ["0", "1"];
+pub const SECURE_CALLS: [&str; 2] = ["false", "true"];
+/// The members that each Via object has once each.
+pub const HOP_MEMBERS: [&str; 3] = ["host", "destination", "organization"];
+
+/// The number of a text among words, counted from 1.
+pub fn number_among(words: &[&str], text: &[u8]) -> Option<usize> {
+    let index = words.iter().position(|word| word.as_bytes() == text);
+    index.map(|index| index + 1)
+}
+
+pub fn is_one_of(words: &[&str], text: &[u8]) -> bool {
+    number_among(words, text).is_some()
+}
+
 /// The eight methods with their codes (01 Reading, CSeq).
 #[derive(Debug, Clone, Copy, PartialEq, Eq, Hash)]
 pub enum Method {
@@ -27,7 +54,7 @@ impl Method {
         (Method::Notify, "NOTIFY"),
     ];
 
-    fn of_name(name: &[u8]) -> Option<Method> {
+    pub fn of_name(name: &[u8]) -> Option<Method> {
         let found = Self::ALL.iter().find(|(_, known)| known.as_bytes() == name);
         found.map(|(method, _)| *method)
     }
@@ -43,6 +70,42 @@ impl Method {
 
     pub fn code(self) -> u8 {
         self as u8
+    }
+}
+
+/// What a Content-Type says of the Body.
+#[derive(Debug, Clone, Copy, PartialEq, Eq)]
+pub enum ContentType {
+    Plain = 1,
+    Image = 2,
+    Presence = 3,
+    Location = 4,
+    Refer = 5,
+}
+
+impl ContentType {
+    /// A MESSAGE's first, then a NOTIFY's.
+    pub const ALL: [(ContentType, &'static str); 5] = [
+        (ContentType::Plain, "text/plain"),
+        (ContentType::Image, "text/vnd.net119.uri.image"),
+        (ContentType::Presence, "message/vnd.net119.presence"),
+        (ContentType::Location, "message/vnd.net119.location"),
+        (ContentType::Refer, "message/vnd.net119.refer"),
+    ];
+
+    pub fn of_name(name: &[u8]) -> Option<ContentType> {
+        let found = Self::ALL.iter().find(|(_, known)| known.as_bytes() == name);
+        found.map(|(content_type, _)| *content_type)
+    }
+
+    /// The type of this name, if it is one that the method allows.
+    pub fn of_method(method: Method, name: &[u8]) -> Option<ContentType> {
+        let content_type = Self::of_name(name)?;
+        let own = match content_type {
+            ContentType::Plain | ContentType::Image => Method::Message,
+            ContentType::Presence | ContentType::Location | ContentType::Refer => Method::Notify,
+        };
+        (own == method).then_some(content_type)
     }
 }
 
@@ -200,6 +263,16 @@ pub fn is_message_id(text: &[u8]) -> bool {
 
 pub fn is_language(text: &[u8]) -> bool {
     made_of(text, 2, 2, |b| b.is_ascii_lowercase())
+}
+
+/// Refer-Memo: free but for its length and for escapes.
+pub fn is_memo(text: &[u8]) -> bool {
+    !text.contains(&b'\\') && utf8::code_points(text) <= MAX_MEMO
+}
+
+/// The Body of an image.
+pub fn is_image(text: &[u8]) -> bool {
+    text.starts_with(b"https://")
 }
 
 #[cfg(test)]
@@ -428,6 +501,54 @@ mod tests {
             "",
         ] {
             assert!(!is_message_id(bad.as_bytes()), "{bad}");
+        }
+    }
+
+    #[test]
+    fn words() {
+        assert_eq!(number_among(&SERVICES, b"ambulance"), Some(1));
+        assert_eq!(number_among(&SERVICES, b"callback"), Some(4));
+        for other in ["", "Fire", "fir", "fires", "fire ", "police"] {
+            assert_eq!(number_among(&SERVICES, other.as_bytes()), None, "{other}");
+            assert!(!is_one_of(&SERVICES, other.as_bytes()));
+        }
+    }
+
+    #[test]
+    fn content_types() {
+        for (content_type, name) in ContentType::ALL {
+            let name = name.as_bytes();
+            assert_eq!(ContentType::of_name(name), Some(content_type));
+            for (method, _) in Method::ALL {
+                let own = match method {
+                    Method::Message => content_type as u8 <= 2,
+                    Method::Notify => content_type as u8 > 2,
+                    _ => false,
+                };
+                let found = ContentType::of_method(method, name);
+                assert_eq!(found, own.then_some(content_type));
+            }
+        }
+        assert_eq!(ContentType::of_name(b"text/html"), None);
+        assert_eq!(ContentType::of_method(Method::Message, b""), None);
+    }
+
+    #[test]
+    fn memos_and_images() {
+        for unit in ["a", "\u{e9}", "語", "\u{1f600}"] {
+            assert!(is_memo(unit.repeat(128).as_bytes()));
+            assert!(!is_memo(unit.repeat(129).as_bytes()));
+        }
+        assert!(is_memo(b""));
+        assert!(!is_memo(b"a\\nb"));
+        // Bytes that are no UTF-8 count by their kind.
+        assert!(is_memo(&[0x80; 500]));
+        assert!(is_memo(&[0xff; 128]));
+        assert!(!is_memo(&[0xff; 129]));
+        assert!(is_image(b"https://"));
+        assert!(is_image(b"https://x\\n"));
+        for bad in ["", "https:/", "http://x", "HTTPS://x", " https://x"] {
+            assert!(!is_image(bad.as_bytes()), "{bad}");
         }
     }
 

@@ -137,6 +137,11 @@ fn phrase_for(code: u16, method: Method) -> Option<&'static str> {
     if code == 202 && method != Method::Refer {
         return None;
     }
+    phrase(code)
+}
+
+/// The text of a listed code.
+pub fn phrase(code: u16) -> Option<&'static str> {
     let found = STATUS_TEXTS.iter().find(|(listed, _)| *listed == code);
     found.map(|(_, phrase)| *phrase)
 }

@@ -47,6 +47,31 @@ fn probe_answers_a_script() {
 }
 
 #[test]
+fn json_answers_texts() {
+    let answer = output(&["json"], b"5b30315d\n\nwhat\n-\n5b5d");
+    assert_eq!(answer, b"no 4 2\nno 4 0\n?\nno 4 0\nok\n");
+    assert_eq!(output(&["json"], b""), b"");
+}
+
+#[test]
+fn rules_answers_questions() {
+    let answer = output(&["rules"], b"call-id 4131\ncall-id 412e\nwhat\nphrase 00c8");
+    assert_eq!(answer, b"yes\nno\n?\n200 OK\n");
+    assert_eq!(output(&["rules"], b""), b"");
+}
+
+#[test]
+fn gen_feeds_the_smaller_programs() {
+    for kind in ["json", "rules"] {
+        let cases = output(&["gen", kind, "4", "400"], b"");
+        assert_eq!(cases, output(&["gen", kind, "4", "400"], b""));
+        assert_eq!(cases.iter().filter(|byte| **byte == b'\n').count(), 400);
+        let answers = output(&[kind], &cases);
+        assert_eq!(answers.iter().filter(|byte| **byte == b'\n').count(), 400);
+    }
+}
+
+#[test]
 fn gen_feeds_the_programs_and_count_counts() {
     for kind in ["keep", "probe"] {
         let cases = output(&["gen", kind, "4", "400"], b"");
@@ -69,6 +94,8 @@ fn wrong_arguments_give_usage_and_2() {
         &[][..],
         &["keeps"],
         &["keep", "x"],
+        &["json", "x"],
+        &["rule"],
         &["gen"],
         &["gen", "keep", "1"],
         &["gen", "keep", "x", "1"],

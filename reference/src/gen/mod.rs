@@ -1,4 +1,4 @@
-//! Random but mostly sensible cases for both programs, the same for the same
+//! Random but mostly sensible cases for the programs, the same for the same
 //! seed.
 
 mod damage;
@@ -7,11 +7,14 @@ mod flow;
 mod image;
 mod log;
 mod node;
+mod questions;
 mod raw;
 mod rng;
 mod script;
 mod texts;
+mod walks;
 
+use rng::Rng;
 use std::io::{self, Write};
 
 /// So many lines for `keep`.
@@ -24,6 +27,18 @@ pub fn keep_lines(seed: u64, count: u64, output: impl Write) -> io::Result<()> {
 pub fn probe_lines(seed: u64, count: u64, output: impl Write) -> io::Result<()> {
     let mut script = script::Script::new(seed);
     write_lines(seed, count, output, || script.line())
+}
+
+/// So many lines for `json`.
+pub fn json_lines(seed: u64, count: u64, output: impl Write) -> io::Result<()> {
+    let mut rng = Rng::new(seed);
+    write_lines(seed, count, output, || walks::line(&mut rng))
+}
+
+/// So many lines for `rules`.
+pub fn rule_lines(seed: u64, count: u64, output: impl Write) -> io::Result<()> {
+    let mut rng = Rng::new(seed);
+    write_lines(seed, count, output, || questions::line(&mut rng))
 }
 
 /// Every fourth seed leaves out the last line feed.
@@ -61,10 +76,26 @@ mod tests {
         script
     }
 
+    fn json_script(seed: u64, count: u64) -> Vec<u8> {
+        let mut script = Vec::new();
+        json_lines(seed, count, &mut script).unwrap();
+        script
+    }
+
+    fn rule_script(seed: u64, count: u64) -> Vec<u8> {
+        let mut script = Vec::new();
+        rule_lines(seed, count, &mut script).unwrap();
+        script
+    }
+
     #[test]
     fn the_same_seed_gives_the_same_lines() {
         assert_eq!(keep_log(5, 500), keep_log(5, 500));
         assert_eq!(probe_script(5, 500), probe_script(5, 500));
+        assert_eq!(json_script(5, 500), json_script(5, 500));
+        assert_eq!(rule_script(5, 500), rule_script(5, 500));
+        assert_ne!(json_script(5, 500), json_script(6, 500));
+        assert_ne!(rule_script(5, 500), rule_script(6, 500));
         assert_ne!(keep_log(5, 500), keep_log(6, 500));
         assert_ne!(probe_script(5, 500), probe_script(6, 500));
         assert!(keep_log(9, 700).starts_with(&keep_log(9, 300)));
@@ -73,7 +104,12 @@ mod tests {
     #[test]
     fn there_are_as_many_lines_as_asked_for() {
         for seed in 0..8 {
-            for text in [keep_log(seed, 300), probe_script(seed, 300)] {
+            for text in [
+                keep_log(seed, 300),
+                probe_script(seed, 300),
+                json_script(seed, 300),
+                rule_script(seed, 300),
+            ] {
                 let mut lines = crate::lines::Lines::new(&text[..], 10);
                 let mut count = 0;
                 while lines.next().unwrap().is_some() {
@@ -105,6 +141,17 @@ mod tests {
         let mut answers = Vec::new();
         probe::run(&probe_script(1, 15_000)[..], &mut answers).unwrap();
         assert_eq!(never_reached(&answers), Vec::<String>::new());
+    }
+
+    #[test]
+    fn texts_reach_both_rows_and_neither() {
+        let mut answers = Vec::new();
+        crate::json_lines::run(&json_script(1, 5000)[..], &mut answers).unwrap();
+        let text = String::from_utf8(answers).unwrap();
+        for (start, least) in [("ok", 500), ("no 4 ", 500), ("no 5 ", 50), ("?", 10)] {
+            let count = text.lines().filter(|line| line.starts_with(start)).count();
+            assert!(count >= least, "{start}: {count}");
+        }
     }
 
     /// Whatever happens, a table that was well-formed stays so.

@@ -1,0 +1,7 @@
+pub mod Standing
+pub mod Written
+pub mod Compact
+pub mod ArrayEdits
+pub mod Parsed
+pub mod MessageShape
+pub mod Forwarding

@@ -1,0 +1,990 @@
+-- The cycle of readers. A call falls by the levels left, twice and one more for a bracket; a loop by the bytes left. Each loop keeps that the machine
+-- answers where it stands as from the start, whatever stands around; each exit follows its bytes. Assumes nothing.
+use mathlib.Core.Path.{_≡_, refl, _∙_}
+use Prim.Native.Nat.{ℕ, _+_, _-_, _≤_, _<_}
+use native.Mathlib.Omega.{arith}
+use borrow.Author.Needs.{needs}
+use borrow.Fn.Kinds.{In}
+use borrow.Fn.PlainCycle.{Measures, is, falls, and}
+use lib.ListN.{length}
+use Rattle.json.specs.Machine.{Stack, arr, obj, label, plain, value as val, first, name, name₁, after, str, live, dead, deep, levels, from}
+use Rattle.json.proofs.MoveLaws.{moves, short, alike, short-arr, short-obj, leaf-is, nest-is, stuck}
+use Rattle.json.proofs.StepLaws.{ws-value, ws-first, ws-name₁, ws-arr, ws-obj, value-quote, value-arr, value-arr-deep, value-obj, value-obj-deep, first-close, first-value, arr-comma, arr-close, arr-miss, name₁-close, name₁-name, obj-comma, obj-close, obj-miss}
+use Rattle.json.proofs.spaces.past_spaces.Reads as past-spaces-reads
+use Rattle.json.proofs.strings.string.Reads as string-reads
+use Rattle.json.proofs.values.+array+object+value.Lts-array as array-lts
+use Rattle.json.proofs.values.+array+object+value.Lts-object as object-lts
+use Rattle.json.proofs.values.+array+object+value.Lts-value as value-lts
+use Rattle.json.proofs.values.+array+object+value.Tie.{close}
+use Rattle.json.proofs.values.+array+object+value.{statement}
+use Rattle.json.proofs.values.array.Kinds as array-kinds
+use Rattle.json.proofs.values.array.Reads as array
+use Rattle.json.proofs.values.label.Reads as label-reads
+use Rattle.json.proofs.values.object.Kinds as object-kinds
+use Rattle.json.proofs.values.object.Reads as object
+use Rattle.json.proofs.values.scalar.Reads as scalar-reads
+use Rattle.json.proofs.values.value.Kinds as value-kinds
+use Rattle.json.proofs.values.value.Reads as value
+
+abbrev μ-array : Measures 1 array-kinds.ps ℕ
+μ-array κs a = a .1 .1 .0 + a .1 .1 .0 + 1
+
+abbrev μ-object : Measures 1 object-kinds.ps ℕ
+μ-object κs a = a .1 .1 .0 + a .1 .1 .0 + 1
+
+abbrev μ-value : Measures 1 value-kinds.ps ℕ
+μ-value κs a = a .1 .1 .0 + a .1 .1 .0
+
+abbrev array-at : ℕ → In 1 array-kinds.ps
+array-at t = and 1 array-kinds.ps (is 1 array-kinds.ps μ-array t) array.Pre
+
+abbrev array-below : ℕ → In 1 array-kinds.ps
+array-below t = and 1 array-kinds.ps (falls 1 array-kinds.ps _<_ μ-array t) array.Pre
+
+abbrev object-at : ℕ → In 1 object-kinds.ps
+object-at t = and 1 object-kinds.ps (is 1 object-kinds.ps μ-object t) object.Pre
+
+abbrev object-below : ℕ → In 1 object-kinds.ps
+object-below t = and 1 object-kinds.ps (falls 1 object-kinds.ps _<_ μ-object t) object.Pre
+
+abbrev value-at : ℕ → In 1 value-kinds.ps
+value-at t = and 1 value-kinds.ps (is 1 value-kinds.ps μ-value t) value.Pre
+
+abbrev value-below : ℕ → In 1 value-kinds.ps
+value-below t = and 1 value-kinds.ps (falls 1 value-kinds.ps _<_ μ-value t) value.Pre
+
+abbrev array-Inv-loop : array-lts.InvT-loop
+array-Inv-loop s at left i p₀ p = (at ≤ p) × (p ≤ length s) × ((k : Stack) → levels (arr k) ≡ left → from s at first (arr k) ≡ from s p val (arr k))
+
+abbrev array-μ-loop : array-lts.MeasureT-loop
+array-μ-loop s at left i p₀ p = length s - p
+
+array-past-spaces-requires : (t : ℕ) → array-lts.Need-past-spaces-requires (
+  past-spaces-reads.Asked,
+  past-spaces-reads.Learnt,
+  value-below t,
+  value.Post,
+) (array-at t) array.Post array-Inv-loop array-μ-loop
+array-past-spaces-requires t c κs = search needs
+
+array-returns : (t : ℕ) → array-lts.Need-returns (
+  past-spaces-reads.Asked,
+  past-spaces-reads.Learnt,
+  value-below t,
+  value.Post,
+) (array-at t) array.Post array-Inv-loop array-μ-loop
+array-returns t c =
+    record {
+      low = search needs;
+      high = search needs;
+      same = λ k e.
+          c .before .past-spaces .ensures .same first (arr k) (ws-first (arr k))
+          ∙ short-arr _ _ first k (search needs) (search needs);
+    }
+
+array-shared-slice-read-if2 : (t : ℕ) → array-lts.Need-shared-slice-read-if2 (
+  past-spaces-reads.Asked,
+  past-spaces-reads.Learnt,
+  value-below t,
+  value.Post,
+) (array-at t) array.Post array-Inv-loop array-μ-loop
+array-shared-slice-read-if2 t c = search needs
+
+array-add-t14 : (t : ℕ) → array-lts.Need-add-t14 (
+  past-spaces-reads.Asked,
+  past-spaces-reads.Learnt,
+  value-below t,
+  value.Post,
+) (array-at t) array.Post array-Inv-loop array-μ-loop
+array-add-t14 t c = search needs
+
+array-returns-2 : (t : ℕ) → array-lts.Need-returns-2 (
+  past-spaces-reads.Asked,
+  past-spaces-reads.Learnt,
+  value-below t,
+  value.Post,
+) (array-at t) array.Post array-Inv-loop array-μ-loop
+array-returns-2 t c =
+    record {
+      low = search needs;
+      high = search needs;
+      same = λ k e.
+          c .before .before .before .past-spaces .ensures .same first (arr k) (ws-first (arr k))
+          ∙ moves _ _ first (arr k) (live after k) (search needs) (first-close k _ (c .if2 .taken));
+    }
+
+array-loop-holds : (t : ℕ) → array-lts.Need-loop-holds (
+  past-spaces-reads.Asked,
+  past-spaces-reads.Learnt,
+  value-below t,
+  value.Post,
+) (array-at t) array.Post array-Inv-loop array-μ-loop
+array-loop-holds t c = (
+  search needs,
+  search needs,
+  λ k e.
+      c .before .before .before .past-spaces .ensures .same first (arr k) (ws-first (arr k))
+      ∙ alike _ _ first val (arr k) (search needs) (first-value k _ (c .before .before .before .past-spaces .ensures .stop (search needs)) (c .if2 .left)),
+)
+
+array-value-requires : (t : ℕ) → array-lts.Need-value-requires (
+  past-spaces-reads.Asked,
+  past-spaces-reads.Learnt,
+  value-below t,
+  value.Post,
+) (array-at t) array.Post array-Inv-loop array-μ-loop
+array-value-requires t c κs = (omega (arith, c .before .before .before .before .before .before .pre .0), search needs)
+
+array-enum-known-r : (t : ℕ) → array-lts.Need-enum-known-r (
+  past-spaces-reads.Asked,
+  past-spaces-reads.Learnt,
+  value-below t,
+  value.Post,
+) (array-at t) array.Post array-Inv-loop array-μ-loop
+array-enum-known-r t c = search needs
+
+array-returns-3 : (t : ℕ) → array-lts.Need-returns-3 (
+  past-spaces-reads.Asked,
+  past-spaces-reads.Learnt,
+  value-below t,
+  value.Post,
+) (array-at t) array.Post array-Inv-loop array-μ-loop
+array-returns-3 t c =
+    record {
+      low = omega (arith, c .before .value .ensures .low);
+      high = c .before .value .ensures .high;
+      same = λ k e.
+          c .before .before .loop .inv .2 k e
+          ∙ c .before .value .ensures .same (arr k) e
+          ∙ stuck (c .before .value .result) _ after after (arr k) k (c .match .keys2);
+    }
+
+array-past-spaces-requires-2 : (t : ℕ) → array-lts.Need-past-spaces-requires-2 (
+  past-spaces-reads.Asked,
+  past-spaces-reads.Learnt,
+  value-below t,
+  value.Post,
+) (array-at t) array.Post array-Inv-loop array-μ-loop
+array-past-spaces-requires-2 t c κs = let l = nest-is (c .before .before .before .value .ensures) (c .before .r .given .1) in l .high
+
+array-returns-4 : (t : ℕ) → array-lts.Need-returns-4 (
+  past-spaces-reads.Asked,
+  past-spaces-reads.Learnt,
+  value-below t,
+  value.Post,
+) (array-at t) array.Post array-Inv-loop array-μ-loop
+array-returns-4 t c =
+    let l = nest-is (c .before .before .before .before .before .value .ensures) (c .before .before .before .r .given .1) in
+    record {
+      low = omega (arith, l .low);
+      high = search needs;
+      same = λ k e.
+          c .before .before .before .before .before .before .loop .inv .2 k e
+          ∙ l .same (arr k) e
+          ∙ c .before .past-spaces2 .ensures .same after (arr k) (λ b h. ws-arr b h k)
+          ∙ short-arr _ _ after k (search needs) (search needs);
+    }
+
+array-shared-slice-read-b : (t : ℕ) → array-lts.Need-shared-slice-read-b (
+  past-spaces-reads.Asked,
+  past-spaces-reads.Learnt,
+  value-below t,
+  value.Post,
+) (array-at t) array.Post array-Inv-loop array-μ-loop
+array-shared-slice-read-b t c = search needs
+
+array-add-t19 : (t : ℕ) → array-lts.Need-add-t19 (
+  past-spaces-reads.Asked,
+  past-spaces-reads.Learnt,
+  value-below t,
+  value.Post,
+) (array-at t) array.Post array-Inv-loop array-μ-loop
+array-add-t19 t c = search needs
+
+array-returns-5 : (t : ℕ) → array-lts.Need-returns-5 (
+  past-spaces-reads.Asked,
+  past-spaces-reads.Learnt,
+  value-below t,
+  value.Post,
+) (array-at t) array.Post array-Inv-loop array-μ-loop
+array-returns-5 t c =
+    let l = nest-is (c .before .before .before .before .before .before .before .value .ensures) (c .before .before .before .before .before .r .given .1) in
+    record {
+      low = omega (arith, l .low);
+      high = search needs;
+      same = λ k e.
+          c .before .before .before .before .before .before .before .before .loop .inv .2 k e
+          ∙ l .same (arr k) e
+          ∙ c .before .before .before .past-spaces2 .ensures .same after (arr k) (λ b h. ws-arr b h k)
+          ∙ moves _ _ after (arr k) (live after k) (search needs) (arr-close k _ (c .if4 .taken));
+    }
+
+array-returns-6 : (t : ℕ) → array-lts.Need-returns-6 (
+  past-spaces-reads.Asked,
+  past-spaces-reads.Learnt,
+  value-below t,
+  value.Post,
+) (array-at t) array.Post array-Inv-loop array-μ-loop
+array-returns-6 t c =
+    let l = nest-is (c .before .before .before .before .before .before .before .before .value .ensures) (c .before .before .before .before .before .before .r .given .1) in
+    record {
+      low = omega (arith, l .low);
+      high = search needs;
+      same = λ k e.
+          c .before .before .before .before .before .before .before .before .before .loop .inv .2 k e
+          ∙ l .same (arr k) e
+          ∙ c .before .before .before .before .past-spaces2 .ensures .same after (arr k) (λ b h. ws-arr b h k)
+          ∙ moves _ _ after (arr k) dead (search needs) (arr-miss k _ (c .before .before .before .before .past-spaces2 .ensures .stop (search needs)) (c .before .if4 .left) (c .if5 .taken));
+    }
+
+array-add-p : (t : ℕ) → array-lts.Need-add-p (
+  past-spaces-reads.Asked,
+  past-spaces-reads.Learnt,
+  value-below t,
+  value.Post,
+) (array-at t) array.Post array-Inv-loop array-μ-loop
+array-add-p t c = search needs
+
+array-loop-less : (t : ℕ) → array-lts.Need-loop-less (
+  past-spaces-reads.Asked,
+  past-spaces-reads.Learnt,
+  value-below t,
+  value.Post,
+) (array-at t) array.Post array-Inv-loop array-μ-loop
+array-loop-less t c =
+    let l = nest-is (c .before .before .before .before .before .before .before .before .value .ensures) (c .before .before .before .before .before .before .r .given .1) in
+    omega (arith, l .low)
+
+array-loop-again : (t : ℕ) → array-lts.Need-loop-again (
+  past-spaces-reads.Asked,
+  past-spaces-reads.Learnt,
+  value-below t,
+  value.Post,
+) (array-at t) array.Post array-Inv-loop array-μ-loop
+array-loop-again t c =
+    let l = nest-is (c .before .before .before .before .before .before .before .before .value .ensures) (c .before .before .before .before .before .before .r .given .1) in (
+      omega (arith, l .low),
+      search needs,
+      λ k e.
+          c .before .before .before .before .before .before .before .before .before .loop .inv .2 k e
+          ∙ l .same (arr k) e
+          ∙ c .before .before .before .before .past-spaces2 .ensures .same after (arr k) (λ b h. ws-arr b h k)
+          ∙ moves _ _ after (arr k) (live val (arr k)) (search needs) (arr-comma k _ (c .if5 .left)),
+    )
+
+abbrev object-Inv-loop : object-lts.InvT-loop
+object-Inv-loop s at left i p₀ p = (at ≤ p) × (p ≤ length s) × ((k : Stack) → levels (obj k) ≡ left → from s at name₁ (obj k) ≡ from s p name (obj k))
+
+abbrev object-μ-loop : object-lts.MeasureT-loop
+object-μ-loop s at left i p₀ p = length s - p
+
+object-past-spaces-requires : (t : ℕ) → object-lts.Need-past-spaces-requires (
+  past-spaces-reads.Asked,
+  past-spaces-reads.Learnt,
+  label-reads.Asked,
+  label-reads.Learnt,
+  value-below t,
+  value.Post,
+) (object-at t) object.Post object-Inv-loop object-μ-loop
+object-past-spaces-requires t c κs = search needs
+
+object-returns : (t : ℕ) → object-lts.Need-returns (
+  past-spaces-reads.Asked,
+  past-spaces-reads.Learnt,
+  label-reads.Asked,
+  label-reads.Learnt,
+  value-below t,
+  value.Post,
+) (object-at t) object.Post object-Inv-loop object-μ-loop
+object-returns t c =
+    record {
+      low = search needs;
+      high = search needs;
+      same = λ k e.
+          c .before .past-spaces .ensures .same name₁ (obj k) (ws-name₁ (obj k))
+          ∙ short-obj _ _ name₁ k (search needs) (search needs);
+    }
+
+object-shared-slice-read-if2 : (t : ℕ) → object-lts.Need-shared-slice-read-if2 (
+  past-spaces-reads.Asked,
+  past-spaces-reads.Learnt,
+  label-reads.Asked,
+  label-reads.Learnt,
+  value-below t,
+  value.Post,
+) (object-at t) object.Post object-Inv-loop object-μ-loop
+object-shared-slice-read-if2 t c = search needs
+
+object-add-t16 : (t : ℕ) → object-lts.Need-add-t16 (
+  past-spaces-reads.Asked,
+  past-spaces-reads.Learnt,
+  label-reads.Asked,
+  label-reads.Learnt,
+  value-below t,
+  value.Post,
+) (object-at t) object.Post object-Inv-loop object-μ-loop
+object-add-t16 t c = search needs
+
+object-returns-2 : (t : ℕ) → object-lts.Need-returns-2 (
+  past-spaces-reads.Asked,
+  past-spaces-reads.Learnt,
+  label-reads.Asked,
+  label-reads.Learnt,
+  value-below t,
+  value.Post,
+) (object-at t) object.Post object-Inv-loop object-μ-loop
+object-returns-2 t c =
+    record {
+      low = search needs;
+      high = search needs;
+      same = λ k e.
+          c .before .before .before .past-spaces .ensures .same name₁ (obj k) (ws-name₁ (obj k))
+          ∙ moves _ _ name₁ (obj k) (live after k) (search needs) (name₁-close k _ (c .if2 .taken));
+    }
+
+object-loop-holds : (t : ℕ) → object-lts.Need-loop-holds (
+  past-spaces-reads.Asked,
+  past-spaces-reads.Learnt,
+  label-reads.Asked,
+  label-reads.Learnt,
+  value-below t,
+  value.Post,
+) (object-at t) object.Post object-Inv-loop object-μ-loop
+object-loop-holds t c = (
+  search needs,
+  search needs,
+  λ k e.
+      c .before .before .before .past-spaces .ensures .same name₁ (obj k) (ws-name₁ (obj k))
+      ∙ alike _ _ name₁ name (obj k) (search needs) (name₁-name k _ (c .before .before .before .past-spaces .ensures .stop (search needs)) (c .if2 .left)),
+)
+
+object-label-requires : (t : ℕ) → object-lts.Need-label-requires (
+  past-spaces-reads.Asked,
+  past-spaces-reads.Learnt,
+  label-reads.Asked,
+  label-reads.Learnt,
+  value-below t,
+  value.Post,
+) (object-at t) object.Post object-Inv-loop object-μ-loop
+object-label-requires t c κs = search needs
+
+object-enum-known-m : (t : ℕ) → object-lts.Need-enum-known-m (
+  past-spaces-reads.Asked,
+  past-spaces-reads.Learnt,
+  label-reads.Asked,
+  label-reads.Learnt,
+  value-below t,
+  value.Post,
+) (object-at t) object.Post object-Inv-loop object-μ-loop
+object-enum-known-m t c = search needs
+
+object-returns-3 : (t : ℕ) → object-lts.Need-returns-3 (
+  past-spaces-reads.Asked,
+  past-spaces-reads.Learnt,
+  label-reads.Asked,
+  label-reads.Learnt,
+  value-below t,
+  value.Post,
+) (object-at t) object.Post object-Inv-loop object-μ-loop
+object-returns-3 t c =
+    record {
+      low = omega (arith, c .before .label .ensures .low);
+      high = c .before .label .ensures .high;
+      same = λ k e.
+          c .before .before .loop .inv .2 k e
+          ∙ c .before .label .ensures .same label (obj k)
+          ∙ stuck (c .before .label .result) _ val after (obj k) k (c .match .keys2);
+    }
+
+object-value-requires : (t : ℕ) → object-lts.Need-value-requires (
+  past-spaces-reads.Asked,
+  past-spaces-reads.Learnt,
+  label-reads.Asked,
+  label-reads.Learnt,
+  value-below t,
+  value.Post,
+) (object-at t) object.Post object-Inv-loop object-μ-loop
+object-value-requires t c κs =
+    let m = leaf-is (c .before .before .before .label .ensures) (c .before .m .given .1) in (
+      omega (arith, c .before .before .before .before .before .before .before .before .before .before .pre .0),
+      m .high,
+    )
+
+object-enum-known-r : (t : ℕ) → object-lts.Need-enum-known-r (
+  past-spaces-reads.Asked,
+  past-spaces-reads.Learnt,
+  label-reads.Asked,
+  label-reads.Learnt,
+  value-below t,
+  value.Post,
+) (object-at t) object.Post object-Inv-loop object-μ-loop
+object-enum-known-r t c = search needs
+
+object-returns-4 : (t : ℕ) → object-lts.Need-returns-4 (
+  past-spaces-reads.Asked,
+  past-spaces-reads.Learnt,
+  label-reads.Asked,
+  label-reads.Learnt,
+  value-below t,
+  value.Post,
+) (object-at t) object.Post object-Inv-loop object-μ-loop
+object-returns-4 t c =
+    let m = leaf-is (c .before .before .before .before .before .label .ensures) (c .before .before .before .m .given .1) in
+    record {
+      low = omega (arith, m .low, c .before .value .ensures .low);
+      high = c .before .value .ensures .high;
+      same = λ k e.
+          c .before .before .before .before .before .before .loop .inv .2 k e
+          ∙ m .same label (obj k)
+          ∙ c .before .value .ensures .same (obj k) e
+          ∙ stuck (c .before .value .result) _ after after (obj k) k (c .match2 .keys2);
+    }
+
+object-past-spaces-requires-2 : (t : ℕ) → object-lts.Need-past-spaces-requires-2 (
+  past-spaces-reads.Asked,
+  past-spaces-reads.Learnt,
+  label-reads.Asked,
+  label-reads.Learnt,
+  value-below t,
+  value.Post,
+) (object-at t) object.Post object-Inv-loop object-μ-loop
+object-past-spaces-requires-2 t c κs =
+    let m = leaf-is (c .before .before .before .before .before .before .before .label .ensures) (c .before .before .before .before .before .m .given .1) in
+    let l = nest-is (c .before .before .before .value .ensures) (c .before .r .given .1) in
+    l .high
+
+object-returns-5 : (t : ℕ) → object-lts.Need-returns-5 (
+  past-spaces-reads.Asked,
+  past-spaces-reads.Learnt,
+  label-reads.Asked,
+  label-reads.Learnt,
+  value-below t,
+  value.Post,
+) (object-at t) object.Post object-Inv-loop object-μ-loop
+object-returns-5 t c =
+    let m = leaf-is (c .before .before .before .before .before .before .before .before .before .label .ensures) (c .before .before .before .before .before .before .before .m .given .1) in
+    let l = nest-is (c .before .before .before .before .before .value .ensures) (c .before .before .before .r .given .1) in
+    record {
+      low = omega (arith, l .low, m .low);
+      high = search needs;
+      same = λ k e.
+          c .before .before .before .before .before .before .before .before .before .before .loop .inv .2 k e
+          ∙ m .same label (obj k)
+          ∙ l .same (obj k) e
+          ∙ c .before .past-spaces2 .ensures .same after (obj k) (λ b h. ws-obj b h k)
+          ∙ short-obj _ _ after k (search needs) (search needs);
+    }
+
+object-shared-slice-read-b : (t : ℕ) → object-lts.Need-shared-slice-read-b (
+  past-spaces-reads.Asked,
+  past-spaces-reads.Learnt,
+  label-reads.Asked,
+  label-reads.Learnt,
+  value-below t,
+  value.Post,
+) (object-at t) object.Post object-Inv-loop object-μ-loop
+object-shared-slice-read-b t c = search needs
+
+object-add-t21 : (t : ℕ) → object-lts.Need-add-t21 (
+  past-spaces-reads.Asked,
+  past-spaces-reads.Learnt,
+  label-reads.Asked,
+  label-reads.Learnt,
+  value-below t,
+  value.Post,
+) (object-at t) object.Post object-Inv-loop object-μ-loop
+object-add-t21 t c = search needs
+
+object-returns-6 : (t : ℕ) → object-lts.Need-returns-6 (
+  past-spaces-reads.Asked,
+  past-spaces-reads.Learnt,
+  label-reads.Asked,
+  label-reads.Learnt,
+  value-below t,
+  value.Post,
+) (object-at t) object.Post object-Inv-loop object-μ-loop
+object-returns-6 t c =
+    let m = leaf-is (c .before .before .before .before .before .before .before .before .before .before .before .label .ensures) (c .before .before .before .before .before .before .before .before .before .m .given .1) in
+    let l = nest-is (c .before .before .before .before .before .before .before .value .ensures) (c .before .before .before .before .before .r .given .1) in
+    record {
+      low = omega (arith, l .low, m .low);
+      high = search needs;
+      same = λ k e.
+          c .before .before .before .before .before .before .before .before .before .before .before .before .loop .inv .2 k e
+          ∙ m .same label (obj k)
+          ∙ l .same (obj k) e
+          ∙ c .before .before .before .past-spaces2 .ensures .same after (obj k) (λ b h. ws-obj b h k)
+          ∙ moves _ _ after (obj k) (live after k) (search needs) (obj-close k _ (c .if4 .taken));
+    }
+
+object-returns-7 : (t : ℕ) → object-lts.Need-returns-7 (
+  past-spaces-reads.Asked,
+  past-spaces-reads.Learnt,
+  label-reads.Asked,
+  label-reads.Learnt,
+  value-below t,
+  value.Post,
+) (object-at t) object.Post object-Inv-loop object-μ-loop
+object-returns-7 t c =
+    let m = leaf-is (c .before .before .before .before .before .before .before .before .before .before .before .before .label .ensures) (c .before .before .before .before .before .before .before .before .before .before .m .given .1) in
+    let l = nest-is (c .before .before .before .before .before .before .before .before .value .ensures) (c .before .before .before .before .before .before .r .given .1) in
+    record {
+      low = omega (arith, l .low, m .low);
+      high = search needs;
+      same = λ k e.
+          c .before .before .before .before .before .before .before .before .before .before .before .before .before .loop .inv .2 k e
+          ∙ m .same label (obj k)
+          ∙ l .same (obj k) e
+          ∙ c .before .before .before .before .past-spaces2 .ensures .same after (obj k) (λ b h. ws-obj b h k)
+          ∙ moves _ _ after (obj k) dead (search needs) (obj-miss k _ (c .before .before .before .before .past-spaces2 .ensures .stop (search needs)) (c .before .if4 .left) (c .if5 .taken));
+    }
+
+object-add-p : (t : ℕ) → object-lts.Need-add-p (
+  past-spaces-reads.Asked,
+  past-spaces-reads.Learnt,
+  label-reads.Asked,
+  label-reads.Learnt,
+  value-below t,
+  value.Post,
+) (object-at t) object.Post object-Inv-loop object-μ-loop
+object-add-p t c = search needs
+
+object-loop-less : (t : ℕ) → object-lts.Need-loop-less (
+  past-spaces-reads.Asked,
+  past-spaces-reads.Learnt,
+  label-reads.Asked,
+  label-reads.Learnt,
+  value-below t,
+  value.Post,
+) (object-at t) object.Post object-Inv-loop object-μ-loop
+object-loop-less t c =
+    let m = leaf-is (c .before .before .before .before .before .before .before .before .before .before .before .before .label .ensures) (c .before .before .before .before .before .before .before .before .before .before .m .given .1) in
+    let l = nest-is (c .before .before .before .before .before .before .before .before .value .ensures) (c .before .before .before .before .before .before .r .given .1) in
+    omega (arith, l .low, m .low)
+
+object-loop-again : (t : ℕ) → object-lts.Need-loop-again (
+  past-spaces-reads.Asked,
+  past-spaces-reads.Learnt,
+  label-reads.Asked,
+  label-reads.Learnt,
+  value-below t,
+  value.Post,
+) (object-at t) object.Post object-Inv-loop object-μ-loop
+object-loop-again t c =
+    let m = leaf-is (c .before .before .before .before .before .before .before .before .before .before .before .before .label .ensures) (c .before .before .before .before .before .before .before .before .before .before .m .given .1) in
+    let l = nest-is (c .before .before .before .before .before .before .before .before .value .ensures) (c .before .before .before .before .before .before .r .given .1) in (
+      omega (arith, l .low, m .low),
+      search needs,
+      λ k e.
+          c .before .before .before .before .before .before .before .before .before .before .before .before .before .loop .inv .2 k e
+          ∙ m .same label (obj k)
+          ∙ l .same (obj k) e
+          ∙ c .before .before .before .before .past-spaces2 .ensures .same after (obj k) (λ b h. ws-obj b h k)
+          ∙ moves _ _ after (obj k) (live name (obj k)) (search needs) (obj-comma k _ (c .if5 .left)),
+    )
+
+value-past-spaces-requires : (t : ℕ) → value-lts.Need-past-spaces-requires (
+  past-spaces-reads.Asked,
+  past-spaces-reads.Learnt,
+  string-reads.Asked,
+  string-reads.Learnt,
+  array-below t,
+  array.Post,
+  object-below t,
+  object.Post,
+  scalar-reads.Asked,
+  scalar-reads.Learnt,
+) (value-at t) value.Post
+value-past-spaces-requires t c κs = search needs
+
+value-returns : (t : ℕ) → value-lts.Need-returns (
+  past-spaces-reads.Asked,
+  past-spaces-reads.Learnt,
+  string-reads.Asked,
+  string-reads.Learnt,
+  array-below t,
+  array.Post,
+  object-below t,
+  object.Post,
+  scalar-reads.Asked,
+  scalar-reads.Learnt,
+) (value-at t) value.Post
+value-returns t c =
+    record {
+      low = search needs;
+      high = search needs;
+      same = λ k d.
+          c .before .past-spaces .ensures .same val k (ws-value k)
+          ∙ short _ _ val k (search needs) (search needs) refl;
+    }
+
+value-shared-slice-read-b : (t : ℕ) → value-lts.Need-shared-slice-read-b (
+  past-spaces-reads.Asked,
+  past-spaces-reads.Learnt,
+  string-reads.Asked,
+  string-reads.Learnt,
+  array-below t,
+  array.Post,
+  object-below t,
+  object.Post,
+  scalar-reads.Asked,
+  scalar-reads.Learnt,
+) (value-at t) value.Post
+value-shared-slice-read-b t c = search needs
+
+value-add-string : (t : ℕ) → value-lts.Need-add-string (
+  past-spaces-reads.Asked,
+  past-spaces-reads.Learnt,
+  string-reads.Asked,
+  string-reads.Learnt,
+  array-below t,
+  array.Post,
+  object-below t,
+  object.Post,
+  scalar-reads.Asked,
+  scalar-reads.Learnt,
+) (value-at t) value.Post
+value-add-string t c = search needs
+
+value-string-requires : (t : ℕ) → value-lts.Need-string-requires (
+  past-spaces-reads.Asked,
+  past-spaces-reads.Learnt,
+  string-reads.Asked,
+  string-reads.Learnt,
+  array-below t,
+  array.Post,
+  object-below t,
+  object.Post,
+  scalar-reads.Asked,
+  scalar-reads.Learnt,
+) (value-at t) value.Post
+value-string-requires t c κs = search needs
+
+value-returns-2 : (t : ℕ) → value-lts.Need-returns-2 (
+  past-spaces-reads.Asked,
+  past-spaces-reads.Learnt,
+  string-reads.Asked,
+  string-reads.Learnt,
+  array-below t,
+  array.Post,
+  object-below t,
+  object.Post,
+  scalar-reads.Asked,
+  scalar-reads.Learnt,
+) (value-at t) value.Post
+value-returns-2 t c =
+    record {
+      low = omega (arith, c .string .ensures .low);
+      high = c .string .ensures .high;
+      same = λ k d.
+          c .before .before .before .before .past-spaces .ensures .same val k (ws-value k)
+          ∙ moves _ _ val k (live (str plain) k) (search needs) (value-quote k _ (c .before .if2 .taken))
+          ∙ c .string .ensures .same plain k;
+    }
+
+value-returns-3 : (t : ℕ) → value-lts.Need-returns-3 (
+  past-spaces-reads.Asked,
+  past-spaces-reads.Learnt,
+  string-reads.Asked,
+  string-reads.Learnt,
+  array-below t,
+  array.Post,
+  object-below t,
+  object.Post,
+  scalar-reads.Asked,
+  scalar-reads.Learnt,
+) (value-at t) value.Post
+value-returns-3 t c =
+    record {
+      low = search needs;
+      high = search needs;
+      same = λ k d.
+          c .before .before .before .before .before .past-spaces .ensures .same val k (ws-value k)
+          ∙ moves _ _ val k deep (search needs) (value-arr-deep k _ (c .before .if3 .taken) (omega arith));
+    }
+
+value-add-array : (t : ℕ) → value-lts.Need-add-array (
+  past-spaces-reads.Asked,
+  past-spaces-reads.Learnt,
+  string-reads.Asked,
+  string-reads.Learnt,
+  array-below t,
+  array.Post,
+  object-below t,
+  object.Post,
+  scalar-reads.Asked,
+  scalar-reads.Learnt,
+) (value-at t) value.Post
+value-add-array t c = search needs
+
+value-sub-array : (t : ℕ) → value-lts.Need-sub-array (
+  past-spaces-reads.Asked,
+  past-spaces-reads.Learnt,
+  string-reads.Asked,
+  string-reads.Learnt,
+  array-below t,
+  array.Post,
+  object-below t,
+  object.Post,
+  scalar-reads.Asked,
+  scalar-reads.Learnt,
+) (value-at t) value.Post
+value-sub-array t c = search needs
+
+value-array-requires : (t : ℕ) → value-lts.Need-array-requires (
+  past-spaces-reads.Asked,
+  past-spaces-reads.Learnt,
+  string-reads.Asked,
+  string-reads.Learnt,
+  array-below t,
+  array.Post,
+  object-below t,
+  object.Post,
+  scalar-reads.Asked,
+  scalar-reads.Learnt,
+) (value-at t) value.Post
+value-array-requires t c κs = search needs
+
+value-returns-4 : (t : ℕ) → value-lts.Need-returns-4 (
+  past-spaces-reads.Asked,
+  past-spaces-reads.Learnt,
+  string-reads.Asked,
+  string-reads.Learnt,
+  array-below t,
+  array.Post,
+  object-below t,
+  object.Post,
+  scalar-reads.Asked,
+  scalar-reads.Learnt,
+) (value-at t) value.Post
+value-returns-4 t c =
+    record {
+      low = omega (arith, c .array .ensures .low);
+      high = c .array .ensures .high;
+      same = λ k d.
+          c .before .before .before .before .before .before .past-spaces .ensures .same val k (ws-value k)
+          ∙ moves _ _ val k (live first (arr k)) (search needs) (value-arr k _ (c .before .before .if3 .taken) (omega arith))
+          ∙ c .array .ensures .same k (omega arith);
+    }
+
+value-returns-5 : (t : ℕ) → value-lts.Need-returns-5 (
+  past-spaces-reads.Asked,
+  past-spaces-reads.Learnt,
+  string-reads.Asked,
+  string-reads.Learnt,
+  array-below t,
+  array.Post,
+  object-below t,
+  object.Post,
+  scalar-reads.Asked,
+  scalar-reads.Learnt,
+) (value-at t) value.Post
+value-returns-5 t c =
+    record {
+      low = search needs;
+      high = search needs;
+      same = λ k d.
+          c .before .before .before .before .before .before .past-spaces .ensures .same val k (ws-value k)
+          ∙ moves _ _ val k deep (search needs) (value-obj-deep k _ (c .before .if5 .taken) (omega arith));
+    }
+
+value-add-object : (t : ℕ) → value-lts.Need-add-object (
+  past-spaces-reads.Asked,
+  past-spaces-reads.Learnt,
+  string-reads.Asked,
+  string-reads.Learnt,
+  array-below t,
+  array.Post,
+  object-below t,
+  object.Post,
+  scalar-reads.Asked,
+  scalar-reads.Learnt,
+) (value-at t) value.Post
+value-add-object t c = search needs
+
+value-sub-object : (t : ℕ) → value-lts.Need-sub-object (
+  past-spaces-reads.Asked,
+  past-spaces-reads.Learnt,
+  string-reads.Asked,
+  string-reads.Learnt,
+  array-below t,
+  array.Post,
+  object-below t,
+  object.Post,
+  scalar-reads.Asked,
+  scalar-reads.Learnt,
+) (value-at t) value.Post
+value-sub-object t c = search needs
+
+value-object-requires : (t : ℕ) → value-lts.Need-object-requires (
+  past-spaces-reads.Asked,
+  past-spaces-reads.Learnt,
+  string-reads.Asked,
+  string-reads.Learnt,
+  array-below t,
+  array.Post,
+  object-below t,
+  object.Post,
+  scalar-reads.Asked,
+  scalar-reads.Learnt,
+) (value-at t) value.Post
+value-object-requires t c κs = search needs
+
+value-returns-6 : (t : ℕ) → value-lts.Need-returns-6 (
+  past-spaces-reads.Asked,
+  past-spaces-reads.Learnt,
+  string-reads.Asked,
+  string-reads.Learnt,
+  array-below t,
+  array.Post,
+  object-below t,
+  object.Post,
+  scalar-reads.Asked,
+  scalar-reads.Learnt,
+) (value-at t) value.Post
+value-returns-6 t c =
+    record {
+      low = omega (arith, c .object .ensures .low);
+      high = c .object .ensures .high;
+      same = λ k d.
+          c .before .before .before .before .before .before .before .past-spaces .ensures .same val k (ws-value k)
+          ∙ moves _ _ val k (live name₁ (obj k)) (search needs) (value-obj k _ (c .before .before .if5 .taken) (omega arith))
+          ∙ c .object .ensures .same k (omega arith);
+    }
+
+value-scalar-requires : (t : ℕ) → value-lts.Need-scalar-requires (
+  past-spaces-reads.Asked,
+  past-spaces-reads.Learnt,
+  string-reads.Asked,
+  string-reads.Learnt,
+  array-below t,
+  array.Post,
+  object-below t,
+  object.Post,
+  scalar-reads.Asked,
+  scalar-reads.Learnt,
+) (value-at t) value.Post
+value-scalar-requires t c κs =
+    record {
+      inside = search needs;
+      no-space = c .before .before .before .before .before .past-spaces .ensures .stop (search needs);
+      no-quote = c .before .before .if2 .left;
+      no-array = c .before .if3 .left;
+      no-object = c .if5 .left;
+    }
+
+value-returns-7 : (t : ℕ) → value-lts.Need-returns-7 (
+  past-spaces-reads.Asked,
+  past-spaces-reads.Learnt,
+  string-reads.Asked,
+  string-reads.Learnt,
+  array-below t,
+  array.Post,
+  object-below t,
+  object.Post,
+  scalar-reads.Asked,
+  scalar-reads.Learnt,
+) (value-at t) value.Post
+value-returns-7 t c =
+    record {
+      low = omega (arith, c .scalar .ensures .low);
+      high = c .scalar .ensures .high;
+      same = λ k d.
+          c .before .before .before .before .before .before .past-spaces .ensures .same val k (ws-value k)
+          ∙ c .scalar .ensures .same label k;
+    }
+
+pub +array+object+value-spec : {M : Type 1} → statement M
++array+object+value-spec = close μ-array μ-object μ-value (λ t. array-lts.spec (
+  past-spaces-reads.Asked,
+  past-spaces-reads.Learnt,
+  value-below t,
+  value.Post,
+)
+    (array-at t)
+    array.Post
+    array-Inv-loop
+    array-μ-loop
+    (array-past-spaces-requires t)
+    (array-returns t)
+    (array-shared-slice-read-if2 t)
+    (array-add-t14 t)
+    (array-returns-2 t)
+    (array-loop-holds t)
+    (array-value-requires t)
+    (array-enum-known-r t)
+    (array-returns-3 t)
+    (array-past-spaces-requires-2 t)
+    (array-returns-4 t)
+    (array-shared-slice-read-b t)
+    (array-add-t19 t)
+    (array-returns-5 t)
+    (array-returns-6 t)
+    (array-add-p t)
+    (array-loop-less t)
+    (array-loop-again t))
+    (λ t. object-lts.spec (
+      past-spaces-reads.Asked,
+      past-spaces-reads.Learnt,
+      label-reads.Asked,
+      label-reads.Learnt,
+      value-below t,
+      value.Post,
+    )
+    (object-at t)
+    object.Post
+    object-Inv-loop
+    object-μ-loop
+    (object-past-spaces-requires t)
+    (object-returns t)
+    (object-shared-slice-read-if2 t)
+    (object-add-t16 t)
+    (object-returns-2 t)
+    (object-loop-holds t)
+    (object-label-requires t)
+    (object-enum-known-m t)
+    (object-returns-3 t)
+    (object-value-requires t)
+    (object-enum-known-r t)
+    (object-returns-4 t)
+    (object-past-spaces-requires-2 t)
+    (object-returns-5 t)
+    (object-shared-slice-read-b t)
+    (object-add-t21 t)
+    (object-returns-6 t)
+    (object-returns-7 t)
+    (object-add-p t)
+    (object-loop-less t)
+    (object-loop-again t))
+    λ t. value-lts.spec (
+      past-spaces-reads.Asked,
+      past-spaces-reads.Learnt,
+      string-reads.Asked,
+      string-reads.Learnt,
+      array-below t,
+      array.Post,
+      object-below t,
+      object.Post,
+      scalar-reads.Asked,
+      scalar-reads.Learnt,
+    )
+    (value-at t)
+    value.Post
+    (value-past-spaces-requires t)
+    (value-returns t)
+    (value-shared-slice-read-b t)
+    (value-add-string t)
+    (value-string-requires t)
+    (value-returns-2 t)
+    (value-returns-3 t)
+    (value-add-array t)
+    (value-sub-array t)
+    (value-array-requires t)
+    (value-returns-4 t)
+    (value-returns-5 t)
+    (value-add-object t)
+    (value-sub-object t)
+    (value-object-requires t)
+    (value-returns-6 t)
+    (value-scalar-requires t)
+    (value-returns-7 t)

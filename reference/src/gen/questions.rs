@@ -1,0 +1,580 @@
+//! Lines for `rules`: for each name texts that keep its rule, texts at both
+//! sides of each mark, the same with one byte changed, and bytes at random.
+
+use super::draft;
+use super::rng::Rng;
+use super::texts;
+use crate::fields::{self, Tag};
+use crate::rules::{self, ContentType, Method};
+use crate::writing::STATUS_TEXTS;
+
+type Maker = fn(&mut Rng) -> Vec<u8>;
+
+/// A name, how often it is asked, a text that keeps its rule mostly, and one
+/// that mostly breaks it or stands near a mark.
+struct Name {
+    name: &'static str,
+    weight: usize,
+    good: Maker,
+    near: Maker,
+}
+
+const fn name(name: &'static str, weight: usize, good: Maker, near: Maker) -> Name {
+    Name {
+        name,
+        weight,
+        good,
+        near,
+    }
+}
+
+/// Every name that is asked.
+static NAMES: [Name; 32] = [
+    name("fire-id", 4, texts::fire_id, |rng| {
+        let near = |rng: &mut Rng| at_length(rng, b"abz09_", 2, 15);
+        either(rng, texts::bad_fire_id, near)
+    }),
+    name("user-id", 4, texts::user_id, |rng| {
+        at_length(rng, b"azAZ09", 1, 15)
+    }),
+    name("call-id", 4, texts::call_id, |rng| {
+        let near = |rng: &mut Rng| at_length(rng, b"azAZ09-.", 2, 64);
+        either(rng, texts::bad_call_id, near)
+    }),
+    name("date", 12, texts::date, |rng| {
+        either(rng, texts::bad_date, near_date)
+    }),
+    name("host", 4, texts::host, |rng| {
+        let near = |rng: &mut Rng| at_length(rng, b"azAZ09-.", 1, 253);
+        either(rng, texts::bad_host, near)
+    }),
+    name("destination", 4, texts::destination, |rng| {
+        let near = |rng: &mut Rng| at_length(rng, b"!#[]~az", 1, 64);
+        either(rng, texts::bad_destination, near)
+    }),
+    name("organization", 4, texts::organization, |rng| {
+        let near = |rng: &mut Rng| at_length(rng, b"azAZ09-", 2, 10);
+        either(rng, texts::bad_organization, near)
+    }),
+    name("desk", 4, desk, near_desk),
+    name("message-id", 8, texts::message_id, |rng| {
+        either(rng, texts::bad_message_id, near_message_id)
+    }),
+    name("message-type", 2, content_type, |rng| {
+        near_word(rng, content_type)
+    }),
+    name("notify-type", 2, content_type, |rng| {
+        near_word(rng, content_type)
+    }),
+    name("image", 2, image, |rng| near_word(rng, image)),
+    name("memo", 4, memo, near_memo),
+    name("language", 3, language, |rng| at_length(rng, b"az", 2, 2)),
+    name("cseq", 10, cseq, near_cseq),
+    name("address", 10, address, |rng| {
+        either(rng, texts::bad_address, near_address)
+    }),
+    name("status", 5, status, |rng| {
+        either(rng, texts::bad_status, near_status)
+    }),
+    name("availability", 2, availability, |rng| {
+        near_word(rng, availability)
+    }),
+    name("content-type", 3, content_type, |rng| {
+        near_word(rng, content_type)
+    }),
+    name("presence", 2, presence, |rng| near_word(rng, presence)),
+    name("call-mode", 2, call_mode, |rng| near_word(rng, call_mode)),
+    name("call-test", 2, call_test, |rng| near_word(rng, call_test)),
+    name("secure-call", 2, secure_call, |rng| {
+        near_word(rng, secure_call)
+    }),
+    name("rescuee", 2, rescuee, |rng| near_word(rng, rescuee)),
+    name("service", 2, service, |rng| near_word(rng, service)),
+    name("tag", 2, tag, |rng| near_word(rng, tag)),
+    name("method", 3, method, |rng| near_word(rng, method)),
+    name("field", 6, field, |rng| near_word(rng, field)),
+    name("hop-member", 2, hop_member, |rng| {
+        near_word(rng, hop_member)
+    }),
+    name("phrase", 6, listed_code, any_code),
+    name(
+        "tag-asks",
+        5,
+        |rng| two_up_to(rng, 4, 26),
+        |rng| two_up_to(rng, 6, 28),
+    ),
+    name(
+        "method-asks",
+        5,
+        |rng| two_up_to(rng, 8, 26),
+        |rng| two_up_to(rng, 10, 28),
+    ),
+];
+
+/// The next line, without its line feed.
+pub fn line(rng: &mut Rng) -> Vec<u8> {
+    if rng.one_in(60) {
+        return odd_line(rng);
+    }
+    let name = any_name(rng);
+    let asks_a_table = name.name.ends_with("-asks");
+    let bytes = match rng.below(12) {
+        0..=3 => (name.good)(rng),
+        4..=6 => (name.near)(rng),
+        // A table has two bytes at most: it is not said what more would mean.
+        7..=10 if asks_a_table => (name.good)(rng),
+        _ if asks_a_table => {
+            let length = rng.below(3);
+            (0..length).map(|_| rng.byte()).collect()
+        }
+        7..=9 => {
+            let mut text = (name.good)(rng);
+            change_a_byte(rng, &mut text);
+            text
+        }
+        10 => (any_name(rng).good)(rng),
+        _ => any_bytes(rng),
+    };
+    written(name.name, &bytes)
+}
+
+/// One of the names, each as often as its weight says.
+fn any_name(rng: &mut Rng) -> &'static Name {
+    let weighted: Vec<(usize, &Name)> = NAMES.iter().map(|name| (name.weight, name)).collect();
+    rng.weighted(&weighted)
+}
+
+fn written(name: &str, bytes: &[u8]) -> Vec<u8> {
+    let hex: String = bytes.iter().map(|byte| format!("{byte:02x}")).collect();
+    format!("{name} {hex}").into()
+}
+
+fn either(rng: &mut Rng, one: Maker, other: Maker) -> Vec<u8> {
+    if rng.one_in(2) {
+        one(rng)
+    } else {
+        other(rng)
+    }
+}
+
+/// Bytes of a class, at either end of the range of lengths or just outside.
+fn at_length(rng: &mut Rng, class: &[u8], low: usize, high: usize) -> Vec<u8> {
+    let length = *rng.pick(&[low - 1, low, low + 1, high - 1, high, high + 1]);
+    rng.text(class, length)
+}
+
+/// Changes, adds or removes one byte, often by little.
+fn change_a_byte(rng: &mut Rng, text: &mut Vec<u8>) {
+    if text.is_empty() {
+        text.push(rng.byte());
+        return;
+    }
+    let at = rng.below(text.len());
+    let other = match rng.below(6) {
+        0 => text[at] ^ 0x20,
+        1 => text[at].wrapping_add(1),
+        2 => text[at].wrapping_sub(1),
+        3 => rng.byte(),
+        4 => *rng.pick(b"/09:@AZ[`az{"),
+        _ => *rng.pick(b"-._@ :+/\\\"0T\x00\x7f\x80\xff"),
+    };
+    match rng.below(4) {
+        0 => text.insert(at, other),
+        1 => text.push(other),
+        2 => {
+            text.remove(at);
+        }
+        _ => text[at] = other,
+    }
+}
+
+/// Few bytes at random, of all or of those that texts are made of.
+fn any_bytes(rng: &mut Rng) -> Vec<u8> {
+    let length = rng.below(26);
+    if rng.one_in(2) {
+        (0..length).map(|_| rng.byte()).collect()
+    } else {
+        rng.text(b"abzABZ0129-._:@ +/\\T", length)
+    }
+}
+
+fn desk(rng: &mut Rng) -> Vec<u8> {
+    [texts::fire_id(rng), b".callee".to_vec()].concat()
+}
+
+fn near_desk(rng: &mut Rng) -> Vec<u8> {
+    let fire = match rng.below(3) {
+        0 => texts::fire_id(rng),
+        1 => texts::bad_fire_id(rng),
+        _ => at_length(rng, b"abz09", 2, 15),
+    };
+    let ends = [".callee", ".callee", ".caller", "callee", ".calle", ""];
+    [fire, rng.pick(&ends).as_bytes().to_vec()].concat()
+}
+
+/// A text of about 64 bytes, or one part of it near its own marks.
+fn near_message_id(rng: &mut Rng) -> Vec<u8> {
+    let side = *rng.pick(&["caller", "callee", "caller", "callee", "", "call"]);
+    let fire = at_length(rng, b"abz09_", 2, 15);
+    let room = 64usize.saturating_sub(side.len() + fire.len() + 2);
+    let own = if rng.one_in(3) {
+        at_length(rng, b"azAZ09-", 1, room)
+    } else {
+        at_length(rng, b"azAZ09", 1, room)
+    };
+    [side.as_bytes().to_vec(), fire, own].join(&b'-')
+}
+
+/// A date with one or two of its numbers at or past an end of their range, or
+/// the end of a February.
+fn near_date(rng: &mut Rng) -> Vec<u8> {
+    if rng.one_in(3) {
+        let year = match rng.below(4) {
+            0 => rng.between(1, 24) * 400,
+            1 => rng.between(1, 99) * 100,
+            2 => rng.between(1, 2499) * 4,
+            _ => rng.between(1, 9999),
+        };
+        let day = rng.between(28, 30);
+        return format!("{year:04}-02-{day}T00:00:00+0000").into();
+    }
+    const EDGES: [(usize, &[&str]); 8] = [
+        (0, &["0000", "0001", "9999"]),
+        (5, &["00", "01", "12", "13"]),
+        (8, &["00", "01", "28", "29", "30", "31", "32"]),
+        (11, &["00", "23", "24"]),
+        (14, &["00", "59", "60"]),
+        (17, &["00", "59", "60"]),
+        (20, &["00", "14", "15"]),
+        (22, &["00", "59", "60"]),
+    ];
+    let mut text = texts::date(rng);
+    for _ in 0..rng.between(1, 2) {
+        let (at, numbers) = *rng.pick(&EDGES);
+        let number = rng.pick(numbers).as_bytes();
+        text[at..at + number.len()].copy_from_slice(number);
+    }
+    text
+}
+
+fn image(rng: &mut Rng) -> Vec<u8> {
+    const IMAGES: &[&str] = &[
+        "https://",
+        "https://x.jp/1.jpg",
+        "https://a\\n",
+        "https:///",
+    ];
+    rng.pick(IMAGES).as_bytes().to_vec()
+}
+
+fn memo(rng: &mut Rng) -> Vec<u8> {
+    let count = *rng.pick(&[0, 1, 20, 127, 128]);
+    texts::memo(rng, count)
+}
+
+/// A memo of about 128 code points of any mix, bad UTF-8 among them, at times
+/// with a backslash.
+fn near_memo(rng: &mut Rng) -> Vec<u8> {
+    const UNITS: &[&[u8]] = &[
+        b"a",
+        b"\"",
+        b"\x00",
+        "\u{e9}".as_bytes(),
+        "語".as_bytes(),
+        "\u{1f600}".as_bytes(),
+        b"\xff",
+        b"\xc0",
+        b"\x7f\x80\xbf",
+        b"\xc2\xbf\x80\x80",
+    ];
+    let count = rng.between(126, 130);
+    let few = [*rng.pick(UNITS), *rng.pick(UNITS)];
+    let mut text: Vec<u8> = (0..count).flat_map(|_| *rng.pick(&few)).copied().collect();
+    if rng.one_in(6) {
+        let at = rng.below(text.len() + 1);
+        text.insert(at, b'\\');
+    }
+    if rng.one_in(6) {
+        text.splice(0..0, vec![0x80; 3]);
+    }
+    text
+}
+
+fn language(rng: &mut Rng) -> Vec<u8> {
+    rng.text(b"abjmnyz", 2)
+}
+
+fn cseq(rng: &mut Rng) -> Vec<u8> {
+    let (_, method) = *rng.pick(&Method::ALL);
+    format!("{} {method}", draft::number(rng)).into()
+}
+
+/// A bad CSeq, or a number around a power of ten or the end of its range.
+fn near_cseq(rng: &mut Rng) -> Vec<u8> {
+    let (_, method) = *rng.pick(&Method::ALL);
+    if rng.one_in(2) {
+        return texts::bad_cseq(rng, method);
+    }
+    let middle = match rng.below(3) {
+        0 => u64::from(u32::MAX),
+        1 => 10u64.pow(rng.below(20) as u32),
+        _ => rng.below(5_000_000_000) as u64,
+    };
+    let number = (middle + rng.below(4) as u64).saturating_sub(1);
+    format!("{number} {method}").into()
+}
+
+fn address(rng: &mut Rng) -> Vec<u8> {
+    let fire = texts::fire_id(rng);
+    if rng.one_in(2) {
+        [b"net119:fire@", &fire[..], b".callee"].concat()
+    } else {
+        let user = texts::user_id(rng);
+        [b"net119:", &user[..], b"@", &fire, b".caller"].concat()
+    }
+}
+
+/// An address of parts that are each near their marks.
+fn near_address(rng: &mut Rng) -> Vec<u8> {
+    let scheme = *rng.pick(&["net119:", "net119:", "net119:", "net119", ""]);
+    let user = match rng.below(3) {
+        0 => b"fire".to_vec(),
+        1 => texts::user_id(rng),
+        _ => at_length(rng, b"azAZ09", 1, 15),
+    };
+    let fire = match rng.below(3) {
+        0 => texts::fire_id(rng),
+        1 => at_length(rng, b"abz09", 2, 15),
+        _ => at_length(rng, b"abz09_", 2, 15),
+    };
+    let side = *rng.pick(&[".caller", ".callee", ".caller", ".callee", ".caller.callee"]);
+    [scheme.as_bytes(), &user, b"@", &fire, side.as_bytes()].concat()
+}
+
+fn status(rng: &mut Rng) -> Vec<u8> {
+    let code = rng.between(100, 699);
+    [format!("{code} ").as_bytes(), &texts::phrase(rng)].concat()
+}
+
+fn near_status(rng: &mut Rng) -> Vec<u8> {
+    let code = *rng.pick(&[0, 99, 100, 101, 599, 600, 698, 699, 700, 701, 999, 1000]);
+    let space = *rng.pick(&[" ", " ", " ", "", "\t", "0"]);
+    let rest = any_bytes(rng);
+    [format!("{code:03}{space}").as_bytes(), &rest].concat()
+}
+
+fn word(rng: &mut Rng, words: &[&str]) -> Vec<u8> {
+    rng.pick(words).as_bytes().to_vec()
+}
+
+/// A word in other letters, cut, gone on, or stuck to another of its kind.
+fn near_word(rng: &mut Rng, word: Maker) -> Vec<u8> {
+    let mut text = word(rng);
+    let at = rng.below(text.len() + 1);
+    match rng.below(7) {
+        0 => text.make_ascii_uppercase(),
+        1 => text.make_ascii_lowercase(),
+        2 => text.truncate(at),
+        3 => {
+            text.drain(..at);
+        }
+        4 => text.push(*rng.pick(b" s0\x00\"")),
+        5 => text.insert(0, *rng.pick(b" \"0")),
+        _ => text.append(&mut word(rng)),
+    }
+    text
+}
+
+fn content_type(rng: &mut Rng) -> Vec<u8> {
+    word(rng, &ContentType::ALL.map(|(_, name)| name))
+}
+
+fn availability(rng: &mut Rng) -> Vec<u8> {
+    word(rng, &rules::AVAILABILITIES)
+}
+
+fn presence(rng: &mut Rng) -> Vec<u8> {
+    word(rng, &rules::PRESENCES)
+}
+
+fn call_mode(rng: &mut Rng) -> Vec<u8> {
+    word(rng, &rules::CALL_MODES)
+}
+
+fn call_test(rng: &mut Rng) -> Vec<u8> {
+    word(rng, &rules::CALL_TESTS)
+}
+
+fn secure_call(rng: &mut Rng) -> Vec<u8> {
+    word(rng, &rules::SECURE_CALLS)
+}
+
+fn rescuee(rng: &mut Rng) -> Vec<u8> {
+    word(rng, &rules::RESCUEES)
+}
+
+fn service(rng: &mut Rng) -> Vec<u8> {
+    word(rng, &rules::SERVICES)
+}
+
+fn tag(rng: &mut Rng) -> Vec<u8> {
+    word(rng, &Tag::NAMES)
+}
+
+fn method(rng: &mut Rng) -> Vec<u8> {
+    word(rng, &Method::ALL.map(|(_, name)| name))
+}
+
+fn field(rng: &mut Rng) -> Vec<u8> {
+    word(rng, &fields::NAMES)
+}
+
+fn hop_member(rng: &mut Rng) -> Vec<u8> {
+    word(rng, &rules::HOP_MEMBERS)
+}
+
+fn listed_code(rng: &mut Rng) -> Vec<u8> {
+    rng.pick(&STATUS_TEXTS).0.to_be_bytes().to_vec()
+}
+
+/// A code beside a listed one or any, at times with a byte too few or more.
+fn any_code(rng: &mut Rng) -> Vec<u8> {
+    let listed = rng.pick(&STATUS_TEXTS).0;
+    let code = match rng.below(4) {
+        0 => listed + 1,
+        1 => listed - 1,
+        2 => rng.below(1000) as u16,
+        _ => listed,
+    };
+    let mut bytes = code.to_be_bytes().to_vec();
+    match rng.below(6) {
+        0 => bytes.reverse(),
+        1 => bytes.truncate(1),
+        2 => bytes.clear(),
+        3 => bytes.push(rng.byte()),
+        _ => {}
+    }
+    bytes
+}
+
+/// Two bytes for a table, the first at most `row`, the second at most `column`.
+fn two_up_to(rng: &mut Rng, row: usize, column: usize) -> Vec<u8> {
+    vec![rng.below(row + 1) as u8, rng.below(column + 1) as u8]
+}
+
+/// Lines that are answered `?`, and some that only look like it.
+fn odd_line(rng: &mut Rng) -> Vec<u8> {
+    const ODD: &[&str] = &[
+        "",
+        " ",
+        "?",
+        "\r",
+        "fire-id",
+        "fire-id ",
+        "fire-id  6b31",
+        " fire-id 6b31",
+        "fire-id 6b31 ",
+        "fire-id 6b31\r",
+        "fire-id 6b 31",
+        "fire-id 6b3",
+        "fire-id 6B31",
+        "fire-id 6c3g",
+        "fire-id -",
+        "fire-id --",
+        "fire-id\t6b31",
+        "fire-id6b31",
+        "Fire-ID 6b31",
+        "fire-ids 6b31",
+        "fire-i 6b31",
+        "fire_id 6b31",
+        "fire 6b31",
+        "session-id 4131",
+        "to 4131",
+        "6b31",
+        " 6b31",
+        "memo ",
+        "cseq ",
+        "phrase ",
+        "phrase 0",
+        "phrase 00c",
+        "tag-asks ",
+        "tag-asks 0500",
+        "tag-asks 001b",
+        "tag-asks 041a",
+        "method-asks ",
+        "method-asks 0900",
+        "method-asks 001b",
+        "method-asks 081a",
+        "date 323032342d30322d32395432333a35393a35392b30393030",
+    ];
+    rng.pick(ODD).as_bytes().to_vec()
+}
+
+#[cfg(test)]
+mod tests {
+    use super::*;
+    use crate::rule_lines;
+    use std::collections::{BTreeMap, BTreeSet};
+
+    #[test]
+    fn every_question_has_its_texts() {
+        let asked: Vec<&str> = NAMES.iter().map(|name| name.name).collect();
+        let known: Vec<&str> = rule_lines::QUESTIONS
+            .iter()
+            .map(|(name, _)| *name)
+            .collect();
+        assert_eq!(asked, known);
+    }
+
+    /// The answers to each name, in a long run.
+    fn answers_by_name() -> BTreeMap<String, BTreeSet<String>> {
+        let mut rng = Rng::new(1);
+        let lines: Vec<Vec<u8>> = (0..20_000).map(|_| line(&mut rng)).collect();
+        let mut out = Vec::new();
+        rule_lines::run(&lines.join(&b'\n')[..], &mut out).unwrap();
+        let answers = String::from_utf8(out).unwrap();
+        let mut all: BTreeMap<String, BTreeSet<String>> = BTreeMap::new();
+        for (line, answer) in lines.iter().zip(answers.lines()) {
+            let line = String::from_utf8_lossy(line);
+            let name = line.split(' ').next().unwrap_or_default();
+            let answers = all.entry(name.into()).or_default();
+            answers.insert(answer.into());
+        }
+        all
+    }
+
+    #[test]
+    fn every_answer_is_reached() {
+        let all = answers_by_name();
+        for (name, question) in &rule_lines::QUESTIONS {
+            let answers = &all[*name];
+            let wanted: Vec<String> = match question {
+                rule_lines::Question::Keeps(_) => vec!["yes".into(), "no".into()],
+                rule_lines::Question::Number(number) => {
+                    let words = NAMES.iter().find(|known| known.name == *name).unwrap();
+                    let mut rng = Rng::new(2);
+                    let numbers = (0..500).filter_map(|_| number(&(words.good)(&mut rng)));
+                    numbers
+                        .chain([0])
+                        .map(|number| number.to_string())
+                        .collect()
+                }
+                rule_lines::Question::Says(_) => vec!["no".into()],
+                rule_lines::Question::Table(_) => vec!["0".into(), "1".into(), "?".into()],
+            };
+            for answer in wanted {
+                assert!(answers.contains(&answer), "{name}: {answer}");
+            }
+        }
+        assert!(all["method-asks"].contains("2"));
+        // All listed codes, besides `no` and `?`.
+        assert_eq!(all["phrase"].len(), STATUS_TEXTS.len() + 2);
+        // The longest user with the longest Fire-ID.
+        assert!(all["address"].contains("caller 22 38"));
+        assert!(all["address"].contains("callee 27"));
+        for code in 1..=8 {
+            assert!(all["cseq"].contains(&format!("4294967295 {code}")));
+        }
+        assert!(all["status"].contains("100") && all["status"].contains("699"));
+    }
+}

@@ -1,0 +1,66 @@
+//! Lines for `json`.
+
+use super::damage;
+use super::draft::Plan;
+use super::flow;
+use super::raw;
+use super::rng::Rng;
+use crate::hex;
+use crate::message::MAX_LENGTH;
+
+/// The next line, without its line feed.
+pub fn line(rng: &mut Rng) -> Vec<u8> {
+    let mut text = match rng.below(2000) {
+        0 => long(rng),
+        1..=29 => return odd_line(rng),
+        30..=149 => {
+            let plan = Plan::random(rng);
+            flow::message(rng, &plan)
+        }
+        150..=249 => rng.text(b"[]{}\",:0 ", 14),
+        250..=299 => {
+            let length = rng.between(1, 6);
+            (0..length).map(|_| rng.byte()).collect()
+        }
+        _ => raw::text(rng),
+    };
+    if rng.one_in(8) {
+        damage::scatter(rng, &mut text);
+    }
+    let mut line = Vec::new();
+    hex::encode(&text, &mut line);
+    line
+}
+
+/// A text about as long as a message may be, which is no matter here.
+fn long(rng: &mut Rng) -> Vec<u8> {
+    let length = rng.between(MAX_LENGTH - 1, MAX_LENGTH + 2);
+    let mut text = raw::text(rng);
+    damage::grow(rng, &mut text, length);
+    text
+}
+
+/// Lines of no bytes, and lines that are answered `?`.
+fn odd_line(rng: &mut Rng) -> Vec<u8> {
+    const ODD: &[&str] = &[
+        "",
+        "-",
+        "--",
+        "-5b",
+        "5",
+        "5b5",
+        "5B5D",
+        "5b5D",
+        "5b5g",
+        "5b 5d",
+        " 5b5d",
+        "5b5d ",
+        "5b5d\r",
+        "\r",
+        "?",
+        "[]",
+        "0x5b",
+        "read 5b5d",
+    ];
+    rng.pick(ODD).as_bytes().to_vec()
+}

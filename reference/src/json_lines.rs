@@ -1,0 +1,85 @@
+//! Rows 4 and 5 of 01 Reading alone: each line is a text in hex, answered `ok`
+//! or `no N PLACE`. `-` or an empty line is the text of no bytes, and what is
+//! not hex is answered `?`. A text's length and its UTF-8 are not looked at.
+
+use crate::hex;
+use crate::json;
+use crate::lines;
+use crate::probe::MAX_LINE;
+use std::io::{self, BufRead, Write};
+
+/// Answers every line of `input` on `output`.
+pub fn run(input: impl BufRead, output: impl Write) -> io::Result<()> {
+    lines::answer_each(input, output, MAX_LINE, |line, out| {
+        out.extend_from_slice(answer(line).as_bytes());
+    })
+}
+
+fn answer(line: &[u8]) -> String {
+    let word = if line == b"-" { b"" } else { line };
+    let Some(bytes) = hex::decode_pairs(word) else {
+        return "?".into();
+    };
+    match json::parse(&bytes) {
+        Ok(_) => "ok".into(),
+        Err(fault) => {
+            let (number, place) = fault.row();
+            format!("no {number} {place}")
+        }
+    }
+}
+
+#[cfg(test)]
+mod tests {
+    use super::*;
+
+    fn answers(script: &str) -> Vec<String> {
+        let mut out = Vec::new();
+        run(script.as_bytes(), &mut out).unwrap();
+        let text = String::from_utf8(out).unwrap();
+        text.lines().map(str::to_string).collect()
+    }
+
+    fn of(text: &[u8]) -> String {
+        let mut word = Vec::new();
+        hex::encode(text, &mut word);
+        answer(&word)
+    }
+
+    #[test]
+    fn rows_4_and_5() {
+        for (text, wanted) in [
+            ("[]", "ok"),
+            (" 0 ", "ok"),
+            ("[01]", "no 4 2"),
+            ("[", "no 4 1"),
+            ("", "no 4 0"),
+            ("[[[[[[[[]]]]]]]]", "ok"),
+            ("[[[[[[[[[]]]]]]]]]", "no 5 8"),
+            ("[[[[[[[[1[", "no 4 9"),
+        ] {
+            assert_eq!(of(text.as_bytes()), wanted, "{text}");
+        }
+    }
+
+    #[test]
+    fn no_other_row() {
+        assert_eq!(of(b"\"\xff\x80\xed\xa0\x80\""), "ok");
+        assert_eq!(of(b"\xff"), "no 4 0");
+        let long = [&[b' '; 32_768][..], b"[]"].concat();
+        assert_eq!(of(&long), "ok");
+        assert_eq!(of(&vec![b' '; 50_000]), "no 4 50000");
+    }
+
+    #[test]
+    fn lines_of_no_bytes_and_of_no_hex() {
+        assert!(answers("").is_empty());
+        assert_eq!(answers("\n-\n5b5d"), ["no 4 0", "no 4 0", "ok"]);
+        for line in ["5", "5B", "5b 5d", " 5b5d", "5b5d\r", "--", "5b-", "0x"] {
+            assert_eq!(answer(line.as_bytes()), "?", "{line}");
+        }
+        let longest = "20".repeat(MAX_LINE / 2);
+        let script = format!("{longest}\n{longest}2\n30");
+        assert_eq!(answers(&script), ["no 4 85000", "?", "ok"]);
+    }
+}
