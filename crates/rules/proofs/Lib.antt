@@ -1,0 +1,10 @@
+pub mod PieceLaws
+pub mod Table
+pub mod NameLaws
+pub mod StatusLaws
+pub mod SequenceLaws
+pub mod AddressLaws
+pub mod PartLaws
+pub mod FieldLaws
+pub mod DateLaws
+pub mod Marks

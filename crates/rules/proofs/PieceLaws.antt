@@ -1,0 +1,146 @@
+-- The pieces' laws: a run, a digit and a code point at a time for the loops, and what one byte at a place means. Assumes nothing.
+use Prim.Native.Nat.{_*_, _+_, _-_, _<_, _≤_, suc, zero, ℕ}
+use mathlib.Core.Bool.{Bool, _&&_, false, true}
+use mathlib.Core.List.{List, _∷_, []}
+use mathlib.Core.Path.{_∙_, _≡_, ap, refl, sym}
+use native.Mathlib.Nat.{zero-add}
+use native.Mathlib.Numerals.{add-one}
+use native.Mathlib.Omega.{arith}
+use borrow.Author.Tests.{eq-eqb, eqb-false, eqb-true, le-leb, lt-leb, ltb-false, ltb-true, ne-eqb}
+use lib.Dec.{eqb, leb, ltb}
+use lib.ListN.{List·getD-eq-default, drop, drop-of-length-le, getD, length}
+use lib.Seq.{drop-cons, drop-nil}
+use Rattle.octets.proofs.ClassLaws.{all-ends, all-more, all-stops}
+use Rattle.octets.specs.Class.{all, among, isDigit}
+use Rattle.octets.specs.Text.{same, standsAt}
+use Rattle.rules.specs.Classes.{holds}
+use Rattle.rules.specs.Pieces.{digits, pickN, span, value}
+use Rattle.rules.specs.Texts.{begins, memoRule, points, unescaped}
+use Rattle.rules.specs.declared.classes.Class.{Class}
+
+module _ (k : Class) (s : List ℕ) (i : ℕ) where
+  pub span-more : i < length s → holds k (getD s i 0) ≡ true → i + span k (drop i s) ≡ (i + 1) + span k (drop (i + 1) s)
+  unfolding span
+  span-more h e = rw (add-one, drop-cons s i 0, e) (omega arith)
+
+  pub span-stops : i < length s → holds k (getD s i 0) ≡ false → i + span k (drop i s) ≡ i
+  unfolding span
+  span-stops h e = rw (drop-cons s i 0, e) (omega arith)
+
+  pub span-ends : length s ≤ i → i + span k (drop i s) ≡ i
+  unfolding span
+  span-ends h = rw (drop-of-length-le s h) (omega arith)
+
+no-points : (n : ℕ) → n + points [] ≡ n
+unfolding points
+no-points n = omega arith
+
+and-false : (b : Bool) → (b && false) ≡ false
+and-false true = refl
+and-false false = refl
+
+and-true : (b : Bool) → (b && true) ≡ b
+and-true true = refl
+and-true false = refl
+
+-- one more digit
+module _ (s : List ℕ) (at : ℕ) where
+  pub digits-more : (i : ℕ) → digits i s at ≡ true → isDigit (getD s (at + i) 0) ≡ true → digits (i + 1) s at ≡ true
+  unfolding digits
+  digits-more i e d = rw (add-one, e, d)
+
+  digits-stop : (i n : ℕ) (t : Bool) → eqb i n ≡ t → isDigit (getD s (at + i) 0) ≡ false → (t ≡ false → digits n s at ≡ false) → digits (suc n) s at ≡ false
+  unfolding digits
+  digits-stop i n true e d f = rw (← eqb-true i n e, d) (and-false (digits i s at))
+  digits-stop i n false e d f = rw (f refl)
+
+  pub digits-stops : (i n : ℕ) → i < n → isDigit (getD s (at + i) 0) ≡ false → digits n s at ≡ false
+  digits-stops i zero h d = absurd (omega arith)
+  digits-stops i (suc n) h d =
+      digits-stop i n (eqb i n) refl d (λ e. digits-stops i n (omega (arith, eqb-false i n e)) d)
+
+  pub value-more : (i : ℕ) → value (i + 1) s at ≡ value i s at * 10 + (getD s (at + i) 0 - 48)
+  unfolding value
+  value-more i = rw add-one
+
+  value-step : (n : ℕ) → value n s at ≤ value (suc n) s at
+  unfolding value
+  value-step n = omega arith
+
+  value-rise : (i n : ℕ) (t : Bool) → eqb i (suc n) ≡ t → (t ≡ false → value i s at ≤ value n s at) → value i s at ≤ value (suc n) s at
+  value-rise i n true e f = let q : i ≡ suc n = eqb-true i (suc n) e in omega (arith, ap (λ (k : ℕ). value k s at) q)
+  value-rise i n false e f = omega (arith, f refl, value-step n)
+
+  pub value-grows : (i n : ℕ) → i ≤ n → value i s at ≤ value n s at
+  value-grows i zero h = let q : i ≡ 0 = omega arith in omega (arith, ap (λ (k : ℕ). value k s at) q)
+  value-grows i (suc n) h =
+      value-rise i n (eqb i (suc n)) refl (λ e. value-grows i n (omega (arith, eqb-false i (suc n) e)))
+
+  pub value-small : ((k : ℕ) → getD s k 0 < 256) → (i : ℕ) → i ≤ 4 → value i s at ≤ 229977
+  unfolding value
+  value-small g zero h = omega arith
+  value-small g (suc zero) h = omega (arith, g (at + 0))
+  value-small g (suc (suc zero)) h = omega (arith, g (at + 0), g (at + 1))
+  value-small g (suc (suc (suc zero))) h = omega (arith, g (at + 0), g (at + 1), g (at + 2))
+  value-small g (suc (suc (suc (suc zero)))) h = omega (arith, g (at + 0), g (at + 1), g (at + 2), g (at + 3))
+  value-small g (suc (suc (suc (suc (suc i))))) h = absurd (omega arith)
+
+-- one byte at a place: 0 stands for none
+pub stands-one : (s : List ℕ) (at b : ℕ) → 0 < b → standsAt s at (b ∷ []) ≡ eqb (getD s at 0) b
+unfolding standsAt same
+stands-one [] at b h = rw (drop-nil at) (sym (ne-eqb 0 b (omega arith)))
+stands-one (x ∷ s) zero b h = and-true (eqb x b)
+stands-one (x ∷ s) (suc at) b h = stands-one s at b h
+
+-- so a byte that stands there is inside
+pub stands-inside : (s : List ℕ) (at b : ℕ) → 0 < b → standsAt s at (b ∷ []) ≡ true → at < length s
+stands-inside s at b h e = go (ltb at (length s)) refl
+  where
+    go : (t : Bool) → ltb at (length s) ≡ t → at < length s
+    go true f = ltb-true at (length s) f
+    go false f =
+        let z : getD s at 0 ≡ 0 = List·getD-eq-default s 0 (ltb-false at (length s) f) in
+        let y : getD s at 0 ≡ b = eqb-true (getD s at 0) b (sym (stands-one s at b h) ∙ e) in
+        omega arith
+
+-- the steps of `number_at`
+pub number-more : (s : List ℕ) (at i v b w : ℕ) → v ≡ value i s at → b ≡ getD s (at + i) 0 → w ≡ b - 48 → v * 10 + w ≡ value (i + 1) s at
+number-more s at i v b w p q r = rw (value-more s at i, ← p, ← q, r)
+
+-- and those of `count`
+module _ (s : List ℕ) (i v w : ℕ) (p : v ≡ value i s 0) where
+  pub count-more : w ≡ getD s i 0 - 48 → v * 10 + w ≡ value (i + 1) s 0
+  count-more r = rw (value-more s 0 i, ← p, zero-add i, r)
+
+  pub count-over : (n hi : ℕ) → i < n → w ≡ getD s i 0 - 48 → hi < v * 10 + w → 0 ≡ pickN (leb (value n s 0) hi) (value n s 0) 0
+  count-over n hi h r o =
+      let g : value (i + 1) s 0 ≤ value n s 0 = value-grows s 0 (i + 1) n (omega arith) in
+      rw (lt-leb (value n s 0) hi (omega (arith, count-more r)))
+
+  pub count-ends : (n hi : ℕ) → i ≡ n → v ≤ hi → v ≡ pickN (leb (value n s 0) hi) (value n s 0) 0
+  count-ends n hi e h = rw (← e, ← p, le-leb v hi h)
+
+-- one more code point, or none
+module _ (s : List ℕ) (i n : ℕ) (h : i < length s) (t : Bool) (e : t ≡ among 128 191 (getD s i 0)) where
+  pub points-same : t ≡ true → (k : ℕ) → k ≡ n + points (drop i s) → k ≡ n + points (drop (i + 1) s)
+  unfolding points begins
+  points-same f k q = q ∙ rw (add-one, drop-cons s i 0, ← e, f)
+
+  pub points-more : t ≡ false → (k : ℕ) → k ≡ n + points (drop i s) → k ≡ (n + 1) + points (drop (i + 1) s)
+  unfolding points begins
+  points-more f k q = q ∙ rw (add-one i, drop-cons s i 0, ← e, f) (omega arith)
+
+module _ (s : List ℕ) (i : ℕ) (q : all unescaped s ≡ all unescaped (drop i s)) where
+  pub memo-more : i < length s → (getD s i 0 ≡ 92 → ⊥) → all unescaped s ≡ all unescaped (drop (i + 1) s)
+  unfolding unescaped
+  memo-more h e = q ∙ all-more unescaped s i h (rw (ne-eqb (getD s i 0) 92 e))
+
+  pub memo-stops : i < length s → getD s i 0 ≡ 92 → false ≡ memoRule s
+  unfolding memoRule unescaped
+  memo-stops h e = rw (q, all-stops unescaped s i h (rw (eq-eqb (getD s i 0) 92 e)))
+
+  pub memo-ends : (n : ℕ) → length s ≤ i → points s ≡ n + points (drop i s) → leb n 128 ≡ memoRule s
+  unfolding memoRule
+  memo-ends n h p =
+      let z : points s ≡ n = p ∙ rw (drop-of-length-le s h) (no-points n) in
+      rw (q, all-ends unescaped s i h, z)

@@ -1,0 +1,10 @@
+pub mod Classes
+pub mod Pieces
+pub mod Texts
+pub mod Sequence
+pub mod Address
+pub mod Date
+pub mod Status
+pub mod Words
+pub mod Names
+pub mod Fields

@@ -1,0 +1,89 @@
+-- What a rule is made of: pieces of text, read from left to right, each from the place where the one before it ended.
+-- The rules of `specs/` are lists of these pieces, as data, so that more can be asked of a text than whether it keeps its rule.
+-- What the contracts of `src/pieces.rt` cite. Assumes nothing.
+use Prim.Native.Nat.{_*_, _+_, _-_, suc, zero, ℕ}
+use mathlib.Core.Bool.{Bool, _&&_, false, not, true}
+use mathlib.Core.List.{List, _∷_, []}
+use lib.Dec.{eqb, ltb}
+use lib.ListN.{drop, getD, length}
+use Rattle.octets.specs.Class.{among, isDigit}
+use Rattle.octets.specs.Text.{same, standsAt}
+use Rattle.rules.specs.Classes.{holds}
+use Rattle.rules.specs.declared.classes.Class.{Class}
+use Rattle.rules.specs.declared.classes.Class.the-variants.{Digit}
+
+-- one more where the byte is of the class, and there the count ends where it is not
+abbrev pub further : Bool → ℕ → ℕ
+further true n = suc n
+further false n = 0
+
+-- how many bytes of a class a text begins with
+unfoldable pub span : Class → List ℕ → ℕ
+span c [] = 0
+span c (x ∷ xs) = further (holds c x) (span c xs)
+
+-- whether n digits stand from a place on
+unfoldable pub digits : ℕ → List ℕ → ℕ → Bool
+digits zero s at = true
+digits (suc n) s at = digits n s at && isDigit (getD s (at + n) 0)
+
+-- the number that n digits from a place on are
+unfoldable pub value : ℕ → List ℕ → ℕ → ℕ
+value zero s at = 0
+value (suc n) s at = value n s at * 10 + (getD s (at + n) 0 - 48)
+
+-- one of two numbers
+abbrev pub pickN : Bool → ℕ → ℕ → ℕ
+pickN true a b = a
+pickN false a b = b
+
+-- the place of a text in a list of words, counted from k; 0 where it is none of them
+unfoldable pub placeFrom : List (List ℕ) → ℕ → List ℕ → ℕ
+placeFrom [] k x = 0
+placeFrom (w ∷ ws) k x = pickN (same x w) k (placeFrom ws (k + 1) x)
+
+-- the number of a text in a list of words, the first of them 1; 0 where it is none of them
+abbrev pub placeOf : List (List ℕ) → List ℕ → ℕ
+placeOf ws x = placeFrom ws 1 x
+
+-- a piece of text is
+--   fixed w: the bytes w;
+--   run lo hi c e: as many bytes of class c as there are, lo to hi of them, the first and the last of class e;
+--   number n lo hi: n digits that are a number from lo to hi;
+--   count hi: as many digits as there are, a number from 1 to hi, no leading zero;
+--   word ws: the rest, one of the words ws;
+--   free: the rest, whatever it is
+pub data Piece : Type 0 where
+  fixed : List ℕ → Piece
+  run : ℕ → ℕ → Class → Class → Piece
+  number : ℕ → ℕ → ℕ → Piece
+  count : ℕ → Piece
+  word : List (List ℕ) → Piece
+  free : Piece
+
+-- where a piece that begins at a place ends
+unfoldable pub behind : Piece → List ℕ → ℕ → ℕ
+behind (fixed w) s at = at + length w
+behind (run lo hi c e) s at = at + span c (drop at s)
+behind (number n lo hi) s at = at + n
+behind (count hi) s at = at + span Digit (drop at s)
+behind (word ws) s at = length s
+behind free s at = length s
+
+-- lo to hi bytes from a place to an end, the first and the last of class e
+unfoldable pub within : ℕ → ℕ → Class → List ℕ → ℕ → ℕ → Bool
+within lo hi e s at end = among lo hi (end - at) && (holds e (getD s at 0) && holds e (getD s (end - 1) 0))
+
+-- whether a text has a piece at a place
+unfoldable pub keeps : Piece → List ℕ → ℕ → Bool
+keeps (fixed w) s at = standsAt s at w
+keeps (run lo hi c e) s at = within lo hi e s at (at + span c (drop at s))
+keeps (number n lo hi) s at = digits n s at && among lo hi (value n s at)
+keeps (count hi) s at = not (eqb (getD s at 0) 48) && among 1 hi (value (span Digit (drop at s)) s at)
+keeps (word ws) s at = ltb 0 (placeOf ws (drop at s))
+keeps free s at = true
+
+-- whether a text is, from a place to its end, these pieces one after the other
+unfoldable pub reads : List Piece → List ℕ → ℕ → Bool
+reads [] s at = eqb at (length s)
+reads (p ∷ ps) s at = keeps p s at && reads ps s (behind p s at)

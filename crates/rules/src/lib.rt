@@ -1,0 +1,53 @@
+// The texts of TS-1022 that document 01 names: each field's rule, on the bytes of the field's own text.
+// Proved: every answer equals a definition of specs/, which stands beside document 01's list of rules.
+// Any bytes will do, a part of a message or not; only what is written or looked up by number asks for a range.
+mod addresses;
+mod classes;
+mod dates;
+mod fields;
+mod names;
+mod pieces;
+mod sequences;
+mod statuses;
+mod texts;
+mod words;
+
+pub use addresses::Address;
+pub use addresses::address_of;
+pub use dates::days_in;
+pub use dates::is_date;
+pub use fields::method_asks;
+pub use fields::tag_asks;
+pub use names::field;
+pub use names::hop_member;
+pub use names::is_field;
+pub use names::method;
+pub use names::tag;
+pub use sequences::Sequence;
+pub use sequences::sequence_of;
+pub use statuses::Status;
+pub use statuses::is_listed;
+pub use statuses::put_status;
+pub use statuses::status_length;
+pub use statuses::status_of;
+pub use texts::is_call_id;
+pub use texts::is_desk;
+pub use texts::is_destination;
+pub use texts::is_fire_id;
+pub use texts::is_host;
+pub use texts::is_image;
+pub use texts::is_language;
+pub use texts::is_memo;
+pub use texts::is_message_id;
+pub use texts::is_organization;
+pub use texts::is_user_id;
+pub use words::availability;
+pub use words::call_mode;
+pub use words::call_test;
+pub use words::content_type;
+pub use words::is_message_type;
+pub use words::is_notify_type;
+pub use words::presence;
+pub use words::rescuee;
+pub use words::secure_call;
+pub use words::service;
