@@ -1,0 +1,111 @@
+-- The walk over the members of an object, one member at a time: what is gathered so far, and that the rest decides the rest.
+-- Assumes nothing.
+use Prim.Native.Nat.{ℕ, zero, suc, _+_, _-_, _≤_, _<_}
+use Rattle.json.specs.Places.{pickL, raw, past, valueOf, follows, more, memberAt, membersFrom, members}
+use Rattle.message.specs.Known.{numberAt, empty, has, note, noted, repeated, Gathered}
+use Rattle.octets.specs.Text.{same}
+use Rattle.rules.specs.Names.{hopMembers}
+use Rattle.rules.specs.Pieces.{placeOf, placeFrom, pickN as pickNumber}
+use borrow.Author.Tests.{eq-eqb, ne-eqb}
+use lib.Dec.{eqb, ltb}
+use lib.ListN.{length, getD, set, List·getD-eq-default}
+use mathlib.Core.Bool.{Bool, true, false, _&&_}
+use mathlib.Core.List.{List, [], _∷_}
+use mathlib.Core.Path.{_≡_, refl, sym, _∙_}
+use native.Mathlib.Decide.{decLt}
+use native.Mathlib.Omega.{arith}
+
+-- The members from a place on.
+
+module _ (s : List ℕ) (n p : ℕ) where
+  pub no-more : {q : ℕ} → q ≡ past s p → (getD s q 0 ≡ 34 → ⊥) → membersFrom n s p ≡ []
+  unfolding membersFrom memberAt
+  no-more {q} e ne = by n
+    where
+      by : (n : ℕ) → membersFrom n s p ≡ []
+      by zero = refl
+      by (suc n) = rw (← e, ne-eqb _ _ ne)
+
+  pub one-more : {q : ℕ} → 0 < n → q ≡ past s p → getD s q 0 ≡ 34 → membersFrom n s p ≡ q ∷ more s (membersFrom (n - 1) s) (valueOf s q)
+  unfolding membersFrom memberAt
+  one-more {q} h e f = by n h
+    where
+      by : (n : ℕ) → 0 < n → membersFrom n s p ≡ q ∷ more s (membersFrom (n - 1) s) (valueOf s q)
+      by zero h = absurd (omega arith)
+      by (suc n) h = let z : suc n - 1 ≡ n = omega arith in rw (← e, eq-eqb _ _ f, z)
+
+pub spent : (s : List ℕ) (n p : ℕ) → n ≤ 0 → membersFrom n s p ≡ []
+unfolding membersFrom
+spent s zero p h = refl
+spent s (suc n) p h = absurd (omega arith)
+
+pub no-comma : (s : List ℕ) (f : ℕ → List ℕ) (v : ℕ) {j : ℕ} → j ≡ follows s v → (getD s j 0 ≡ 44 → ⊥) → more s f v ≡ []
+unfolding more
+no-comma s f v e ne = rw (← e, ne-eqb _ _ ne)
+
+pub comma : (s : List ℕ) (f : ℕ → List ℕ) (v : ℕ) {j : ℕ} → j ≡ follows s v → getD s j 0 ≡ 44 → more s f v ≡ f (j + 1)
+unfolding more
+comma s f v e g = rw (← e, eq-eqb _ _ g)
+
+-- What is gathered, with the members qs still to come.
+
+pub record Sofar (ns : List (List ℕ)) (s : List ℕ) (o : ℕ) (at qs : List ℕ) : Type 0 where
+  pub again : repeated ns s empty (members s o) ≡ repeated ns s at qs
+  pub known : noted ns s empty (members s o) ≡ noted ns s at qs
+
+pub started : (ns : List (List ℕ)) (s : List ℕ) (o : ℕ) → Sofar ns s o empty (membersFrom (length s) s (o + 1))
+unfolding members
+started ns s o = record { again = refl; known = refl }
+
+module _ {ns : List (List ℕ)} {s : List ℕ} {o : ℕ} {at qs : List ℕ} (f : Sofar ns s o at qs) where
+  -- no member is left
+  pub over : qs ≡ [] → Gathered ns s o 0 at
+  unfolding repeated noted
+  over e =
+      record { first = sym (f .again ∙ rw e); places = λ z. sym (f .known ∙ rw e) }
+
+  -- the next member is a repeat
+  pub repeats : (q : ℕ) (rest : List ℕ) → qs ≡ q ∷ rest → (q ≡ 0 → ⊥) → has ns s at q ≡ true → Gathered ns s o q at
+  unfolding repeated
+  repeats q rest e late h = record { first = sym (f .again ∙ rw (e, h)); places = λ z. absurd (late z) }
+
+  -- the next member is none
+  pub goes-on : (q : ℕ) (rest : List ℕ) {at′ rest′ : List ℕ} → qs ≡ q ∷ rest → has ns s at q ≡ false → at′ ≡ note ns s at q → rest ≡ rest′ → Sofar ns s o at′ rest′
+  unfolding repeated noted
+  goes-on q rest e h a r =
+      record { again = f .again ∙ rw (e, h, ← a, r); known = f .known ∙ rw (e, ← a, r) }
+
+-- what the functions on the places say of a member
+
+pub has-is : (ns : List (List ℕ)) (s at : List ℕ) (q : ℕ) {k : ℕ} {r : Bool} → k ≡ numberAt ns s q → r ≡ (ltb 0 k && ltb 0 (getD at k 0)) → r ≡ has ns s at q
+unfolding has
+has-is ns s at q e f = f ∙ rw e
+
+pub note-is : (ns : List (List ℕ)) (s at : List ℕ) (q : ℕ) {k v : ℕ} {r : List ℕ} → k ≡ numberAt ns s q → v ≡ valueOf s q → r ≡ pickL (eqb k 0) at (set at k v) → r ≡ note ns s at q
+unfolding note
+note-is ns s at q e g f = f ∙ rw (e, g)
+
+pub number-is : (ns : List (List ℕ)) (s : List ℕ) (q : ℕ) {x : List ℕ} {k : ℕ} → x ≡ raw s q → k ≡ placeOf ns x → k ≡ numberAt ns s q
+unfolding numberAt
+number-is ns s q e f = f ∙ rw e
+
+-- a byte that is not 0 stands inside the text
+pub there : (s : List ℕ) (i b : ℕ) → getD s i 0 ≡ suc b → i < length s
+there s i b e = by (decLt i (length s))
+  where
+    by : Dec (i < length s) → i < length s
+    by (yes a) = a
+    by (no a) = absurd (let z : getD s i 0 ≡ 0 = List·getD-eq-default s 0 {n = i} (omega arith) in omega arith)
+
+-- a name's number is at most how many names there are
+pick-few : (t : Bool) (a b c : ℕ) → a < c → b < c → pickNumber t a b < c
+pick-few true a b c h g = h
+pick-few false a b c h g = g
+
+pub from-few : (ns : List (List ℕ)) (k : ℕ) (x : List ℕ) → 0 < k → placeFrom ns k x < k + length ns
+unfolding placeFrom
+from-few [] k x h = omega arith
+from-few (n ∷ ns) k x h = pick-few (same x n) k (placeFrom ns (k + 1) x) _ (omega arith) (let r = from-few ns (k + 1) x (omega arith) in omega arith)
+
+pub hop-few : (x : List ℕ) → placeOf hopMembers x < 27
+hop-few x = let r = from-few hopMembers 1 x (omega arith) in omega arith

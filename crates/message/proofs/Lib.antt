@@ -1,0 +1,10 @@
+pub mod ValueLaws
+pub mod GatherLaws
+pub mod ElementLaws
+pub mod ViaLaws
+pub mod FieldLaws
+pub mod CheckLaws
+pub mod FactLaws
+pub mod ShapeLaws
+pub mod ReadingLaws
+pub mod Theorems

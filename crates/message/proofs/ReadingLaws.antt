@@ -1,0 +1,43 @@
+-- The rows of the reading, one law for each way that the code goes. Assumes nothing.
+use Prim.Native.Nat.{ℕ, _≤_, _<_}
+use Rattle.message.specs.Known.{Gathered}
+use Rattle.message.specs.Reading.{judged, known, shaped, onUtf8, reading}
+use Rattle.message.specs.Shape.{objectOf, Shaped}
+use Rattle.message.specs.declared.reading.Reading.the-variants.{Refused}
+use Rattle.rules.specs.Names.{fields}
+use Rattle.utf8.specs.Rfc3629.{verdict}
+use borrow.Author.Tests.{eq-eqb, ne-eqb, lt-ltb, le-ltb, le-leb, lt-leb}
+use lib.ListN.{length}
+use mathlib.Core.List.{List}
+use mathlib.Core.Path.{_≡_}
+use native.Mathlib.Omega.{arith}
+
+module _ (s : List ℕ) where
+  pub too-short : length s ≡ 0 → Refused 2 0 ≡ reading s
+  unfolding reading
+  too-short e = rw (lt-leb 1 (length s) (omega arith))
+
+  pub too-long : 32768 < length s → Refused 2 0 ≡ reading s
+  unfolding reading
+  too-long h = rw (le-leb 1 (length s) (omega arith), lt-leb (length s) 32768 h)
+
+  pub in-bounds : (length s ≡ 0 → ⊥) → length s ≤ 32768 → reading s ≡ onUtf8 s (verdict s)
+  unfolding reading
+  in-bounds e h = rw (le-leb 1 (length s) (omega arith), le-leb (length s) 32768 h)
+
+  module _ {tag object : ℕ} (f : Shaped s tag object) where
+    pub no-shape : tag ≡ 0 → Refused 6 0 ≡ shaped s
+    unfolding shaped
+    no-shape e = rw (← (f .is), eq-eqb _ _ e)
+
+    module _ (some : tag ≡ 0 → ⊥) {twice : ℕ} {at : List ℕ} (g : Gathered fields s object twice at) where
+      opens : object ≡ objectOf s
+      opens = f .opens (omega arith)
+
+      pub name-twice : 0 < twice → Refused 7 twice ≡ shaped s
+      unfolding shaped known
+      name-twice h = rw (← (f .is), ne-eqb _ _ some, ← opens, ← (g .first), lt-ltb 0 twice h)
+
+      pub each-once : twice ≤ 0 → judged s tag at ≡ shaped s
+      unfolding shaped known
+      each-once h = rw (← (f .is), ne-eqb _ _ some, ← opens, ← (g .first), le-ltb 0 twice h, ← (g .places (omega arith)))

@@ -1,0 +1,15 @@
+-- `message::facts::response_disagrees` meets its contract. By its definition and what the callees ensure. Assumes nothing.
+use Rattle.message.proofs.facts.response_disagrees.Statement.{statement}
+use Rattle.message.proofs.facts.response_disagrees.Tie as tie
+use Rattle.message.specs.Message.{responseDisagrees}
+use borrow.Author.Needs.{needs}
+
+and-requires : tie.Need-and-requires
+and-requires c κs = search needs
+
+returns : tie.Need-returns
+unfolding responseDisagrees
+returns c = cc
+
+pub response-disagrees-spec : {M : Type 1} → statement M
+response-disagrees-spec = tie.close (tie.spec and-requires returns)

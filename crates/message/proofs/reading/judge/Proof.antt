@@ -1,0 +1,57 @@
+-- `message::reading::judge` meets its contract. Each exit puts in what led there; `ReadingLaws` has the rows. Assumes nothing.
+use Rattle.message.proofs.FactLaws.{setting-tag}
+use Rattle.message.proofs.reading.judge.Statement.{statement}
+use Rattle.message.proofs.reading.judge.Tie as tie
+use Rattle.message.specs.Reading.{judged}
+use Rattle.message.specs.declared.reading.Reading.the-variants.{Read}
+use borrow.Author.Needs.{needs}
+use borrow.Author.Tests.{lt-ltb, le-ltb}
+use mathlib.Core.Path.{sym, ap, _∙_}
+use native.Mathlib.Omega.{arith}
+
+check-run-requires : tie.Need-check-run-requires
+check-run-requires c κs = search needs
+
+enum-known-n : tie.Need-enum-known-n
+enum-known-n c = search needs
+
+enum-told : tie.Need-enum-told
+enum-told c = search needs
+
+probe-of-requires : tie.Need-probe-of-requires
+probe-of-requires c κs = search needs
+
+returns : tie.Need-returns
+unfolding judged
+returns c = rw (sym (c .before .before .before .before .check-run .ensures) ∙ c .before .before .enum-told .given .1, lt-ltb _ _ (c .before .if1 .taken)) (ap Read (c .probe-of .ensures))
+
+setting-of-requires : tie.Need-setting-of-requires
+setting-of-requires c κs = search needs
+
+settle-requires : tie.Need-settle-requires
+settle-requires c κs =
+    let x = c .before .before .before .before .before .before .args in
+    let e = setting-tag (x .s .now) (x .tag) (x .at .now) (c .setting-of .ensures .0) in
+    (omega arith, c .setting-of .ensures .1)
+
+returns-2 : tie.Need-returns-2
+unfolding judged
+returns-2 c = rw (sym (c .before .before .before .check-run .ensures) ∙ c .before .n .given .1)
+
+returns-3 : tie.Need-returns-3
+unfolding judged
+returns-3 c = rw (sym (c .before .before .before .before .before .check-run .ensures) ∙ c .before .before .before .enum-told .given .1, le-ltb _ _ (c .before .before .if1 .left)) (rw (c .before .setting-of .ensures .0) at (c .settle .ensures))
+
+pub judge-spec : {M : Type 1} → statement M
+judge-spec =
+    tie.close
+    (tie.spec
+    check-run-requires
+    enum-known-n
+    enum-told
+    probe-of-requires
+    returns
+    setting-of-requires
+    settle-requires
+    returns-2
+    returns-3)

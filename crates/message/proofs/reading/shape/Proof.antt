@@ -1,0 +1,30 @@
+-- `message::reading::shape` meets its contract. Each exit puts in what led there; `ReadingLaws` has the rows. Assumes nothing.
+use Rattle.message.proofs.ReadingLaws.{no-shape, name-twice, each-once}
+use Rattle.message.proofs.reading.shape.Statement.{statement}
+use Rattle.message.proofs.reading.shape.Tie as tie
+use borrow.Author.Needs.{needs}
+use mathlib.Core.Path.{_∙_}
+use native.Mathlib.Omega.{arith}
+
+shape-of-requires : tie.Need-shape-of-requires
+shape-of-requires c κs = search needs
+
+returns : tie.Need-returns
+returns c = no-shape (c .before .before .before .args .s .now) (c .before .shape-of .ensures) (c .if1 .taken)
+
+gather-requires : tie.Need-gather-requires
+gather-requires c κs = c .before .shape-of .ensures .inside (omega arith)
+
+returns-2 : tie.Need-returns-2
+returns-2 c = let g = c .before in let f = g .before .before in name-twice (f .before .before .args .s .now) (f .shape-of .ensures) (g .before .if1 .left) (g .gather .ensures) (c .if2 .taken)
+
+judge-requires : tie.Need-judge-requires
+judge-requires c κs = c .before .before .before .before .before .shape-of .ensures .few
+
+returns-3 : tie.Need-returns-3
+returns-3 c = let e = c .before .before .before in let g = e .before in let f = g .before .before in c .judge .ensures ∙ each-once (f .before .before .args .s .now) (f .shape-of .ensures) (g .before .if1 .left) (g .gather .ensures) (e .if2 .left)
+
+pub shape-spec : {M : Type 1} → statement M
+shape-spec =
+    tie.close
+    (tie.spec shape-of-requires returns gather-requires returns-2 judge-requires returns-3)

@@ -1,0 +1,15 @@
+-- `message::values::is_array` meets its contract. By its definition and what the callees ensure. Assumes nothing.
+use Rattle.message.proofs.values.is_array.Statement.{statement}
+use Rattle.message.proofs.values.is_array.Tie as tie
+use Rattle.message.specs.Value.{isArray}
+use borrow.Author.Needs.{needs}
+
+byte-requires : tie.Need-byte-requires
+byte-requires c κs = search needs
+
+returns : tie.Need-returns
+unfolding isArray
+returns c = cc
+
+pub is-array-spec : {M : Type 1} → statement M
+is-array-spec = tie.close (tie.spec byte-requires returns)

@@ -1,0 +1,68 @@
+-- 01 Reading, rows 2 to 10, tried in the paper's order: the contract of `read` cites `reading`. Assumes nothing.
+use Prim.Native.Nat.{ℕ}
+use Rattle.json.specs.Machine.{answer}
+use Rattle.json.specs.Places.{members}
+use Rattle.json.specs.declared.Walked.the-variants as walked
+use Rattle.json.specs.declared.Walked.{Walked}
+use Rattle.message.specs.Checks.{checked}
+use Rattle.message.specs.Known.{empty, noted, repeated}
+use Rattle.message.specs.Message.{settingOf, disagrees, messageOf, probeOf}
+use Rattle.message.specs.Shape.{tagOf, objectOf}
+use Rattle.message.specs.declared.checking.Check.the-variants.{Good, Fault}
+use Rattle.message.specs.declared.checking.Check.{Check}
+use Rattle.message.specs.declared.fields.Setting.{Setting}
+use Rattle.message.specs.declared.reading.Reading.the-variants.{Refused, Read}
+use Rattle.message.specs.declared.reading.Reading.{Reading}
+use Rattle.rules.specs.Names.{fields}
+use Rattle.utf8.specs.Rfc3629.{verdict}
+use Rattle.utf8.specs.declared.Verdict.the-variants as verdicts
+use Rattle.utf8.specs.declared.Verdict.{Verdict}
+use lib.Dec.{eqb, leb, ltb}
+use lib.ListN.{length}
+use mathlib.Core.Bool.{Bool, true, false, _&&_}
+use mathlib.Core.List.{List}
+
+abbrev pub choose : Bool → Reading → Reading → Reading
+choose true a b = a
+choose false a b = b
+
+-- a fault is refused; else it goes on
+abbrev pub unless : Check → Reading → Reading
+unless Good r = r
+unless (Fault n p) r = Refused n p
+
+-- row 10, and what is read
+unfoldable pub agreed : List ℕ → Setting → List ℕ → Reading
+agreed s k t = choose (disagrees s k t) (Refused 10 0) (Read (messageOf s k t))
+
+-- the second run of rows 8 and 9, on the fields of a request's method
+unfoldable pub settled : List ℕ → Setting → List ℕ → Reading
+settled s k t = choose (eqb (k .tag) 1) (unless (checked s false k t) (agreed s k t)) (agreed s k t)
+
+-- the first run, on the fields of the tag; a ping or a pong ends there
+unfoldable pub judged : List ℕ → ℕ → List ℕ → Reading
+judged s tag t =
+    unless (checked s true (record { tag = tag; method = 0; content = 0 }) t) (choose (ltb 2 tag) (Read (probeOf tag)) (settled s (settingOf s tag t) t))
+
+-- row 7, a known name twice, at the opening quote of the first repeat; else on to row 8
+unfoldable pub known : List ℕ → ℕ → List ℕ → Reading
+known s tag qs = choose (ltb 0 (repeated fields s empty qs)) (Refused 7 (repeated fields s empty qs)) (judged s tag (noted fields s empty qs))
+
+-- row 6, and on
+unfoldable pub shaped : List ℕ → Reading
+shaped s = choose (eqb (tagOf s) 0) (Refused 6 0) (known s (tagOf s) (members s (objectOf s)))
+
+-- rows 4 and 5, and on
+abbrev pub onJson : List ℕ → Walked → Reading
+onJson s (walked.End e) = shaped s
+onJson s (walked.Bad p) = Refused 4 p
+onJson s (walked.Deep p) = Refused 5 p
+
+-- row 3, and on
+abbrev pub onUtf8 : List ℕ → Verdict → Reading
+onUtf8 s verdicts.Good = onJson s (answer s)
+onUtf8 s (verdicts.Bad p) = Refused 3 p
+
+-- row 2: length 0 or over 32,768; and on
+unfoldable pub reading : List ℕ → Reading
+reading s = choose (leb 1 (length s) && leb (length s) 32768) (onUtf8 s (verdict s)) (Refused 2 0)

@@ -1,0 +1,83 @@
+// Gathering the known members of an object in one walk over its members (01 Reading, rows 7 and 8): the message's own fields, or the three
+// members of an object of Via.
+use json::member_at;
+use json::name_part;
+use json::skip;
+use octets::byte;
+ghost use mathlib.Core.Bool.{_&&_};
+ghost use mathlib.Core.Path.{_≡_};
+ghost use Prim.Native.Nat.{_<_};
+ghost use lib.Dec.{eqb, ltb};
+ghost use lib.ListN.{getD, length, set};
+ghost use Rattle.json.specs.Places.{members, pickL};
+ghost use Rattle.message.specs.Known.{Gathered, namesOf};
+ghost use Rattle.rules.specs.Pieces.{placeOf};
+
+// The place of each value by its member's number, 0 where there is none; and the opening quote of the first repeat, 0 where there is none.
+pub struct Places {
+    pub twice: usize,
+    pub at: [usize; 27],
+}
+
+// The number of a name, among Via's members or among the fields.
+fn number_of(hop: bool, name: &[u8]) -> usize
+    ensures { λ r. ⌜ (r ≡ placeOf (namesOf hop) (now (name .entry))) × (r < 27) ⌝ }
+{
+    if hop {
+        return rules::hop_member(name) as usize;
+    }
+    rules::field(name)
+}
+
+// Whether number k has a place already.
+fn is_noted(at: &[usize; 27], k: usize) -> bool
+    requires { ⌜ k < 27 ⌝ }
+    ensures { λ r. ⌜ r ≡ (ltb 0 k && ltb 0 (getD (now (at .entry)) k 0)) ⌝ }
+{
+    if k == 0 {
+        return false;
+    }
+    0 < at[k]
+}
+
+// The places with v for number k; 0 is no number.
+fn with_place(at: [usize; 27], k: usize, v: usize) -> [usize; 27]
+    requires { ⌜ k < 27 ⌝ }
+    ensures { λ r. ⌜ r ≡ pickL (eqb k 0) at (set at k v) ⌝ }
+{
+    if k == 0 {
+        return at;
+    }
+    let mut t = at;
+    t[k] = v;
+    t
+}
+
+// The known members of the object that opens at o.
+pub fn gather(s: &[u8], o: usize, hop: bool) -> Places
+    requires { ⌜ o < length (now s) ⌝ }
+    ensures { λ r. ⌜ Gathered (namesOf hop) (now (s .entry)) o (r .twice) (r .at) ⌝ }
+{
+    let mut at = [0usize; 27];
+    let mut p = o + 1;
+    let mut n = s.len();
+    while 0 < n {
+        let q = skip(s, p);
+        if byte(s, q) != 34 {
+            return Places { twice: 0, at: at };
+        }
+        let m = member_at(s, q);
+        let k = number_of(hop, name_part(s, q));
+        if is_noted(&at, k) {
+            return Places { twice: q, at: at };
+        }
+        at = with_place(at, k, m.value);
+        let then = m.then;
+        if byte(s, then) != 44 {
+            return Places { twice: 0, at: at };
+        }
+        p = then + 1;
+        n -= 1;
+    }
+    Places { twice: 0, at: at }
+}

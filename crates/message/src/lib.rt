@@ -1,0 +1,17 @@
+// A message of TS-1022 as document 01 reads it (01 Reading): any bytes to the message's facts, or to a refusal with number and place.
+// `read` is proved equal to the ten rows of document 01, tried in its order; each field's rule sees the bytes of its own value alone.
+// A caller may count on every place of a message that is read, and gets a value's text through one function, `text_of`.
+mod checking;
+mod facts;
+mod fields;
+mod gathering;
+mod reading;
+mod shapes;
+mod values;
+mod vias;
+
+pub use facts::Message;
+pub use reading::Reading;
+pub use reading::read;
+pub use values::text_of;
+pub use vias::is_via;

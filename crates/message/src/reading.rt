@@ -1,0 +1,107 @@
+// The reading of a message (01 Reading, rows 2 to 10), tried in the paper's order.
+use crate::checking::Check;
+use crate::checking::check_run;
+use crate::facts::Message;
+use crate::facts::disagree;
+use crate::facts::message_of;
+use crate::facts::probe_of;
+use crate::facts::setting_of;
+use crate::fields::Setting;
+use crate::gathering::gather;
+use crate::shapes::shape_of;
+use json::Walked;
+use utf8::Verdict;
+ghost use mathlib.Core.Path.{_≡_};
+ghost use Prim.Native.Nat.{_<_};
+ghost use Rattle.message.specs.Reading.{agreed, judged, reading, settled, shaped};
+
+// What is read of any bytes: a refusal with its number and place, or the message.
+pub enum Reading {
+    Refused(u8, usize),
+    Read(Message),
+}
+
+// Row 10, and what is read.
+fn agree(s: &[u8], k: Setting, at: &[usize; 27]) -> Reading
+    ensures { λ r. ⌜ r ≡ agreed (now (s .entry)) k (now (at .entry)) ⌝ }
+{
+    if disagree(s, k, at) {
+        return Reading::Refused(10, 0);
+    }
+    Reading::Read(message_of(s, k, at))
+}
+
+// The second run of rows 8 and 9, on the fields of a request's method, and on.
+fn settle(s: &[u8], k: Setting, at: &[usize; 27]) -> Reading
+    requires { ⌜ (k .tag < 5) × (k .method < 9) ⌝ }
+    ensures { λ r. ⌜ r ≡ settled (now (s .entry)) k (now (at .entry)) ⌝ }
+{
+    let tag = k.tag;
+    if tag == 1 {
+        return match check_run(s, false, k, at) {
+            Check::Good => agree(s, k, at),
+            Check::Fault(n, p) => Reading::Refused(n, p),
+        };
+    }
+    agree(s, k, at)
+}
+
+// The first run of rows 8 and 9, on the fields of the tag, and on.
+fn judge(s: &[u8], tag: u8, at: &[usize; 27]) -> Reading
+    requires { ⌜ tag < 5 ⌝ }
+    ensures { λ r. ⌜ r ≡ judged (now (s .entry)) tag (now (at .entry)) ⌝ }
+{
+    let first = Setting {
+        tag,
+        method: 0,
+        content: 0,
+    };
+    match check_run(s, true, first, at) {
+        Check::Fault(n, p) => Reading::Refused(n, p),
+        Check::Good => {
+            if 2 < tag {
+                return Reading::Read(probe_of(tag));
+            }
+            settle(s, setting_of(s, tag, at), at)
+        }
+    }
+}
+
+// Rows 6 and 7, and on.
+fn shape(s: &[u8]) -> Reading
+    ensures { λ r. ⌜ r ≡ shaped (now (s .entry)) ⌝ }
+{
+    let f = shape_of(s);
+    let tag = f.tag;
+    let object = f.object;
+    if tag == 0 {
+        return Reading::Refused(6, 0);
+    }
+    let g = gather(s, object, false);
+    let twice = g.twice;
+    if 0 < twice {
+        return Reading::Refused(7, twice);
+    }
+    let at = g.at;
+    judge(s, tag, &at)
+}
+
+// Reads any bytes as document 01 reads a message.
+pub fn read(s: &[u8]) -> Reading
+    ensures { λ r. ⌜ r ≡ reading (now (s .entry)) ⌝ }
+{
+    if s.len() == 0 {
+        return Reading::Refused(2, 0);
+    }
+    if 32768 < s.len() {
+        return Reading::Refused(2, 0);
+    }
+    match utf8::check(s) {
+        Verdict::Bad(p) => Reading::Refused(3, p),
+        Verdict::Good => match json::read(s) {
+            Walked::Bad(p) => Reading::Refused(4, p),
+            Walked::Deep(p) => Reading::Refused(5, p),
+            Walked::End(_) => shape(s),
+        },
+    }
+}
