@@ -1,12 +1,11 @@
--- The paper's numbers for each case of an answer (01 Events): number, place and reply of a refusal, word and state of an acceptance.
+-- The paper's numbers for each case of an answer (01 Events): number, place and reply of a refusal, and the state of an acceptance; its
+-- words are spelt where they are written.
 -- Assumes nothing.
 use Prim.Native.Nat.{ℕ}
 use Rattle.call.specs.declared.answers.State.{State}
 use Rattle.call.specs.declared.answers.State.the-variants.{Calling, Ringing, Answered, Talking, Ended, Cancelling}
 use Rattle.call.specs.declared.answers.Shown.{Shown}
 use Rattle.call.specs.declared.answers.Shown.the-variants.{In, Free}
-use Rattle.call.specs.declared.answers.Word.{Word}
-use Rattle.call.specs.declared.answers.Word.the-variants.{Pass, Repeat, Bye, Timeout, Idle, Freed, None}
 use Rattle.call.specs.declared.answers.Reason.{Reason}
 use Rattle.call.specs.declared.answers.Reason.the-variants.{NoCall, OtherParty, Earlier, WrongNumber, NotNow, NotSecure, TooLate, NoRoom}
 use Rattle.call.specs.declared.answers.Waiting.{Waiting}

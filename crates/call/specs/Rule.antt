@@ -68,7 +68,7 @@ chatAt Talking now old = old
 chatAt Ended now old = old
 chatAt Cancelling now old = old
 
--- a new state sets its entry time
+-- a new state sets its entry time, and like every such acceptance the last time; reaching 3 sets the chat time
 abbrev pub entered : State → ℕ → Call → Call
 entered s now c =
     record {
@@ -94,7 +94,7 @@ goes w s now c = record { answer = Accepted w (In s); after = Set (entered s now
 abbrev pub freed : Outcome
 freed = record { answer = Accepted Freed Free; after = gone }
 
--- how long ago
+-- how long ago; 0 where it is yet to come
 abbrev pub since : ℕ → ℕ → ℕ
 since now then = now - then
 
@@ -122,7 +122,7 @@ codeOf Callback = 6
 codeOf Refer = 7
 codeOf Notify = 8
 
--- INVITE, no record: state 1, Secure-Call from the message, INVITE number and caller's highest its number, that method 1,
+-- INVITE, no record (which record it takes, and its texts, are the keeper's): state 1, Secure-Call from the message, INVITE number and caller's highest its number, that method 1,
 -- the callee's highest and method 0, all three times now; pass
 abbrev pub opened : ℕ → Bool → ℕ → Call
 opened number secure now =
@@ -307,7 +307,7 @@ toInvite r now c =
     (choose (ltb (r .status) 300) (success (c .state) now c) (failure (c .state) now c)))
     (refused WrongNumber Nobody)
 
--- 3, 4, 5 pass; 6 as said; else 24
+-- 3, 4, 5 pass; 6 too where six is true (a response to CANCEL); else 24
 abbrev pub settled : State → Bool → ℕ → Call → Outcome
 settled Calling six now c = refused NotNow Nobody
 settled Ringing six now c = refused NotNow Nobody
@@ -316,7 +316,7 @@ settled Talking six now c = stays Pass now c
 settled Ended six now c = stays Pass now c
 settled Cancelling six now c = choose six (stays Pass now c) (refused NotNow Nobody)
 
--- to BYE, MESSAGE, NOTIFY, REFER: number above From's highest, 23; 3, 4, 5 pass; else 24
+-- to BYE, MESSAGE, NOTIFY, REFER: number above From's highest, 23 (a response keeps the request's From); 3, 4, 5 pass; else 24
 unfoldable pub toWithin : Response → ℕ → Call → Outcome
 toWithin r now c = choose (ltb (highestOf (r .from) c .number) (r .number)) (refused WrongNumber Nobody) (settled (c .state) false now c)
 
@@ -355,9 +355,9 @@ tickIn Talking now c = choose (leb 1800000 (since now (c .chat))) (goes Idle End
 tickIn Ended now c = choose (ltb 3600000 (since now (c .entry))) freed (unchanged None c)
 tickIn Cancelling now c = choose (leb 15000 (since now (c .entry))) (goes Timeout Ended now c) (unchanged None c)
 
--- The rule, checked in the order of the numbers.
+-- The rule, checked in the order of the table: 20, 21, 22, then what the method or the tick says. 1 to 10, 28 and 27 are the keeper's.
 
--- 20: no such call, an INVITE request aside
+-- 20: no such call, an INVITE request aside (where no record is free the keeper answers it by 27 instead)
 abbrev pub unheld : Method → Request → ℕ → Outcome
 unheld Invite r now = record { answer = Accepted Pass (In Calling); after = Set (opened (r .number) (r .secure) now) }
 unheld Bye r now = refused NoCall Requester
@@ -368,7 +368,7 @@ unheld Callback r now = refused NoCall CallbackRequester
 unheld Refer r now = refused NoCall Requester
 unheld Notify r now = refused NoCall Requester
 
--- 21: user or a Fire-ID differs from the record; 22: time below the last time; then what o says
+-- 21: user or a Fire-ID differs from the record (agrees says that all are the record's); 22: time below the last time; then what o says
 abbrev pub checked : Bool → Waiting → ℕ → Call → Outcome → Outcome
 checked agrees w now c o = choose agrees (choose (ltb now (c .last)) (refused Earlier w) o) (refused OtherParty w)
 

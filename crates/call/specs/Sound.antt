@@ -10,6 +10,7 @@ use Rattle.call.specs.declared.records.After.the-variants.{Same, Set, Fr
 use Rattle.call.specs.declared.events.Event.{Event}
 use Rattle.call.specs.declared.events.Event.the-variants.{Asks, Replies, Tick}
 
+-- (state 1 to 6 and Secure-Call 0 or 1 hold by their types; texts, 00s, distinct Call-IDs and the header are the table's)
 -- INVITE number at least 1, caller's highest not below it, methods 1 to 8 (the callee's is 0 exactly if the callee's highest is 0),
 -- both other times at most the last time
 pub record Sound (c : Call) : Type 0 where

@@ -1,4 +1,4 @@
-// The rule, checked in the order of the numbers (01 Events): 20, 21, 22, then by the kind of event.
+// The rule, checked in the order of the table (01 Events): 20, 21, 22, then by the kind of event.
 use crate::answers::Answer;
 use crate::answers::Reason;
 use crate::answers::Shown;

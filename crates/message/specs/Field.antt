@@ -19,7 +19,7 @@ use mathlib.Core.Bool.{Bool, true, false, _&&_, _||_}
 use mathlib.Core.List.{List}
 
 -- A rule sees a setting besides its value: the tag (1 request, 2 response, 3 ping, 4 pong), the method's code (0: none) and the
--- Content-Type's number (0: none).
+-- Content-Type's number (1 text/plain, 2 image, 3 presence, 4 location, 5 refer; 0: none).
 
 -- one of a few words
 unfoldable pub oneOf : List (List ℕ) → List ℕ → Bool
@@ -38,7 +38,7 @@ unfoldable pub contentField : ℕ → List ℕ → Bool
 contentField method v = orElse (eqb method 5) (ruled messageTypeRule v) (ruled notifyTypeRule v)
 
 -- Body, by Content-Type: text a string; the image's a string that starts `https://`; presence `online` or `offline`; the location
--- an object; refer as Status
+-- an object; refer as Status (any other number counts as refer: a Body is only asked about once field 9 has kept its rule)
 unfoldable pub bodyField : ℕ → List ℕ → Bool
 bodyField content v =
     orElse (eqb content 1) (isString v)
@@ -51,7 +51,7 @@ unfoldable pub stringsField : List ℕ → Bool
 stringsField v = isArray v && all (λ p. eqb (getD v p 0) 34) (elements v 0)
 
 -- the fields that are a text under a rule, from 11 on: 11, 12 Fire-ID; 13 Refer-Memo; 14 Session-ID; 15 Call-Mode; 18 Rescuee;
--- 19 Request-Service; 20 Language; 25, 26 a desk
+-- 19 Request-Service; 20 Language; 25, 26 a Fire-ID, then `.callee`
 unfoldable pub laterRule : ℕ → List ℕ → Bool
 laterRule n t =
     orElse (ltb n 13) (fireRule t)

@@ -18,7 +18,7 @@ numberAt ns s q = placeOf ns (raw s q)
 abbrev pub empty : List ℕ
 empty = replicate 27 0
 
--- the member at q is of a number that t has a place for
+-- the member at q has a known name, and t already holds a place for it
 unfoldable pub has : List (List ℕ) → List ℕ → List ℕ → ℕ → Bool
 has ns s t q = ltb 0 (numberAt ns s q) && ltb 0 (getD t (numberAt ns s q) 0)
 

@@ -26,7 +26,7 @@ isObject v = eqb (getD v 0 0) 123
 unfoldable pub textOf : List ℕ → List ℕ
 textOf v = raw v 0
 
--- free text: a string of which a rule is asked as it stands
+-- free text: a string of which the rule alone is asked; a backslash is a byte like any other
 unfoldable pub freely : (List ℕ → Bool) → List ℕ → Bool
 freely rule v = isString v && rule (textOf v)
 

@@ -19,7 +19,7 @@ hopPlaces v o = noted hopMembers v empty (members v o)
 unfoldable pub hopRule : ℕ → List ℕ → Bool
 hopRule n t = orElse (eqb n 1) (hostRule t) (orElse (eqb n 2) (destinationRule t) (organizationRule t))
 
--- the value at p is there, and under the rule of member n
+-- p is not 0, so there is such a member, and the value there keeps the rule of member n
 unfoldable pub hopKeeps : List ℕ → ℕ → ℕ → Bool
 hopKeeps v p n = ltb 0 p && ruled (hopRule n) (bytes v p)
 

@@ -74,7 +74,8 @@ unfoldable pub points : List ℕ → ℕ
 points [] = 0
 points (x ∷ xs) = tally (begins x) (points xs)
 
--- no backslash: in a text under a rule it breaks it. The classes of the other rules have none anyway
+-- no backslash: it breaks a text under a rule. The rules made of classes and words exclude it by themselves; Status after its space and an
+-- image's Body are free
 unfoldable pub unescaped : ℕ → Bool
 unescaped b = not (eqb b 92)
 

@@ -1,4 +1,4 @@
--- RFC 3629, section 4: which octets are UTF-8. The contracts of `src/` cite it. Assumes nothing.
+-- RFC 3629, section 4: which octets are UTF-8 (01 Reading, row 3). The contracts of `src/` cite it. Assumes nothing.
 use Prim.Native.Nat.{ℕ, zero, suc}
 use mathlib.Core.Bool.{Bool, true, false, _&&_}
 use mathlib.Core.List.{List, [], _∷_}
@@ -80,7 +80,8 @@ abbrev pub opened : ℕ → ℕ → (ℕ → Verdict) → Verdict
 opened zero i rest = Bad i
 opened (suc k) i rest = rest k
 
--- UTF8-octets = *( UTF8-char ): octet i comes next, and k more octets of a char that is open come first
+-- UTF8-octets = *( UTF8-char ): the octets begin at octet i, and the first k of them belong to a char already begun. A char is begun only
+-- where it stands whole, so none is open at the end
 unfoldable pub octets : ℕ → ℕ → List ℕ → Verdict
 octets k i [] = Good
 octets (suc k) i (b ∷ s) = octets k (suc i) s

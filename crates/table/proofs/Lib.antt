@@ -1,0 +1,12 @@
+pub mod SearchLaws
+pub mod SpliceLaws
+pub mod ImageLaws
+pub mod SlotLaws
+pub mod MarkLaws
+pub mod RecordLaws
+pub mod SoundLaws
+pub mod BlankLaws
+pub mod FieldLaws
+pub mod KeepLaws
+pub mod LookupLaws
+pub mod Determined

@@ -1,0 +1,78 @@
+-- `table::marks::is_apart_before` meets its contract. The loop's invariant: record k is apart from each record passed. Assumes nothing.
+use Prim.Native.Nat.{ℕ, _≤_, _<_, _-_}
+use Rattle.table.proofs.SearchLaws.{all-every, every-stops}
+use Rattle.table.proofs.SoundLaws.{through-both}
+use Rattle.table.proofs.marks.is_apart_before.Statement.{statement}
+use Rattle.table.proofs.marks.is_apart_before.Tie as tie
+use Rattle.table.specs.Image.{recordAt}
+use Rattle.table.specs.WellFormed.{apart, apartBefore}
+use borrow.Author.Count.{below-more}
+use borrow.Author.Needs.{needs}
+use borrow.Author.Tests.{not-true, not-false}
+use mathlib.Core.Bool.{true}
+use mathlib.Core.Path.{_≡_, sym}
+use native.Mathlib.Omega.{arith}
+
+abbrev Inv-loop : tie.InvT-loop
+Inv-loop t k r l₀ l = (l ≤ k) × ((j : ℕ) → j < l → apart (recordAt t k) (recordAt t j) ≡ true)
+
+abbrev μ-loop : tie.MeasureT-loop
+μ-loop t k r l₀ l = k - l
+
+record-at-requires : tie.Need-record-at-requires Inv-loop μ-loop
+record-at-requires c κs = search needs
+
+loop-holds : tie.Need-loop-holds Inv-loop μ-loop
+loop-holds c = (search needs, λ j h. absurd (omega arith))
+
+record-at-requires-2 : tie.Need-record-at-requires-2 Inv-loop μ-loop
+record-at-requires-2 c κs = search needs
+
+is-apart-requires : tie.Need-is-apart-requires Inv-loop μ-loop
+is-apart-requires c κs = search needs
+
+returns : tie.Need-returns Inv-loop μ-loop
+unfolding apartBefore
+returns c =
+    let o = c .before .before .before .before .before .before .before in
+    sym (every-stops (λ l. apart (recordAt (o .args .t .now) (o .args .k)) (recordAt (o .args .t .now) l)) (o .args .k)
+    (c .before .before .before .before .loop .l) (omega arith)
+    (through-both apart (c .before .is-apart .ensures) (c .before .before .before .before .before .record-at .ensures .0)
+    (c .before .before .record-at2 .ensures .0) (not-true _ (c .if1 .taken))))
+
+add-l : tie.Need-add-l Inv-loop μ-loop
+add-l c = search needs
+
+loop-less : tie.Need-loop-less Inv-loop μ-loop
+loop-less c = search needs
+
+loop-again : tie.Need-loop-again Inv-loop μ-loop
+loop-again c =
+    let o = c .before .before .before .before .before .before .before in
+    let l = c .before .before .before .before in (
+      search needs,
+      below-more (λ l. apart (recordAt (o .args .t .now) (o .args .k)) (recordAt (o .args .t .now) l) ≡ true) (l .loop .l)
+          (l .loop .inv .1) (through-both apart (c .before .is-apart .ensures)
+          (c .before .before .before .before .before .record-at .ensures .0) (c .before .before .record-at2 .ensures .0)
+          (not-false _ (c .if1 .left))),
+    )
+
+returns-2 : tie.Need-returns-2 Inv-loop μ-loop
+unfolding apartBefore
+returns-2 c = sym (all-every _ (c .before .before .before .before .args .k) (λ j h. c .before .loop .inv .1 j (omega arith)))
+
+pub is-apart-before-spec : {M : Type 1} → statement M
+is-apart-before-spec =
+    tie.close
+    (tie.spec
+    Inv-loop
+    μ-loop
+    record-at-requires
+    loop-holds
+    record-at-requires-2
+    is-apart-requires
+    returns
+    add-l
+    loop-less
+    loop-again
+    returns-2)

@@ -1,0 +1,57 @@
+-- `table::marks::is_marked` meets its contract. The loop's invariant: the answer for the marks passed. Assumes nothing.
+use Prim.Native.Nat.{_≤_, _-_}
+use Rattle.table.proofs.MarkLaws.{marked-none, marked-more}
+use Rattle.table.proofs.marks.is_marked.Statement.{statement}
+use Rattle.table.proofs.marks.is_marked.Tie as tie
+use Rattle.table.specs.Mark.{marked}
+use borrow.Author.Needs.{needs}
+use mathlib.Core.Path.{_≡_, _∙_}
+use native.Mathlib.Omega.{arith}
+
+abbrev Inv-loop : tie.InvT-loop
+Inv-loop marks n m hit₀ i₀ hit i = (i ≤ n) × (hit ≡ marked marks i m)
+
+abbrev μ-loop : tie.MeasureT-loop
+μ-loop marks n m hit₀ i₀ hit i = n - i
+
+loop-holds : tie.Need-loop-holds Inv-loop μ-loop
+loop-holds c = (search needs, marked-none (c .args .marks .now) (c .args .m))
+
+mul-or : tie.Need-mul-or Inv-loop μ-loop
+mul-or c = search needs
+
+element-copy-out-or : tie.Need-element-copy-out-or Inv-loop μ-loop
+element-copy-out-or c = search needs
+
+or-requires : tie.Need-or-requires Inv-loop μ-loop
+or-requires c κs = search needs
+
+add-i : tie.Need-add-i Inv-loop μ-loop
+add-i c = search needs
+
+loop-less : tie.Need-loop-less Inv-loop μ-loop
+loop-less c = search needs
+
+loop-again : tie.Need-loop-again Inv-loop μ-loop
+loop-again c =
+    let o = c .before .before .before .before in
+    let l = c .before .before .before in
+    (search needs, c .or .ensures ∙ rw (l .loop .inv .1) (marked-more (o .args .marks .now) (l .loop .i) (o .args .m)))
+
+returns : tie.Need-returns Inv-loop μ-loop
+returns c = let e : c .before .loop .i ≡ c .before .before .args .n = omega arith in rw e at (c .before .loop .inv .1)
+
+pub is-marked-spec : {M : Type 1} → statement M
+is-marked-spec =
+    tie.close
+    (tie.spec
+    Inv-loop
+    μ-loop
+    loop-holds
+    mul-or
+    element-copy-out-or
+    or-requires
+    add-i
+    loop-less
+    loop-again
+    returns)

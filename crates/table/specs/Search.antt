@@ -1,0 +1,48 @@
+-- Where a call's record is, the lowest free one, and how many are free. Cited by the contracts of `src/searching.rt`.
+-- Assumes nothing.
+use Prim.Native.Nat.{ℕ, zero, suc, _+_}
+use Rattle.table.specs.Image.{size, recordAt}
+use Rattle.table.specs.Record.{isFree, isNamed}
+use Rattle.table.specs.declared.searching.Found.the-variants.{At, Nothing}
+use Rattle.table.specs.declared.searching.Found.{Found}
+use mathlib.Core.Bool.{Bool, true, false, _&&_}
+use mathlib.Core.List.{List}
+
+abbrev pub foundIf : Bool → ℕ → Found
+foundIf true k = At k
+foundIf false k = Nothing
+
+abbrev pub orElse : Found → Found → Found
+orElse (At k) f = At k
+orElse Nothing f = f
+
+-- the lowest number below n that passes a test
+unfoldable pub lowest : (ℕ → Bool) → ℕ → Found
+lowest p zero = Nothing
+lowest p (suc n) = orElse (lowest p n) (foundIf (p n) n)
+
+-- every number below n passes a test
+unfoldable pub every : (ℕ → Bool) → ℕ → Bool
+every p zero = true
+every p (suc n) = every p n && p n
+
+abbrev pub one : Bool → ℕ
+one true = 1
+one false = 0
+
+-- how many numbers below n pass a test
+unfoldable pub tally : (ℕ → Bool) → ℕ → ℕ
+tally p zero = 0
+tally p (suc n) = one (p n) + tally p n
+
+-- the place of a call's record
+unfoldable pub placeOf : List ℕ → List ℕ → Found
+placeOf id t = lowest (λ k. isNamed id (recordAt t k)) (size t)
+
+-- the lowest free record's place
+unfoldable pub freePlace : List ℕ → Found
+freePlace t = lowest (λ k. isFree (recordAt t k)) (size t)
+
+-- how many records are free
+unfoldable pub freeCount : List ℕ → ℕ
+freeCount t = tally (λ k. isFree (recordAt t k)) (size t)

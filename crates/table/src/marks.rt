@@ -1,0 +1,119 @@
+// Whether Call-IDs are distinct, without comparing each with each: a mark of 32 bits tells nearly all apart.
+use crate::layout::CALL_ID_AT;
+use crate::layout::CALL_ID_ROOM;
+use crate::layout::HEADER_SIZE;
+use crate::layout::MOST_RECORDS;
+use crate::layout::RECORD_SIZE;
+use crate::layout::STATE_AT;
+use crate::records::record_at;
+use crate::searching::record_count;
+use crate::texts::text;
+ghost use mathlib.Core.Path.{_≡_};
+ghost use Prim.Native.Nat.{_≤_, _<_};
+ghost use lib.ListN.{length};
+ghost use Rattle.table.specs.Image.{recordAt, recordSize, size};
+ghost use Rattle.table.specs.Mark.{markOf, marked, Marks};
+ghost use Rattle.table.specs.Record.{callIdOf};
+ghost use Rattle.table.specs.WellFormed.{apart, apartBefore, distinct};
+
+// A byte as a wider number.
+fn wide(b: u8) -> u64
+    ensures { λ r. ⌜ (r ≡ b) × (r < 256) ⌝ }
+{
+    b as u64
+}
+
+// The mark of a text.
+fn mark(s: &[u8]) -> u32
+    ensures { λ r. ⌜ r ≡ markOf (now (s .entry)) ⌝ }
+{
+    let mut v: u64 = 0;
+    let mut i: usize = 0;
+    while i < s.len() {
+        v = (v * 31 + wide(s[i])) % 4294967296;
+        i += 1;
+    }
+    v as u32
+}
+
+// Whether m is among the first n marks. It leaves no earlier than at the end: so it becomes a test of
+// several marks at once.
+fn is_marked(marks: &[u32; MOST_RECORDS], n: usize, m: u32) -> bool
+    requires { ⌜ n ≤ 255 ⌝ }
+    ensures { λ r. ⌜ r ≡ marked (now (marks .entry)) n m ⌝ }
+{
+    let mut hit = false;
+    let mut i: usize = 0;
+    while i < n {
+        hit = octets::or(hit, marks[i] == m);
+        i += 1;
+    }
+    hit
+}
+
+// Whether two records are not two of one call.
+fn is_apart(r: &[u8], s: &[u8]) -> bool
+    requires { ⌜ (length (now r) ≡ recordSize) × (length (now s) ≡ recordSize) ⌝ }
+    ensures { λ b. ⌜ b ≡ apart (now (r .entry)) (now (s .entry)) ⌝ }
+{
+    if r[STATE_AT] == 0 {
+        return true;
+    }
+    if s[STATE_AT] == 0 {
+        return true;
+    }
+    !octets::same(
+        text(r, CALL_ID_AT, CALL_ID_ROOM),
+        text(s, CALL_ID_AT, CALL_ID_ROOM),
+    )
+}
+
+// Whether record k is apart from each record before it, by comparing Call-IDs in full.
+fn is_apart_before(t: &[u8], k: usize) -> bool
+    requires { ⌜ k < size (now t) ⌝ }
+    ensures { λ b. ⌜ b ≡ apartBefore (now (t .entry)) k ⌝ }
+{
+    let r = record_at(t, k);
+    let mut l: usize = 0;
+    while l < k {
+        if !is_apart(r, record_at(t, l)) {
+            return false;
+        }
+        l += 1;
+    }
+    true
+}
+
+// Whether record k is apart from each record before it, by the marks of those: it is where it is free;
+// else Call-IDs are compared only where its mark is among them.
+fn is_new(t: &[u8], marks: &[u32; MOST_RECORDS], k: usize, m: u32) -> bool
+    requires { ⌜ (k < size (now t)) × (k < 255) × (m ≡ markOf (callIdOf (recordAt (now t) k))) × Marks (now t) (now marks) k ⌝ }
+    ensures { λ b. ⌜ b ≡ apartBefore (now (t .entry)) k ⌝ }
+{
+    if t[HEADER_SIZE + RECORD_SIZE * k] == 0 {
+        return true;
+    }
+    if is_marked(marks, k, m) {
+        return is_apart_before(t, k);
+    }
+    true
+}
+
+// Whether no Call-ID stands in two records that are not free.
+pub fn is_distinct(t: &[u8]) -> bool
+    requires { ⌜ size (now t) ≤ 255 ⌝ }
+    ensures { λ b. ⌜ b ≡ distinct (now (t .entry)) ⌝ }
+{
+    let n = record_count(t);
+    let mut marks = [0u32; MOST_RECORDS];
+    let mut k: usize = 0;
+    while k < n {
+        let m = mark(text(record_at(t, k), CALL_ID_AT, CALL_ID_ROOM));
+        if !is_new(t, &marks, k, m) {
+            return false;
+        }
+        marks[k] = m;
+        k += 1;
+    }
+    true
+}
