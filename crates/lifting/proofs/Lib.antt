@@ -1,0 +1,3 @@
+pub mod FirstLaws
+pub mod Steps
+pub mod Exchange
