@@ -1,5 +1,5 @@
 // A message of TS-1022 as document 01 reads it (01 Reading): any bytes to the message's facts, or to a refusal with number and place.
-// `read` is proved equal to the ten rows of document 01, tried in its order; each field's rule sees the bytes of its own value alone.
+// `read` is proved equal to document 01's rows 2 to 10, tried in its order; each field's rule sees the bytes of its own value alone.
 // A caller may count on every place of a message that is read, and gets a value's text through one function, `text_of`.
 mod checking;
 mod facts;
