@@ -167,11 +167,11 @@ module _ (d : ℕ) (a b : List ℕ) (i : Item) (is : List Item) (h : Solids d i 
   removed-framed = ap (λ (r : List ℕ). removed r (length a)) (added-framed ∙ ap (λ (r : List ℕ). added r (length a) x) (framed i is)) ∙ removed-added d a i is b h x g ∙ sym (framed i is)
 
 -- Taking the last element off, of two or more: i, j and js. Up to the end of the last but one; from there to the end of the last; and what is left.
-unfoldable prior : Item → Item → List Item → List ℕ
+unfoldable pub prior : Item → Item → List Item → List ℕ
 prior i j [] = i .w ++ i .v
 prior i j (k ∷ ks) = i .w ++ (i .v ++ (i .u ++ (44 ∷ prior j k ks)))
 
-unfoldable gap : Item → Item → List Item → List ℕ
+unfoldable pub gap : Item → Item → List Item → List ℕ
 gap i j [] = i .u ++ (44 ∷ (j .w ++ j .v))
 gap i j (k ∷ ks) = gap j k ks
 
@@ -183,12 +183,12 @@ unfoldable pub shrink : Item → Item → List Item → List Item
 shrink i j [] = []
 shrink i j (k ∷ ks) = shrink₁ j k ks ∷ shrink j k ks
 
-front-gap : (i j : Item) (js : List Item) → front i (j ∷ js) ≡ prior i j js ++ gap i j js
+pub front-gap : (i j : Item) (js : List Item) → front i (j ∷ js) ≡ prior i j js ++ gap i j js
 unfolding front prior gap
 front-gap i j [] = simp append-assoc
 front-gap i j (k ∷ ks) = simp (append-assoc, ← front-gap j k ks)
 
-items-shrink : (i j : Item) (js : List Item) (t : List ℕ) → items (shrink₁ i j js) (shrink i j js) t ≡ prior i j js ++ (back i (j ∷ js) ++ (93 ∷ t))
+pub items-shrink : (i j : Item) (js : List Item) (t : List ℕ) → items (shrink₁ i j js) (shrink i j js) t ≡ prior i j js ++ (back i (j ∷ js) ++ (93 ∷ t))
 unfolding items item prior back shrink₁ shrink
 items-shrink i j [] t = simp append-assoc
 items-shrink i j (k ∷ ks) t = simp (append-assoc, items-shrink j k ks t)

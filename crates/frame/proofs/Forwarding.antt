@@ -21,7 +21,7 @@ use Rattle.frame.proofs.Standing.{Val, Piece, val-piece, piece-sized}
 use Rattle.frame.proofs.Written.{Named, array-piece, items-append}
 use Rattle.frame.proofs.ArrayEdits.{Solids, solid-goods, grow, grow₁, grow-solid, grow-values, shrink, shrink₁, shrink-solid, shrink-values, butLast, array-elements, added-is, removed-is, removed-added, removed-framed}
 use Rattle.frame.proofs.Parsed.{spaced, piece-array}
-use Rattle.frame.proofs.MessageShape.{swap₁, swaps, valueAt, swapRead, swap-read, swap-fine, before, beyond, value-val, Around, AroundFine, object, message, head, tail, upTo, message-split, message-swapped, message-accepted, message-members, value-there, message-start, message-elements, message-tag, Shape, accepted, shape-place, seen, starts-with, not-empty}
+use Rattle.frame.proofs.MessageShape.{Fronts, beyond-front, swap₁, swaps, valueAt, swapRead, swap-read, swap-fine, before, beyond, value-val, Around, AroundFine, object, message, head, tail, upTo, message-split, message-swapped, message-accepted, message-members, value-there, message-start, message-elements, message-tag, Shape, accepted, shape-place, seen, starts-with, not-empty}
 
 -- s is an accepted array of two, at x and y; at y stands an object, and its member n has its value at o
 pub record MemberAt (s : List ℕ) (x y n o : ℕ) : Type 0 where
@@ -48,7 +48,7 @@ unfolding membersFrom memberAt
 none-from zero s a e = refl
 none-from (suc n) s a e = rw e
 
-not-none : (s : List ℕ) (y n : ℕ) → n < length (members s y) → getD s (past s (y + 1)) 0 ≡ 125 → ⊥
+pub not-none : (s : List ℕ) (y n : ℕ) → n < length (members s y) → getD s (past s (y + 1)) 0 ≡ 125 → ⊥
 unfolding members
 not-none s y n l e = omega (arith, ap length (none-from (length s) s (y + 1) e))
 
@@ -147,6 +147,11 @@ module _ (s : List ℕ) (x y n o : ℕ) (a : MemberAt s x y n o) where
   pub value-apart : s ≡ take o s ++ (bytes s o ++ drop (behind s o) s)
   value-apart = cut-at ∙ ap (λ (r : List ℕ). r ++ (old ++ rest)) (sym take-at) ∙ ap (λ (r : List ℕ). take o s ++ (r ++ rest)) (sym bytes-at) ∙ ap (λ (r : List ℕ). take o s ++ (bytes s o ++ r)) (sym rest-at)
 
+  -- and what stands behind it begins with white space, a comma or a closing brace
+  pub value-followed : Fronts (drop (behind s o) s)
+  unfolding rest
+  value-followed = subst Fronts (sym rest-at) (beyond-front n 6 (shape .f) (shape .fs) (tail (shape .m)) (shape .good) few)
+
   -- a value that begins with a quote or a bracket ends by itself, wherever it is copied to
   pub value-piece : Opener (getD s o 0) → Piece 6 (bytes s o)
   value-piece b =
@@ -214,11 +219,11 @@ AllOpen s [] = Unit
 AllOpen s (x ∷ xs) = Opener (getD s x 0) × AllOpen s xs
 
 -- v is such an array, and these are its elements
-record Solidly (d : ℕ) (v : List ℕ) : Type 0 where
-  i : Item
-  is : List Item
-  eq : v ≡ 91 ∷ items i is []
-  solid : Solids d i is
+pub record Solidly (d : ℕ) (v : List ℕ) : Type 0 where
+  pub i : Item
+  pub is : List Item
+  pub eq : v ≡ 91 ∷ items i is []
+  pub solid : Solids d i is
 
 opener-piece : (d : ℕ) (v t s : List ℕ) (x : ℕ) → Val d v t → drop x s ≡ v ++ t → Opener (getD s x 0) → Piece d v
 opener-piece d v t s x h e g = let r = starts-with v t s x (getD s x 0) (h .sized .starts) e refl in val-piece d v t h (subst Opened (sym (r .1)) g)
@@ -242,7 +247,7 @@ full-array s r q o e n t g =
     let d : drop (o + 1) s ≡ p .w ++ (93 ∷ (t ++ q)) = at-next 91 _ s o e ∙ ap (λ (z : List ℕ). z ++ q) (p .is ∙ ap (λ (z : List ℕ). p .w ++ z) g) ∙ append-assoc (p .w) (93 ∷ t) q in
     n (seen s (p .w) (t ++ q) (o + 1) 93 (p .ws) (inr ws-93) d)
 
-solidly-as : (s r q : List ℕ) (o x : ℕ) (xs : List ℕ) → Piece 6 (91 ∷ r) → drop o s ≡ (91 ∷ r) ++ q → elements s o ≡ x ∷ xs → AllOpen s (elements s o) → Solidly 5 (91 ∷ r)
+pub solidly-as : (s r q : List ℕ) (o x : ℕ) (xs : List ℕ) → Piece 6 (91 ∷ r) → drop o s ≡ (91 ∷ r) ++ q → elements s o ≡ x ∷ xs → AllOpen s (elements s o) → Solidly 5 (91 ∷ r)
 solidly-as s r q o x xs p e el b =
     let f = piece-array 6 r p (full-array s r q o e (not-empty s o x xs el)) in
     let e′ : drop o s ≡ 91 ∷ items (f .i) (f .is) q = e ∙ ap (λ (y : List ℕ). 91 ∷ (y ++ q)) (f .eq) ∙ ap (λ (y : List ℕ). 91 ∷ y) (items-append (f .i) (f .is) q) in

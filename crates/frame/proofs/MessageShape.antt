@@ -3,14 +3,14 @@
 -- `message-members`, `swap-read`). Cited by Forwarding. Assumes nothing.
 use mathlib.Core.Path.{_≡_, refl, sym, ap, subst, _∙_}
 use mathlib.Core.Logic.{_⊎_, inl, inr}
-use mathlib.Core.Bool.{Bool, true, false}
+use mathlib.Core.Bool.{Bool, true, false, _||_}
 use mathlib.Core.List.{List, [], _∷_, _++_, append-assoc, append-nil, map}
 use Prim.Native.Nat.{ℕ, zero, suc, _+_, _≤_, _<_}
 use native.Mathlib.Omega.{arith}
 use lib.ListN.{length, getD, drop, length-append}
 use lib.Seq.{drop-append-seam, getD-drop}
 use lib.Dec.{eqb}
-use borrow.Author.Tests.{eqb-false}
+use borrow.Author.Tests.{eqb-true, eqb-false}
 use Rattle.json.specs.Machine.{text, value, after, isWs, answer}
 use Rattle.json.specs.Places.{pickL, spaces, past, follows, valueOf, membersFrom, members, elementsFrom, elements, bytes, spell}
 use Rattle.json.specs.declared.Walked.the-variants.{End}
@@ -92,6 +92,36 @@ value-val zero d f [] t h l = h .val t
 value-val zero d f (g ∷ gs) t h l = h .0 .val (body g gs t)
 value-val (suc n) d f [] t h l = absurd (omega arith)
 value-val (suc n) d f (g ∷ gs) t h l = value-val n d g gs t (h .1) (omega arith)
+
+-- these begin with an ASCII byte
+pub record Fronts (l : List ℕ) : Type 0 where
+  pub b : ℕ
+  pub c : List ℕ
+  pub is : l ≡ b ∷ c
+  pub low : b < 128
+
+ws-low : (b : ℕ) → isWs b ≡ true → b < 128
+unfolding isWs
+ws-low b e = by (eqb b 32) (eqb b 9) (eqb b 10) (eqb b 13) refl refl refl refl e
+  where
+    by : (x y z u : Bool) → eqb b 32 ≡ x → eqb b 9 ≡ y → eqb b 10 ≡ z → eqb b 13 ≡ u → (x || (y || (z || u))) ≡ true → b < 128
+    by true y z u f g h i e = omega (arith, eqb-true b 32 f)
+    by false true z u f g h i e = omega (arith, eqb-true b 9 g)
+    by false false true u f g h i e = omega (arith, eqb-true b 10 h)
+    by false false false true f g h i e = omega (arith, eqb-true b 13 i)
+    by false false false false f g h i e = absurd (let w : _≡_ {A = ℕ} 0 1 = cc in omega arith)
+
+pub blank-front : (w : List ℕ) (x : ℕ) (t : List ℕ) → Blank w → x < 128 → Fronts (w ++ (x ∷ t))
+blank-front [] x t h l = record { b = x; c = t; is = refl; low = l }
+blank-front (b ∷ w) x t h l = record { b = b; c = w ++ (x ∷ t); is = refl; low = ws-low b (h .0) }
+
+-- so does what stands behind a member's value
+pub beyond-front : (n d : ℕ) (f : Field) (fs : List Field) (t : List ℕ) → Fines (Val d) Named f fs → n ≤ length fs → Fronts (beyond n f fs t)
+unfolding beyond
+beyond-front zero d f [] t h l = blank-front (f .u) 125 t (h .behind) (omega arith)
+beyond-front zero d f (g ∷ gs) t h l = blank-front (f .u) 44 (body g gs t) (h .0 .behind) (omega arith)
+beyond-front (suc n) d f [] t h l = absurd (omega arith)
+beyond-front (suc n) d f (g ∷ gs) t h l = beyond-front n d g gs t (h .1) (omega arith)
 
 -- its place
 value-place : (n N d : ℕ) (s : List ℕ) (a : ℕ) (f : Field) (fs : List Field) (t : List ℕ) → Fines (Val d) Named f fs → length fs < N → n ≤ length fs → drop a s ≡ body f fs t → valueOf s (getD (membersFrom N s a) n 0) ≡ a + length (before n f fs)
@@ -304,7 +334,7 @@ second-of s i is t o x y e g h =
     second s i is t o x y e g c (sym (array-starts (Val 7) (λ v q x. x .sized) s o i is t g e) ∙ h) (sym (elements-at (Val 7) (λ v q x. x .sized) s o i is t g e) ∙ h)
 
 -- an object that does not close at once
-full : (s r q : List ℕ) (y : ℕ) → drop y s ≡ (123 ∷ r) ++ q → (getD s (past s (y + 1)) 0 ≡ 125 → ⊥) → (t : List ℕ) → spaced r .t ≡ 125 ∷ t → ⊥
+pub full : (s r q : List ℕ) (y : ℕ) → drop y s ≡ (123 ∷ r) ++ q → (getD s (past s (y + 1)) 0 ≡ 125 → ⊥) → (t : List ℕ) → spaced r .t ≡ 125 ∷ t → ⊥
 full s r q y e n t g =
     let p = spaced r in
     let d : drop (y + 1) s ≡ p .w ++ (125 ∷ (t ++ q)) = at-next 123 _ s y e ∙ ap (λ (z : List ℕ). z ++ q) (p .is ∙ ap (λ (z : List ℕ). p .w ++ z) g) ∙ append-assoc (p .w) (125 ∷ t) q in

@@ -21,3 +21,4 @@ pub mod GrammarScan
 pub mod GrammarCore
 pub mod PlaceTie
 pub mod PlaceSamples
+pub mod PassLaws

@@ -5,3 +5,4 @@ pub mod Machine
 pub mod Runs
 pub mod Places
 pub mod Derived
+pub mod Passing

@@ -3,11 +3,14 @@
 // Any bytes may be handed over, and any place; nothing is kept, and the stack grows with the nesting alone.
 mod literals;
 mod numbers;
+mod passing;
 mod places;
 mod spaces;
 mod strings;
 mod values;
 
+pub use passing::pass_member;
+pub use passing::pass_string;
 pub use places::Element;
 pub use places::Member;
 pub use places::behind;

@@ -1,45 +1,16 @@
 // Runs the stored JSON texts: a line of standard input is a text in hex, and its answer is a line,
 // `ok`, `no 4 PLACE` or `no 5 PLACE`. A text has 1,024 bytes at most, all lines 65,536.
 use json::Walked;
-ghost use Prim.Native.Nat.{_+_, _≤_, _<_};
+ghost use Prim.Native.Nat.{_≤_};
 
-// What a hex digit stands for, and 0 for any other byte.
-fn digit(b: u8) -> u8
-    ensures { λ r. ⌜ r < 16 ⌝ }
-{
-    if b < 48 {
-        return 0;
-    }
-    if b <= 57 {
-        return b - 48;
-    }
-    if b < 97 {
-        return 0;
-    }
-    if b <= 102 {
-        return b - 87;
-    }
-    0
-}
-
-// How many bytes n hex digits stand for, and at most 1,024.
-fn half(n: usize) -> usize
-    ensures { λ r. ⌜ (r ≤ 1024) × (r + r ≤ n) ⌝ }
-{
-    if n < 2048 { n / 2 } else { 1024 }
-}
-
-// Puts the text that a line of hex stands for into `text`, and answers its length.
+// Puts the text that a line of hex stands for into `text`, and answers its length; a line that is too long stands for none.
 fn decoded(line: &[u8], text: &mut [u8; 1024]) -> usize
     ensures { λ r. ⌜ r ≤ 1024 ⌝ }
 {
-    let n = half(line.len());
-    let mut i: usize = 0;
-    while i < n {
-        text[i] = digit(line[2 * i]) * 16 + digit(line[2 * i + 1]);
-        i += 1;
+    if 2048 < line.len() {
+        return 0;
     }
-    i
+    hex::decode(text, line)
 }
 
 fn refuse(start: &[u8], place: usize) {

@@ -2,9 +2,13 @@ pub mod ValueLaws
 pub mod GatherLaws
 pub mod ElementLaws
 pub mod ViaLaws
+pub mod TextLaws
 pub mod FieldLaws
 pub mod CheckLaws
 pub mod FactLaws
+pub mod HopLaws
 pub mod ShapeLaws
+pub mod WalkLaws
 pub mod ReadingLaws
 pub mod Theorems
+pub mod Accepted

@@ -15,7 +15,7 @@ use Rattle.rules.specs.Texts.{fireRule, callIdRule, deskRule, messageIdRule, im
 use Rattle.rules.specs.Words.{availabilities, messageTypeRule, notifyTypeRule, presences, callModes, callTests, truths, rescuees, services}
 use lib.Dec.{eqb, leb, ltb}
 use lib.ListN.{getD}
-use mathlib.Core.Bool.{Bool, true, false, _&&_, _||_}
+use mathlib.Core.Bool.{Bool, _&&_, _||_}
 use mathlib.Core.List.{List}
 
 -- A rule sees a setting besides its value: the tag (1 request, 2 response, 3 ping, 4 pong), the method's code (0: none) and the

@@ -1,7 +1,7 @@
 -- Which members of an object are known, and what stands under them (01 Reading, rows 7 and 8). It serves the message's own object, with the 26
 -- fields, and an object of Via, with its three members: ns are the known names, numbered from 1. Assumes nothing.
-use Prim.Native.Nat.{ℕ}
-use Rattle.json.specs.Places.{pickN, pickL, raw, valueOf, members}
+use Prim.Native.Nat.{ℕ, _<_}
+use Rattle.json.specs.Places.{pickN, pickL, raw, behind, valueOf, members}
 use Rattle.rules.specs.Names.{fields, hopMembers}
 use Rattle.rules.specs.Pieces.{placeOf}
 use lib.Dec.{eqb, ltb}
@@ -45,3 +45,7 @@ namesOf false = fields
 pub record Gathered (ns : List (List ℕ)) (s : List ℕ) (o twice : ℕ) (at : List ℕ) : Type 0 where
   pub first : twice ≡ repeated ns s empty (members s o)
   pub places : twice ≡ 0 → at ≡ noted ns s empty (members s o)
+
+-- e has the ends of values of which t has the places, as far as they are known; 0 stands for one that is not
+pub record Ended (s t e : List ℕ) : Type 0 where
+  pub ends : (n : ℕ) → 0 < getD e n 0 → getD e n 0 ≡ behind s (getD t n 0)

@@ -4,5 +4,8 @@ pub mod Via
 pub mod Field
 pub mod Checks
 pub mod Shape
+pub mod Walk
 pub mod Message
+pub mod Parties
+pub mod Hop
 pub mod Reading

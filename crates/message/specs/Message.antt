@@ -1,9 +1,10 @@
 -- What is read of a message (01 Reading): facts, each a function of the text s and of the places t of its known fields; and row 10, where
 -- fields disagree. Assumes nothing.
-use Prim.Native.Nat.{ℕ}
+use Prim.Native.Nat.{ℕ, _+_, _<_}
 use Rattle.json.specs.Places.{pickN, bytes}
 use Rattle.message.specs.Value.{textOf}
 use Rattle.message.specs.declared.facts.Message.{Message}
+use Rattle.message.specs.declared.facts.Span.{Span}
 use Rattle.message.specs.declared.fields.Setting.{Setting}
 use Rattle.rules.specs.Address.{addressOf}
 use Rattle.rules.specs.Pieces.{placeOf}
@@ -16,10 +17,11 @@ use Rattle.rules.specs.declared.sequences.Sequence.the-variants as sequences
 use Rattle.rules.specs.declared.sequences.Sequence.{Sequence}
 use Rattle.rules.specs.declared.statuses.Status.the-variants as statuses
 use Rattle.rules.specs.declared.statuses.Status.{Status}
-use lib.Dec.{eqb}
-use lib.ListN.{getD}
+use lib.Dec.{eqb, ltb}
+use lib.ListN.{length, getD}
 use mathlib.Core.Bool.{Bool, true, false, not, _&&_, _||_}
 use mathlib.Core.List.{List}
+use mathlib.Core.Path.{_≡_}
 
 -- the text of the value at v, and of field n
 unfoldable pub textAt : List ℕ → ℕ → List ℕ
@@ -115,7 +117,69 @@ disagrees s k t =
     || ((eqb (k .tag) 1 && requestDisagrees s k t (fromCaller s t))
     || (eqb (k .tag) 2 && responseDisagrees (codeOf s (k .tag) (getD t 7 0)) (k .method)))
 
--- The message: the facts that the keeper and the writer go by, and the places of the five values that a reply copies.
+-- What is taken from CSeq, Status, From and To once for the rest.
+pub record Taken (s : List ℕ) (k : Setting) (t : List ℕ) (number code : ℕ) (from to : Address) : Type 0 where
+  pub numbered : number ≡ numberOf s t
+  pub coded : code ≡ codeOf s (k .tag) (getD t 7 0)
+  pub sent : from ≡ addressOf (fieldText s t 3)
+  pub meant : to ≡ addressOf (fieldText s t 2)
+
+-- Where texts stand in s. The text of a value at v begins behind its quote; its bytes from a up to e stand there.
+unfoldable pub spanIn : ℕ → ℕ → ℕ → Span
+spanIn v a e = record { start = v + 1 + a; end = v + 1 + e }
+
+abbrev pub nowhere : Span
+nowhere = record { start = 0; end = 0 }
+
+abbrev pub pickS : Bool → Span → Span → Span
+pickS true a b = a
+pickS false a b = b
+
+-- the whole text of the value at v
+unfoldable pub textSpan : List ℕ → ℕ → Span
+textSpan s v = pickS (ltb v (length s)) (record { start = v + 1; end = v + 1 + length (textAt s v) }) nowhere
+
+-- the user, the caller's Fire-ID and the callee's in the address at v; nowhere in an address of the other side
+abbrev pub userSpan : ℕ → Address → Span
+userSpan v (addresses.Caller user fire) = spanIn v 7 user
+userSpan v (addresses.Callee fire) = nowhere
+userSpan v addresses.Broken = nowhere
+
+abbrev pub callerSpan : ℕ → Address → Span
+callerSpan v (addresses.Caller user fire) = spanIn v (user + 1) fire
+callerSpan v (addresses.Callee fire) = nowhere
+callerSpan v addresses.Broken = nowhere
+
+abbrev pub calleeSpan : ℕ → Address → Span
+calleeSpan v (addresses.Caller user fire) = nowhere
+calleeSpan v (addresses.Callee fire) = spanIn v 12 fire
+calleeSpan v addresses.Broken = nowhere
+
+-- the parts of an address at v stand within the numbers of 64 bits
+abbrev pub Held : ℕ → Address → Type 0
+Held v (addresses.Caller user fire) = (7 < user) × ((user + 2 < fire) × (v + 1 + fire < 18446744073709551616))
+Held v (addresses.Callee fire) = (13 < fire) × (v + 1 + fire < 18446744073709551616)
+Held v addresses.Broken = Unit
+
+-- where the texts of the two parties stand: the caller's address is a, at v, and the callee's b, at w
+pub record PartiesOf (v : ℕ) (a : Address) (w : ℕ) (b : Address) (user callerfire calleefire : Span) : Type 0 where
+  pub users : user ≡ userSpan v a
+  pub callers : callerfire ≡ callerSpan v a
+  pub callees : calleefire ≡ calleeSpan w b
+
+abbrev pub pickA : Bool → Address → Address → Address
+pickA true a b = a
+pickA false a b = b
+
+-- where the caller's address stands, From if the message is from a caller, else To; and the callee's, the other one
+unfoldable pub callerAt : Bool → List ℕ → ℕ
+callerAt from t = pickN from (getD t 3 0) (getD t 2 0)
+
+unfoldable pub calleeAt : Bool → List ℕ → ℕ
+calleeAt from t = pickN from (getD t 2 0) (getD t 3 0)
+
+-- The message: the facts that the keeper and the writer go by, the places of the five values that a reply copies, and where the texts
+-- stand that name the call and its parties.
 
 unfoldable pub messageOf : List ℕ → Setting → List ℕ → Message
 messageOf s k t =
@@ -131,6 +195,10 @@ messageOf s k t =
       from = getD t 3 0;
       call = getD t 5 0;
       via = getD t 6 0;
+      callid = textSpan s (getD t 5 0);
+      user = userSpan (callerAt (fromCaller s t) t) (addressOf (textAt s (callerAt (fromCaller s t) t)));
+      callerfire = callerSpan (callerAt (fromCaller s t) t) (addressOf (textAt s (callerAt (fromCaller s t) t)));
+      calleefire = calleeSpan (calleeAt (fromCaller s t) t) (addressOf (textAt s (calleeAt (fromCaller s t) t)));
     }
 
 -- a ping or a pong
@@ -148,4 +216,8 @@ probeOf tag =
       from = 0;
       call = 0;
       via = 0;
+      callid = nowhere;
+      user = nowhere;
+      callerfire = nowhere;
+      calleefire = nowhere;
     }

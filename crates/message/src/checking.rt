@@ -1,9 +1,10 @@
 // 01 Reading, rows 8 and 9, on a run of fields: what a tag asks for, or what a request's method asks for.
 use crate::fields::Setting;
 use crate::fields::keeps_rule;
-use json::value_part;
+use crate::values::value_at;
 ghost use mathlib.Core.Path.{_≡_};
 ghost use Prim.Native.Nat.{_<_};
+ghost use Rattle.message.specs.Known.{Ended};
 ghost use Rattle.message.specs.Checks.{asks, breaks, broken, checked, lacks, missing};
 
 // What a run of rows 8 and 9 finds: nothing, or a number with its place.
@@ -52,8 +53,8 @@ fn lacking(run: bool, k: Setting, at: &[usize; 27]) -> usize
 }
 
 // Whether field n is listed and there, and breaks its rule.
-fn is_broken(s: &[u8], run: bool, k: Setting, at: &[usize; 27], n: usize) -> bool
-    requires { ⌜ (k .tag < 5) × ((k .method < 9) × (n < 27)) ⌝ }
+fn is_broken(s: &[u8], run: bool, k: Setting, at: &[usize; 27], end: &[usize; 27], n: usize) -> bool
+    requires { ⌜ (k .tag < 5) × ((k .method < 9) × ((n < 27) × Ended (now s) (now at) (now end))) ⌝ }
     ensures { λ r. ⌜ r ≡ breaks (now (s .entry)) run k (now (at .entry)) n ⌝ }
 {
     if asks(run, k, n) == 0 {
@@ -63,17 +64,18 @@ fn is_broken(s: &[u8], run: bool, k: Setting, at: &[usize; 27], n: usize) -> boo
     if v == 0 {
         return false;
     }
-    !keeps_rule(k, n, value_part(s, v))
+    let e = end[n];
+    !keeps_rule(k, n, value_at(s, v, e))
 }
 
 // The lowest field that breaks its rule, or 0.
-fn breaking(s: &[u8], run: bool, k: Setting, at: &[usize; 27]) -> usize
-    requires { ⌜ (k .tag < 5) × (k .method < 9) ⌝ }
+fn breaking(s: &[u8], run: bool, k: Setting, at: &[usize; 27], end: &[usize; 27]) -> usize
+    requires { ⌜ (k .tag < 5) × ((k .method < 9) × Ended (now s) (now at) (now end)) ⌝ }
     ensures { λ r. ⌜ (r ≡ broken (now (s .entry)) run k (now (at .entry))) × (r < 27) ⌝ }
 {
     let mut n: usize = 1;
     while n < 27 {
-        if is_broken(s, run, k, at, n) {
+        if is_broken(s, run, k, at, end, n) {
             return n;
         }
         n += 1;
@@ -82,15 +84,15 @@ fn breaking(s: &[u8], run: bool, k: Setting, at: &[usize; 27]) -> usize
 }
 
 // Rows 8 and 9 on a run.
-pub fn check_run(s: &[u8], run: bool, k: Setting, at: &[usize; 27]) -> Check
-    requires { ⌜ (k .tag < 5) × (k .method < 9) ⌝ }
+pub fn check_run(s: &[u8], run: bool, k: Setting, at: &[usize; 27], end: &[usize; 27]) -> Check
+    requires { ⌜ (k .tag < 5) × ((k .method < 9) × Ended (now s) (now at) (now end)) ⌝ }
     ensures { λ r. ⌜ r ≡ checked (now (s .entry)) run k (now (at .entry)) ⌝ }
 {
     let m = lacking(run, k, at);
     if m != 0 {
         return Check::Fault(8, m);
     }
-    let b = breaking(s, run, k, at);
+    let b = breaking(s, run, k, at, end);
     if b != 0 {
         return Check::Fault(9, at[b]);
     }

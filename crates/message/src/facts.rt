@@ -1,19 +1,30 @@
 // What is read of a message, and row 10, where fields disagree (01 Reading).
 use crate::fields::Setting;
-use crate::values::text_of;
-use json::value_part;
+use crate::values::text_at;
+use crate::values::value_at;
 use octets::and;
 use octets::or;
+ghost use mathlib.Core.Bool.{_&&_};
 ghost use mathlib.Core.Path.{_≡_};
-ghost use Prim.Native.Nat.{_<_};
+ghost use Prim.Native.Nat.{_<_, _+_};
+ghost use lib.Dec.{eqb};
 ghost use lib.ListN.{getD};
-ghost use Rattle.message.specs.Message.{callbackTraining, callerIn, codeIn, codeOf, disagrees, contentAt, textAt, messageOf, methodIn, numberIn, probeOf, requestDisagrees, responseDisagrees, sameSide, secureOf, sidesDisagree, settingOf, wrongNumber, wrongSide};
+ghost use Rattle.json.specs.Places.{behind, pickN};
+ghost use Rattle.message.specs.Known.{Ended};
+ghost use Rattle.message.specs.Message.{Held, PartiesOf, Taken, calleeSpan, callerSpan, callbackTraining, callerIn, codeIn, codeOf, disagrees, contentAt, textAt, textSpan, messageOf, pickA, methodIn, methodOf, numberIn, probeOf, requestDisagrees, responseDisagrees, sameSide, secureOf, sidesDisagree, settingOf, userSpan, wrongNumber, wrongSide};
 ghost use Rattle.rules.specs.Address.{addressOf};
 ghost use Rattle.rules.specs.Sequence.{sequenceOf};
 ghost use Rattle.rules.specs.Status.{statusOf};
 
+// Where a text stands in the message: from `start` up to `end`.
+pub struct Span {
+    pub start: usize,
+    pub end: usize,
+}
+
 // The facts that the keeper and the writer go by: the tag (1 request, 2 response, 3 ping, 4 pong), the method's code, CSeq's number, a
-// response's status code, whether it is from a caller, Secure-Call of an INVITE, and where the five values stand that a reply copies.
+// response's status code, whether it is from a caller, Secure-Call of an INVITE, where the five values stand that a reply copies, and where
+// the texts stand that name the call and its parties.
 pub struct Message {
     pub tag: u8,
     pub method: u8,
@@ -26,6 +37,10 @@ pub struct Message {
     pub from: usize,
     pub call: usize,
     pub via: usize,
+    pub callid: Span,
+    pub user: Span,
+    pub callerfire: Span,
+    pub calleefire: Span,
 }
 
 // From and To on the same side.
@@ -50,18 +65,19 @@ fn wrong_number(m: u8, n: u32) -> bool
     and(m == 6, !(n == 1))
 }
 
-// The text of the field whose value is at v.
-fn text_at(s: &[u8], v: usize) -> &[u8]
-    ensures { λ r. ⌜ now r ≡ textAt (now (s .entry)) v ⌝ }
+// The address at v, which ends at e.
+pub fn address_at(s: &[u8], v: usize, e: usize) -> rules::Address
+    requires { ⌜ (0 < e → e ≡ behind (now s) v) ⌝ }
+    ensures { λ r. ⌜ r ≡ addressOf (textAt (now (s .entry)) v) ⌝ }
 {
-    text_of(value_part(s, v))
+    rules::address_of(text_at(s, v, e))
 }
 
-// Whether the address at v is a caller's.
-fn is_caller(s: &[u8], v: usize) -> bool
-    ensures { λ r. ⌜ r ≡ callerIn (addressOf (textAt (now (s .entry)) v)) ⌝ }
+// Whether an address is a caller's.
+fn side_of(a: rules::Address) -> bool
+    ensures { λ r. ⌜ r ≡ callerIn a ⌝ }
 {
-    match rules::address_of(text_at(s, v)) {
+    match a {
         rules::Address::Caller(_, _) => true,
         rules::Address::Callee(_) => false,
         rules::Address::Broken => false,
@@ -69,43 +85,53 @@ fn is_caller(s: &[u8], v: usize) -> bool
 }
 
 // The code of the Status at v.
-fn code_at(s: &[u8], v: usize) -> u16
+fn code_at(s: &[u8], v: usize, e: usize) -> u16
+    requires { ⌜ (0 < e → e ≡ behind (now s) v) ⌝ }
     ensures { λ r. ⌜ r ≡ codeIn (statusOf (textAt (now (s .entry)) v)) ⌝ }
 {
-    match rules::status_of(text_at(s, v)) {
+    match rules::status_of(text_at(s, v, e)) {
         rules::Status::Code(n) => n,
         rules::Status::Broken => 0,
     }
 }
 
 // The number of the Content-Type at v, 0 where there is none.
-fn content_at(s: &[u8], v: usize) -> u8
+fn content_at(s: &[u8], v: usize, e: usize) -> u8
+    requires { ⌜ (0 < e → e ≡ behind (now s) v) ⌝ }
     ensures { λ r. ⌜ r ≡ contentAt (now (s .entry)) v ⌝ }
 {
     if v == 0 {
         return 0;
     }
-    rules::content_type(text_at(s, v))
+    rules::content_type(text_at(s, v, e))
 }
 
-// An INVITE with `callback` and `training`: the Request-Service at v, the Call-Mode at w.
-fn is_callback_training(s: &[u8], v: usize, w: usize) -> bool
-    ensures { λ r. ⌜ r ≡ callbackTraining (now (s .entry)) v w ⌝ }
+// An INVITE with `callback` and `training`: its Request-Service and its Call-Mode.
+fn is_callback_training(s: &[u8], at: &[usize; 27], end: &[usize; 27]) -> bool
+    requires { ⌜ Ended (now s) (now at) (now end) ⌝ }
+    ensures { λ r. ⌜ r ≡ callbackTraining (now (s .entry)) (getD (now (at .entry)) 19 0) (getD (now (at .entry)) 15 0) ⌝ }
 {
     and(
-        rules::service(text_at(s, v)) == 4,
-        rules::call_mode(text_at(s, w)) == 2,
+        rules::service(text_at(s, at[19], end[19])) == 4,
+        rules::call_mode(text_at(s, at[15], end[15])) == 2,
     )
 }
 
 // What only a request can have.
-fn request_disagrees(s: &[u8], k: Setting, at: &[usize; 27], from: bool) -> bool
-    ensures { λ r. ⌜ r ≡ requestDisagrees (now (s .entry)) k (now (at .entry)) from ⌝ }
+fn request_disagrees(s: &[u8], k: Setting, at: &[usize; 27], end: &[usize; 27], from: bool) -> bool
+    requires { ⌜ Ended (now s) (now at) (now end) ⌝ }
+    ensures { λ r. ⌜ r ≡ (eqb (k .tag) 1 && requestDisagrees (now (s .entry)) k (now (at .entry)) from) ⌝ }
 {
+    let tag = k.tag;
     let method = k.method;
     let content = k.content;
-    let invite = and(method == 1, is_callback_training(s, at[19], at[15]));
-    or(invite, and(method == 5, and(!from, !(content == 1))))
+    if tag != 1 {
+        return false;
+    }
+    if method == 1 {
+        return is_callback_training(s, at, end);
+    }
+    and(method == 5, and(!from, !(content == 1)))
 }
 
 // What only a response can have: status 202 outside REFER.
@@ -126,38 +152,41 @@ fn sides_disagree(method: u8, number: u32, from: bool, to: bool) -> bool
 }
 
 // A response's status code; a request has none.
-fn code_of(s: &[u8], tag: u8, v: usize) -> u16
+pub fn code_of(s: &[u8], tag: u8, v: usize, e: usize) -> u16
+    requires { ⌜ (0 < e → e ≡ behind (now s) v) ⌝ }
     ensures { λ r. ⌜ r ≡ codeOf (now (s .entry)) tag v ⌝ }
 {
     if tag == 2 {
-        return code_at(s, v);
+        return code_at(s, v, e);
     }
     0
 }
 
 // Secure-Call of an INVITE request.
-fn secure_of(s: &[u8], k: Setting, v: usize) -> bool
+fn secure_of(s: &[u8], k: Setting, v: usize, e: usize) -> bool
+    requires { ⌜ (0 < e → e ≡ behind (now s) v) ⌝ }
     ensures { λ r. ⌜ r ≡ secureOf (now (s .entry)) k v ⌝ }
 {
     let tag = k.tag;
     let method = k.method;
-    and(
-        and(tag == 1, method == 1),
-        rules::secure_call(value_part(s, v)) == 2,
-    )
+    if and(tag == 1, method == 1) {
+        return rules::secure_call(value_at(s, v, e)) == 2;
+    }
+    false
 }
 
 // CSeq's number and method.
-struct Sequenced {
-    number: u32,
-    method: u8,
+pub struct Sequenced {
+    pub number: u32,
+    pub method: u8,
 }
 
 // The CSeq at v; 0 and 0 where it is broken.
-fn sequence_at(s: &[u8], v: usize) -> Sequenced
+pub fn sequence_at(s: &[u8], v: usize, e: usize) -> Sequenced
+    requires { ⌜ (0 < e → e ≡ behind (now s) v) ⌝ }
     ensures { λ r. ⌜ (r .number ≡ numberIn (sequenceOf (textAt (now (s .entry)) v))) × ((r .method ≡ methodIn (sequenceOf (textAt (now (s .entry)) v))) × (r .method < 9)) ⌝ }
 {
-    match rules::sequence_of(text_at(s, v)) {
+    match rules::sequence_of(text_at(s, v, e)) {
         rules::Sequence::Of(number, method) => Sequenced { number, method },
         rules::Sequence::Broken => Sequenced {
             number: 0,
@@ -167,51 +196,169 @@ fn sequence_at(s: &[u8], v: usize) -> Sequenced
 }
 
 // What the rules of a request or a response see besides their value.
-pub fn setting_of(s: &[u8], tag: u8, at: &[usize; 27]) -> Setting
-    ensures { λ r. ⌜ (r ≡ settingOf (now (s .entry)) tag (now (at .entry))) × (r .method < 9) ⌝ }
+pub fn setting_of(s: &[u8], tag: u8, method: u8, at: &[usize; 27], end: &[usize; 27]) -> Setting
+    requires { ⌜ (method ≡ methodOf (now s) (now at)) × Ended (now s) (now at) (now end) ⌝ }
+    ensures { λ r. ⌜ (r ≡ settingOf (now (s .entry)) tag (now (at .entry))) × (r .method ≡ method) ⌝ }
 {
-    let q = sequence_at(s, at[1]);
     Setting {
         tag,
-        method: q.method,
-        content: content_at(s, at[9]),
+        method,
+        content: content_at(s, at[9], end[9]),
     }
 }
 
 // Whether fields disagree.
-pub fn disagree(s: &[u8], k: Setting, at: &[usize; 27]) -> bool
+pub fn disagree(
+    s: &[u8],
+    k: Setting,
+    number: u32,
+    code: u16,
+    from: rules::Address,
+    to: rules::Address,
+    at: &[usize; 27],
+    end: &[usize; 27],
+) -> bool
+    requires { ⌜ Taken (now s) k (now at) number code from to × Ended (now s) (now at) (now end) ⌝ }
     ensures { λ r. ⌜ r ≡ disagrees (now (s .entry)) k (now (at .entry)) ⌝ }
 {
-    let q = sequence_at(s, at[1]);
-    let from = is_caller(s, at[3]);
-    let to = is_caller(s, at[2]);
     let tag = k.tag;
     let method = k.method;
-    let both = sides_disagree(method, q.number, from, to);
-    let request = and(tag == 1, request_disagrees(s, k, at, from));
-    let response = and(tag == 2, response_disagrees(code_of(s, tag, at[7]), method));
+    let sent = side_of(from);
+    let both = sides_disagree(method, number, sent, side_of(to));
+    let request = request_disagrees(s, k, at, end, sent);
+    let response = and(tag == 2, response_disagrees(code, method));
     or(both, or(request, response))
 }
 
+// The whole text of the value at v.
+fn text_span(s: &[u8], v: usize, e: usize) -> Span
+    requires { ⌜ (0 < e → e ≡ behind (now s) v) ⌝ }
+    ensures { λ r. ⌜ r ≡ textSpan (now (s .entry)) v ⌝ }
+{
+    if s.len() <= v {
+        return Span { start: 0, end: 0 };
+    }
+    let t = text_at(s, v, e);
+    Span {
+        start: v + 1,
+        end: v + 1 + t.len(),
+    }
+}
+
+// The user in the address a at v.
+fn user_span(v: usize, a: rules::Address) -> Span
+    requires { ⌜ Held v a ⌝ }
+    ensures { λ r. ⌜ r ≡ userSpan v a ⌝ }
+{
+    match a {
+        rules::Address::Caller(user, _) => Span {
+            start: v + 1 + 7,
+            end: v + 1 + user,
+        },
+        rules::Address::Callee(_) => Span { start: 0, end: 0 },
+        rules::Address::Broken => Span { start: 0, end: 0 },
+    }
+}
+
+// The caller's Fire-ID in the address a at v.
+fn caller_span(v: usize, a: rules::Address) -> Span
+    requires { ⌜ Held v a ⌝ }
+    ensures { λ r. ⌜ r ≡ callerSpan v a ⌝ }
+{
+    match a {
+        rules::Address::Caller(user, fire) => Span {
+            start: v + 1 + (user + 1),
+            end: v + 1 + fire,
+        },
+        rules::Address::Callee(_) => Span { start: 0, end: 0 },
+        rules::Address::Broken => Span { start: 0, end: 0 },
+    }
+}
+
+// The callee's Fire-ID in the address a at v.
+fn callee_span(v: usize, a: rules::Address) -> Span
+    requires { ⌜ Held v a ⌝ }
+    ensures { λ r. ⌜ r ≡ calleeSpan v a ⌝ }
+{
+    match a {
+        rules::Address::Callee(fire) => Span {
+            start: v + 1 + 12,
+            end: v + 1 + fire,
+        },
+        rules::Address::Caller(_, _) => Span { start: 0, end: 0 },
+        rules::Address::Broken => Span { start: 0, end: 0 },
+    }
+}
+
+// Where the texts of the two parties stand.
+struct Parties {
+    user: Span,
+    callerfire: Span,
+    calleefire: Span,
+}
+
+// The parties of the caller's address a at v and the callee's b at w.
+fn parties_of(v: usize, a: rules::Address, w: usize, b: rules::Address) -> Parties
+    requires { ⌜ Held v a × Held w b ⌝ }
+    ensures { λ r. ⌜ PartiesOf v a w b (r .user) (r .callerfire) (r .calleefire) ⌝ }
+{
+    Parties {
+        user: user_span(v, a),
+        callerfire: caller_span(v, a),
+        calleefire: callee_span(w, b),
+    }
+}
+
+// The parties of From's address at v and To's at w: the caller's is From's where the message is from a caller.
+fn sorted(from: rules::Address, to: rules::Address, v: usize, w: usize) -> Parties
+    requires { ⌜ Held v from × Held w to ⌝ }
+    ensures { λ r. ⌜ PartiesOf (pickN (callerIn from) v w) (pickA (callerIn from) from to) (pickN (callerIn from) w v) (pickA (callerIn from) to from) (r .user) (r .callerfire) (r .calleefire) ⌝ }
+{
+    if side_of(from) {
+        return parties_of(v, from, w, to);
+    }
+    parties_of(w, to, v, from)
+}
+
 // The message.
-pub fn message_of(s: &[u8], k: Setting, at: &[usize; 27]) -> Message
+pub fn message_of(
+    s: &[u8],
+    k: Setting,
+    number: u32,
+    code: u16,
+    from: rules::Address,
+    to: rules::Address,
+    at: &[usize; 27],
+    end: &[usize; 27],
+) -> Message
+    requires { ⌜ Taken (now s) k (now at) number code from to × Ended (now s) (now at) (now end) ⌝ }
     ensures { λ r. ⌜ r ≡ messageOf (now (s .entry)) k (now (at .entry)) ⌝ }
 {
-    let q = sequence_at(s, at[1]);
     let tag = k.tag;
     let method = k.method;
+    let caller = side_of(from);
+    let secure = secure_of(s, k, at[17], end[17]);
+    let callid = text_span(s, at[5], end[5]);
+    let p = sorted(from, to, at[3], at[2]);
+    let user = p.user;
+    let callerfire = p.callerfire;
+    let calleefire = p.calleefire;
     Message {
         tag,
         method,
-        number: q.number,
-        status: code_of(s, tag, at[7]),
-        caller: is_caller(s, at[3]),
-        secure: secure_of(s, k, at[17]),
+        number,
+        status: code,
+        caller,
+        secure,
         cseq: at[1],
         to: at[2],
         from: at[3],
         call: at[5],
         via: at[6],
+        callid,
+        user,
+        callerfire,
+        calleefire,
     }
 }
 
@@ -219,6 +366,7 @@ pub fn message_of(s: &[u8], k: Setting, at: &[usize; 27]) -> Message
 pub fn probe_of(tag: u8) -> Message
     ensures { λ r. ⌜ r ≡ probeOf tag ⌝ }
 {
+    let nowhere = Span { start: 0, end: 0 };
     Message {
         tag,
         method: 0,
@@ -231,5 +379,9 @@ pub fn probe_of(tag: u8) -> Message
         from: 0,
         call: 0,
         via: 0,
+        callid: nowhere,
+        user: nowhere,
+        callerfire: nowhere,
+        calleefire: nowhere,
     }
 }

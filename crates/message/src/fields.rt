@@ -2,7 +2,7 @@
 use crate::values::is_array;
 use crate::values::is_object;
 use crate::values::is_string;
-use crate::values::text_of;
+use crate::values::own_text;
 use crate::values::under;
 use crate::vias::is_via;
 use json::element_at;
@@ -11,6 +11,7 @@ use octets::and;
 use octets::byte;
 use octets::or;
 ghost use mathlib.Core.Path.{_≡_};
+ghost use Rattle.message.specs.Value.{Own};
 ghost use Rattle.message.specs.Field.{addressRule, bodyField, byKind, contentField, keeps, kindRule, laterRule, statusField, stringsField, textRule};
 ghost use Rattle.rules.specs.Sequence.{sequenceRule};
 ghost use Rattle.rules.specs.Status.{statusRule};
@@ -156,9 +157,10 @@ fn is_kind(n: usize, v: &[u8]) -> bool
 }
 
 fn keeps_status(tag: u8, v: &[u8]) -> bool
+    requires { ⌜ Own (now v) ⌝ }
     ensures { λ r. ⌜ r ≡ statusField tag (now (v .entry)) ⌝ }
 {
-    let t = text_of(v);
+    let t = own_text(v);
     if tag == 4 {
         return under(v, t, 0 < rules::availability(t));
     }
@@ -166,9 +168,10 @@ fn keeps_status(tag: u8, v: &[u8]) -> bool
 }
 
 fn keeps_content(method: u8, v: &[u8]) -> bool
+    requires { ⌜ Own (now v) ⌝ }
     ensures { λ r. ⌜ r ≡ contentField method (now (v .entry)) ⌝ }
 {
-    let t = text_of(v);
+    let t = own_text(v);
     if method == 5 {
         return under(v, t, rules::is_message_type(t));
     }
@@ -176,9 +179,10 @@ fn keeps_content(method: u8, v: &[u8]) -> bool
 }
 
 fn keeps_body(content: u8, v: &[u8]) -> bool
+    requires { ⌜ Own (now v) ⌝ }
     ensures { λ r. ⌜ r ≡ bodyField content (now (v .entry)) ⌝ }
 {
-    let t = text_of(v);
+    let t = own_text(v);
     if content == 1 {
         return is_string(v);
     }
@@ -196,6 +200,7 @@ fn keeps_body(content: u8, v: &[u8]) -> bool
 
 // Whether a value keeps the rule of field n.
 pub fn keeps_rule(k: Setting, n: usize, v: &[u8]) -> bool
+    requires { ⌜ Own (now v) ⌝ }
     ensures { λ r. ⌜ r ≡ keeps k n (now (v .entry)) ⌝ }
 {
     let tag = k.tag;
@@ -216,6 +221,6 @@ pub fn keeps_rule(k: Setting, n: usize, v: &[u8]) -> bool
     if is_by_kind(n) {
         return is_kind(n, v);
     }
-    let t = text_of(v);
+    let t = own_text(v);
     under(v, t, is_text(n, t))
 }

@@ -1,7 +1,7 @@
 // Gathering the known members of an object in one walk over its members (01 Reading, rows 7 and 8): the message's own fields, or the three
 // members of an object of Via.
 use json::member_at;
-use json::name_part;
+use json::part;
 use json::skip;
 use octets::byte;
 ghost use mathlib.Core.Bool.{_&&_};
@@ -30,7 +30,7 @@ fn number_of(hop: bool, name: &[u8]) -> usize
 }
 
 // Whether number k has a place already.
-fn is_noted(at: &[usize; 27], k: usize) -> bool
+pub fn is_noted(at: &[usize; 27], k: usize) -> bool
     requires { ⌜ k < 27 ⌝ }
     ensures { λ r. ⌜ r ≡ (ltb 0 k && ltb 0 (getD (now (at .entry)) k 0)) ⌝ }
 {
@@ -40,17 +40,14 @@ fn is_noted(at: &[usize; 27], k: usize) -> bool
     0 < at[k]
 }
 
-// The places with v for number k; 0 is no number.
-fn with_place(at: [usize; 27], k: usize, v: usize) -> [usize; 27]
+// Puts v at number k; 0 is no number.
+pub fn note(at: &mut [usize; 27], k: usize, v: usize)
     requires { ⌜ k < 27 ⌝ }
-    ensures { λ r. ⌜ r ≡ pickL (eqb k 0) at (set at k v) ⌝ }
+    ensures { λ _. ⌜ now (at .exit) ≡ pickL (eqb k 0) (now (at .entry)) (set (now (at .entry)) k v) ⌝ }
 {
-    if k == 0 {
-        return at;
+    if k != 0 {
+        at[k] = v;
     }
-    let mut t = at;
-    t[k] = v;
-    t
 }
 
 // The known members of the object that opens at o.
@@ -67,11 +64,12 @@ pub fn gather(s: &[u8], o: usize, hop: bool) -> Places
             return Places { twice: 0, at: at };
         }
         let m = member_at(s, q);
-        let k = number_of(hop, name_part(s, q));
+        let name = m.name;
+        let k = number_of(hop, part(s, q + 1, name - 1));
         if is_noted(&at, k) {
             return Places { twice: q, at: at };
         }
-        at = with_place(at, k, m.value);
+        note(&mut at, k, m.value);
         let then = m.then;
         if byte(s, then) != 44 {
             return Places { twice: 0, at: at };

@@ -1,12 +1,17 @@
 // A value by its own bytes: its kind, and its text.
 use json::name_part;
+use json::part;
+use json::value_part;
 use octets::and;
 use octets::byte;
 ghost use mathlib.Core.Bool.{_&&_};
 ghost use mathlib.Core.Path.{_≡_};
+ghost use Prim.Native.Nat.{_<_};
+ghost use Rattle.json.specs.Places.{behind, bytes};
 ghost use Rattle.octets.specs.Class.{all};
 ghost use Rattle.rules.specs.Texts.{unescaped};
-ghost use Rattle.message.specs.Value.{isArray, isObject, isString, textOf};
+ghost use Rattle.message.specs.Message.{textAt};
+ghost use Rattle.message.specs.Value.{Own, isArray, isObject, isString, textOf};
 
 // Whether a value is a string.
 pub fn is_string(v: &[u8]) -> bool
@@ -34,6 +39,38 @@ pub fn text_of(v: &[u8]) -> &[u8]
     ensures { λ r. ⌜ now r ≡ textOf (now (v .entry)) ⌝ }
 {
     name_part(v, 0)
+}
+
+// The same of a value's own bytes, which end with it: nothing is looked for.
+pub fn own_text(v: &[u8]) -> &[u8]
+    requires { ⌜ Own (now v) ⌝ }
+    ensures { λ r. ⌜ now r ≡ textOf (now (v .entry)) ⌝ }
+{
+    let n = v.len();
+    if n < 2 {
+        return part(v, 0, 0);
+    }
+    let e = n - 1;
+    &v[1..e]
+}
+
+// The bytes of the value at v, which end at e; e is 0 where the end is not known.
+pub fn value_at(s: &[u8], v: usize, e: usize) -> &[u8]
+    requires { ⌜ (0 < e → e ≡ behind (now s) v) ⌝ }
+    ensures { λ r. ⌜ now r ≡ bytes (now (s .entry)) v ⌝ }
+{
+    if e == 0 {
+        return value_part(s, v);
+    }
+    part(s, v, e)
+}
+
+// The text of the value at v, which ends at e, likewise.
+pub fn text_at(s: &[u8], v: usize, e: usize) -> &[u8]
+    requires { ⌜ (0 < e → e ≡ behind (now s) v) ⌝ }
+    ensures { λ r. ⌜ now r ≡ textAt (now (s .entry)) v ⌝ }
+{
+    own_text(value_at(s, v, e))
 }
 
 // Whether no backslash stands in a text.

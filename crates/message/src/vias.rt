@@ -1,7 +1,7 @@
 // The rule of Via (01 Reading): 1 to 16 objects, each with host, destination and organization once, within their rules.
 use crate::gathering::gather;
 use crate::values::is_array;
-use crate::values::text_of;
+use crate::values::own_text;
 use crate::values::under;
 use json::element_at;
 use json::skip;
@@ -32,7 +32,7 @@ fn keeps_member(v: &[u8], p: usize, n: u8) -> bool
         return false;
     }
     let x = value_part(v, p);
-    let t = text_of(x);
+    let t = own_text(x);
     under(x, t, is_hop_text(n, t))
 }
 

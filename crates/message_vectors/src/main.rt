@@ -1,45 +1,16 @@
 // Reads stored messages: a line of standard input is a message in hex, and its answer is a line, `ok` or `no NUMBER PLACE`.
 // A message has 40,000 bytes at most, all lines 131,072.
 use message::Reading;
-ghost use Prim.Native.Nat.{_+_, _≤_, _<_};
+ghost use Prim.Native.Nat.{_≤_};
 
-// What a hex digit stands for, and 0 for any other byte.
-fn digit(b: u8) -> u8
-    ensures { λ r. ⌜ r < 16 ⌝ }
-{
-    if b < 48 {
-        return 0;
-    }
-    if b <= 57 {
-        return b - 48;
-    }
-    if b < 97 {
-        return 0;
-    }
-    if b <= 102 {
-        return b - 87;
-    }
-    0
-}
-
-// How many bytes n hex digits stand for, and at most 40,000.
-fn half(n: usize) -> usize
-    ensures { λ r. ⌜ (r ≤ 40000) × (r + r ≤ n) ⌝ }
-{
-    if n < 80000 { n / 2 } else { 40000 }
-}
-
-// Puts the message that a line of hex stands for into `text`, and answers its length.
+// Puts the message that a line of hex stands for into `text`, and answers its length; a line that is too long stands for none.
 fn decoded(line: &[u8], text: &mut [u8; 40000]) -> usize
     ensures { λ r. ⌜ r ≤ 40000 ⌝ }
 {
-    let n = half(line.len());
-    let mut i: usize = 0;
-    while i < n {
-        text[i] = digit(line[2 * i]) * 16 + digit(line[2 * i + 1]);
-        i += 1;
+    if 80000 < line.len() {
+        return 0;
     }
-    i
+    hex::decode(text, line)
 }
 
 // Reads the first n bytes as a message, and writes the answer's line.

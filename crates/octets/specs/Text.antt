@@ -16,7 +16,7 @@ same (x ∷ xs) (y ∷ ys) = eqb x y && same xs ys
 unfoldable pub standsAt : List ℕ → ℕ → List ℕ → Bool
 standsAt s at w = same (take (length w) (drop at s)) w
 
--- what is true of the first byte, one further on where it is not b
+-- 0 where the first byte is b, else one more than in the rest
 abbrev pub here : Bool → ℕ → ℕ
 here true n = 0
 here false n = suc n

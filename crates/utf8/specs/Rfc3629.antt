@@ -1,8 +1,8 @@
 -- RFC 3629, section 4: which octets are UTF-8 (01 Reading, row 3). The contracts of `src/` cite it. Assumes nothing.
-use Prim.Native.Nat.{ℕ, zero, suc}
+use Prim.Native.Nat.{ℕ, zero, suc, _+_, _<_}
 use mathlib.Core.Bool.{Bool, true, false, _&&_}
 use mathlib.Core.List.{List, [], _∷_}
-use lib.ListN.{length}
+use lib.ListN.{length, getD}
 use Rattle.octets.specs.Class.{among}
 use Rattle.utf8.specs.declared.Verdict.{Verdict}
 use Rattle.utf8.specs.declared.Verdict.the-variants.{Good, Bad}
@@ -90,3 +90,7 @@ octets zero i (b ∷ s) = opened (charAt (b ∷ s)) i (λ k. octets k (suc i) s)
 -- good, or the first octet of the first bad sequence
 abbrev pub verdict : List ℕ → Verdict
 verdict s = octets 0 0 s
+
+-- n bytes from a place on are ASCII, which is UTF8-1, each a char by itself
+pub record Ascii (s : List ℕ) (at n : ℕ) : Type 0 where
+  pub each : (j : ℕ) → j < n → getD s (at + j) 0 < 0x80

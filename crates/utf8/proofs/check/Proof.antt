@@ -1,6 +1,6 @@
 -- `utf8::check` meets its contract. The loop keeps that the rest decides, one character at a time. Assumes nothing.
 use Prim.Native.Nat.{_-_, _≤_}
-use Rattle.utf8.proofs.Walk.{ascii-more, char-more, char-bad, ends, charAt-length}
+use Rattle.utf8.proofs.Walk.{ascii-run, char-more, char-bad, ends, charAt-length}
 use Rattle.utf8.proofs.check.Statement.{statement}
 use Rattle.utf8.proofs.check.Tie as tie
 use Rattle.utf8.specs.Rfc3629.{octets, verdict}
@@ -21,6 +21,9 @@ loop-holds c = (search needs, refl)
 shared-slice-read-if1 : tie.Need-shared-slice-read-if1 Inv-loop μ-loop
 shared-slice-read-if1 c = search needs
 
+ascii-run-requires : tie.Need-ascii-run-requires Inv-loop μ-loop
+ascii-run-requires c κs = search needs
+
 add-i : tie.Need-add-i Inv-loop μ-loop
 add-i c = search needs
 
@@ -29,11 +32,11 @@ loop-less c = search needs
 
 loop-again : tie.Need-loop-again Inv-loop μ-loop
 loop-again c =
-    let l = c .before .before .before in
+    let l = c .before .before .before .before in
     let x = l .before .before .args in
     let s = x .s .now in
     let i = l .loop .i in
-    (search needs, l .loop .inv .1 ∙ ascii-more s i (omega arith) (c .if1 .taken))
+    (search needs, l .loop .inv .1 ∙ ascii-run s i (c .ascii-run .result) (c .ascii-run .ensures .1 .0) (c .ascii-run .ensures .1 .1))
 
 sequence-requires : tie.Need-sequence-requires Inv-loop μ-loop
 sequence-requires c κs = search needs
@@ -95,6 +98,7 @@ check-spec =
     μ-loop
     loop-holds
     shared-slice-read-if1
+    ascii-run-requires
     add-i
     loop-less
     loop-again

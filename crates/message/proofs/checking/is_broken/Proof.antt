@@ -1,9 +1,14 @@
--- `message::checking::is_broken` meets its contract. One law of `CheckLaws` for each way out. Assumes nothing.
-use Prim.Native.Nat.{_-_}
+-- `message::checking::is_broken` meets its contract. By its definition and what the callees ensure. Assumes nothing.
+use Prim.Native.Nat.{ℕ}
 use Rattle.message.proofs.CheckLaws.{unlisted, absent, present}
+use Rattle.message.proofs.TextLaws.{own-bytes}
 use Rattle.message.proofs.checking.is_broken.Statement.{statement}
 use Rattle.message.proofs.checking.is_broken.Tie as tie
+use Rattle.message.specs.Value.{Own}
 use borrow.Author.Needs.{needs}
+use lib.ListN.{getD}
+use mathlib.Core.List.{List}
+use mathlib.Core.Path.{sym, subst}
 
 asks-requires : tie.Need-asks-requires
 asks-requires c κs = search needs
@@ -20,14 +25,20 @@ element-copy-out-v c = search needs
 returns-2 : tie.Need-returns-2
 returns-2 c = let a = c .before .before .before in let x = a .before .before .args in absent (x .run) (x .k) (x .at .now) (x .n) (a .asks .ensures) (x .s .now) (c .before .before .if1 .left) (c .if2 .taken)
 
-value-part-requires : tie.Need-value-part-requires
-value-part-requires c κs = search needs
+mul-e : tie.Need-mul-e
+mul-e c = search needs
+
+element-copy-out-e : tie.Need-element-copy-out-e
+element-copy-out-e c = search needs
+
+value-at-requires : tie.Need-value-at-requires
+value-at-requires c κs = c .before .before .before .before .before .before .pre .1 .1 .1 .ends (c .before .before .before .before .before .before .args .n)
 
 keeps-rule-requires : tie.Need-keeps-rule-requires
-keeps-rule-requires c κs = search needs
+keeps-rule-requires c κs = let x = c .before .before .before .before .before .before .before .args in subst (λ (l : List ℕ). Own l) (sym (c .value-at .ensures)) (own-bytes (x .s .now) (getD (x .at .now) (x .n) 0))
 
 returns-3 : tie.Need-returns-3
-returns-3 c = let a = c .before .before .before .before .before in let x = a .before .before .args in present (x .run) (x .k) (x .at .now) (x .n) (a .asks .ensures) (x .s .now) (c .before .before .before .before .if1 .left) (c .before .before .if2 .left) (c .before .value-part .ensures) (c .keeps-rule .ensures)
+returns-3 c = let a = c .before .before .before .before .before .before in let x = a .before .before .args in present (x .run) (x .k) (x .at .now) (x .n) (a .asks .ensures) (x .s .now) (c .before .before .before .before .before .if1 .left) (c .before .before .before .if2 .left) (c .before .value-at .ensures) (c .keeps-rule .ensures)
 
 pub is-broken-spec : {M : Type 1} → statement M
 is-broken-spec =
@@ -38,6 +49,8 @@ is-broken-spec =
     mul-v
     element-copy-out-v
     returns-2
-    value-part-requires
+    mul-e
+    element-copy-out-e
+    value-at-requires
     keeps-rule-requires
     returns-3)

@@ -1,72 +1,79 @@
 -- `message::facts::message_of` meets its contract. By its definition and what the callees ensure. Assumes nothing.
+use Rattle.message.proofs.FactLaws.{message-is}
+use Rattle.message.proofs.TextLaws.{held}
 use Rattle.message.proofs.facts.message_of.Statement.{statement}
 use Rattle.message.proofs.facts.message_of.Tie as tie
-use Rattle.message.specs.Message.{messageOf, numberOf, fromCaller}
+use Rattle.message.specs.Message.{Held}
+use Rattle.rules.specs.declared.addresses.Address.{Address}
 use borrow.Author.Needs.{needs}
+use lib.ListN.{getD}
+use mathlib.Core.Path.{sym, subst}
 
-element-copy-out-sequence-at : tie.Need-element-copy-out-sequence-at
-element-copy-out-sequence-at c = search needs
-
-sequence-at-requires : tie.Need-sequence-at-requires
-sequence-at-requires c κs = search needs
-
-element-copy-out-code-of : tie.Need-element-copy-out-code-of
-element-copy-out-code-of c = search needs
-
-code-of-requires : tie.Need-code-of-requires
-code-of-requires c κs = search needs
-
-element-copy-out-is-caller : tie.Need-element-copy-out-is-caller
-element-copy-out-is-caller c = search needs
-
-is-caller-requires : tie.Need-is-caller-requires
-is-caller-requires c κs = search needs
+side-of-requires : tie.Need-side-of-requires
+side-of-requires c κs = search needs
 
 element-copy-out-secure-of : tie.Need-element-copy-out-secure-of
 element-copy-out-secure-of c = search needs
 
+element-copy-out-secure-of-2 : tie.Need-element-copy-out-secure-of-2
+element-copy-out-secure-of-2 c = search needs
+
 secure-of-requires : tie.Need-secure-of-requires
-secure-of-requires c κs = search needs
+secure-of-requires c κs = c .before .before .before .before .pre .1 .ends 17
+
+element-copy-out-text-span : tie.Need-element-copy-out-text-span
+element-copy-out-text-span c = search needs
+
+element-copy-out-text-span-2 : tie.Need-element-copy-out-text-span-2
+element-copy-out-text-span-2 c = search needs
+
+text-span-requires : tie.Need-text-span-requires
+text-span-requires c κs = c .before .before .before .before .before .before .before .pre .1 .ends 5
+
+element-copy-out-sorted : tie.Need-element-copy-out-sorted
+element-copy-out-sorted c = search needs
+
+element-copy-out-sorted-2 : tie.Need-element-copy-out-sorted-2
+element-copy-out-sorted-2 c = search needs
+
+sorted-requires : tie.Need-sorted-requires
+sorted-requires c κs = let x = c .before .before .before .before .before .before .before .before .before .before in (subst (λ (a : Address). Held (getD (x .args .at .now) 3 0) a) (sym (x .pre .0 .sent)) (held (x .args .s .now) (getD (x .args .at .now) 3 0) (search needs)), subst (λ (a : Address). Held (getD (x .args .at .now) 2 0) a) (sym (x .pre .0 .meant)) (held (x .args .s .now) (getD (x .args .at .now) 2 0) (search needs)))
+
+element-copy-out-t20 : tie.Need-element-copy-out-t20
+element-copy-out-t20 c = search needs
 
 element-copy-out-t23 : tie.Need-element-copy-out-t23
 element-copy-out-t23 c = search needs
 
-element-copy-out-t26 : tie.Need-element-copy-out-t26
-element-copy-out-t26 c = search needs
+element-copy-out-t38 : tie.Need-element-copy-out-t38
+element-copy-out-t38 c = search needs
 
-element-copy-out-t29 : tie.Need-element-copy-out-t29
-element-copy-out-t29 c = search needs
+element-copy-out-t41 : tie.Need-element-copy-out-t41
+element-copy-out-t41 c = search needs
 
-element-copy-out-t32 : tie.Need-element-copy-out-t32
-element-copy-out-t32 c = search needs
-
-element-copy-out-t35 : tie.Need-element-copy-out-t35
-element-copy-out-t35 c = search needs
+element-copy-out-t44 : tie.Need-element-copy-out-t44
+element-copy-out-t44 c = search needs
 
 returns : tie.Need-returns
-unfolding messageOf numberOf fromCaller
-returns c =
-    let u = c .before .before .before .before .before in
-    let i = u .before .before in
-    let k = i .before .before in
-    let q = k .before .before in
-    rw (u .secure-of .ensures, i .is-caller .ensures, k .code-of .ensures, q .sequence-at .ensures .0)
+returns c = let x = c .before .before .before .before .before .before .before .before .before .before .before .before .before .before .before .before .before .before .before in message-is (x .args .s .now) (x .args .k) (x .args .at .now) (x .pre .0) (c .before .before .before .before .before .before .before .before .before .before .before .before .before .before .before .before .before .side-of .ensures) (c .before .before .before .before .before .before .before .before .before .before .before .before .before .before .secure-of .ensures) (c .before .before .before .before .before .before .before .before .before .before .before .text-span .ensures) (c .before .before .before .before .before .before .before .before .sorted .ensures)
 
 pub message-of-spec : {M : Type 1} → statement M
 message-of-spec =
     tie.close
     (tie.spec
-    element-copy-out-sequence-at
-    sequence-at-requires
-    element-copy-out-code-of
-    code-of-requires
-    element-copy-out-is-caller
-    is-caller-requires
+    side-of-requires
     element-copy-out-secure-of
+    element-copy-out-secure-of-2
     secure-of-requires
+    element-copy-out-text-span
+    element-copy-out-text-span-2
+    text-span-requires
+    element-copy-out-sorted
+    element-copy-out-sorted-2
+    sorted-requires
+    element-copy-out-t20
     element-copy-out-t23
-    element-copy-out-t26
-    element-copy-out-t29
-    element-copy-out-t32
-    element-copy-out-t35
+    element-copy-out-t38
+    element-copy-out-t41
+    element-copy-out-t44
     returns)

@@ -1,17 +1,18 @@
 -- `message::facts::request_disagrees` meets its contract. By its definition and what the callees ensure. Assumes nothing.
+use Rattle.message.proofs.FactLaws.{not-request, an-invite, no-invite}
 use Rattle.message.proofs.facts.request_disagrees.Statement.{statement}
 use Rattle.message.proofs.facts.request_disagrees.Tie as tie
-use Rattle.message.specs.Message.{requestDisagrees}
 use borrow.Author.Needs.{needs}
+use mathlib.Core.Path.{_∙_}
 
-element-copy-out-is-callback-training : tie.Need-element-copy-out-is-callback-training
-element-copy-out-is-callback-training c = search needs
-
-element-copy-out-is-callback-training-2 : tie.Need-element-copy-out-is-callback-training-2
-element-copy-out-is-callback-training-2 c = search needs
+returns : tie.Need-returns
+returns c = let x = c .before .before .args in not-request (x .s .now) (x .k) (x .at .now) (x .from) (c .if1 .taken)
 
 is-callback-training-requires : tie.Need-is-callback-training-requires
 is-callback-training-requires c κs = search needs
+
+returns-2 : tie.Need-returns-2
+returns-2 c = let x = c .before .before .before .before .args in an-invite (x .s .now) (x .k) (x .at .now) (x .from) (c .before .before .if1 .left) (c .before .if2 .taken) (c .is-callback-training .ensures)
 
 and-requires : tie.Need-and-requires
 and-requires c κs = search needs
@@ -19,25 +20,16 @@ and-requires c κs = search needs
 and-requires-2 : tie.Need-and-requires-2
 and-requires-2 c κs = search needs
 
-and-requires-3 : tie.Need-and-requires-3
-and-requires-3 c κs = search needs
-
-or-requires : tie.Need-or-requires
-or-requires c κs = search needs
-
-returns : tie.Need-returns
-unfolding requestDisagrees
-returns c = cc
+returns-3 : tie.Need-returns-3
+returns-3 c = let x = c .before .before .before .before .before .args in no-invite (x .s .now) (x .k) (x .at .now) (x .from) (c .before .before .before .if1 .left) (c .before .before .if2 .left) (c .and2 .ensures ∙ rw (c .before .and .ensures))
 
 pub request-disagrees-spec : {M : Type 1} → statement M
 request-disagrees-spec =
     tie.close
     (tie.spec
-    element-copy-out-is-callback-training
-    element-copy-out-is-callback-training-2
+    returns
     is-callback-training-requires
+    returns-2
     and-requires
     and-requires-2
-    and-requires-3
-    or-requires
-    returns)
+    returns-3)

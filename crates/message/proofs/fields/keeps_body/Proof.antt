@@ -11,8 +11,8 @@ use borrow.Author.Tests.{eq-eqb, ne-eqb}
 use lib.Dec.{ltb}
 use mathlib.Core.Path.{ap, _∙_}
 
-text-of-requires : tie.Need-text-of-requires
-text-of-requires c κs = search needs
+own-text-requires : tie.Need-own-text-requires
+own-text-requires c κs = search needs
 
 is-string-requires : tie.Need-is-string-requires
 is-string-requires c κs = search needs
@@ -32,7 +32,7 @@ and-requires c κs = search needs
 
 returns-2 : tie.Need-returns-2
 unfolding bodyField oneOf
-returns-2 c = rw (ne-eqb _ _ (c .before .before .before .before .if1 .left), eq-eqb _ _ (c .before .before .before .if2 .taken)) (is-free imageRule _ _ _ _ (c .before .before .before .before .before .text-of .ensures) (c .before .is-image .ensures) (c .and .ensures ∙ rw (c .before .before .is-string2 .ensures)))
+returns-2 c = rw (ne-eqb _ _ (c .before .before .before .before .if1 .left), eq-eqb _ _ (c .before .before .before .if2 .taken)) (is-free imageRule _ _ _ _ (c .before .before .before .before .before .own-text .ensures) (c .before .is-image .ensures) (c .and .ensures ∙ rw (c .before .before .is-string2 .ensures)))
 
 presence-requires : tie.Need-presence-requires
 presence-requires c κs = search needs
@@ -42,7 +42,7 @@ under-requires c κs = search needs
 
 returns-3 : tie.Need-returns-3
 unfolding bodyField oneOf
-returns-3 c = rw (ne-eqb _ _ (c .before .before .before .before .if1 .left), ne-eqb _ _ (c .before .before .before .if2 .left), eq-eqb _ _ (c .before .before .if3 .taken)) (is-ruled (oneOf presences) _ _ _ _ (c .before .before .before .before .before .text-of .ensures) (ap (ltb 0) (c .before .presence .ensures)) (c .under .ensures))
+returns-3 c = rw (ne-eqb _ _ (c .before .before .before .before .if1 .left), ne-eqb _ _ (c .before .before .before .if2 .left), eq-eqb _ _ (c .before .before .if3 .taken)) (is-ruled (oneOf presences) _ _ _ _ (c .before .before .before .before .before .own-text .ensures) (ap (ltb 0) (c .before .presence .ensures)) (c .under .ensures))
 
 is-object-requires : tie.Need-is-object-requires
 is-object-requires c κs = search needs
@@ -62,13 +62,13 @@ and-requires-2 c κs = search needs
 
 returns-5 : tie.Need-returns-5
 unfolding bodyField oneOf
-returns-5 c = rw (ne-eqb _ _ (c .before .before .before .before .before .before .if1 .left), ne-eqb _ _ (c .before .before .before .before .before .if2 .left), ne-eqb _ _ (c .before .before .before .before .if3 .left), ne-eqb _ _ (c .before .before .before .if4 .left)) (is-free statusRule _ _ _ _ (c .before .before .before .before .before .before .before .text-of .ensures) (c .before .is-status .ensures) (c .and2 .ensures ∙ rw (c .before .before .is-string3 .ensures)))
+returns-5 c = rw (ne-eqb _ _ (c .before .before .before .before .before .before .if1 .left), ne-eqb _ _ (c .before .before .before .before .before .if2 .left), ne-eqb _ _ (c .before .before .before .before .if3 .left), ne-eqb _ _ (c .before .before .before .if4 .left)) (is-free statusRule _ _ _ _ (c .before .before .before .before .before .before .before .own-text .ensures) (c .before .is-status .ensures) (c .and2 .ensures ∙ rw (c .before .before .is-string3 .ensures)))
 
 pub keeps-body-spec : {M : Type 1} → statement M
 keeps-body-spec =
     tie.close
     (tie.spec
-    text-of-requires
+    own-text-requires
     is-string-requires
     returns
     is-string-requires-2

@@ -7,8 +7,8 @@ use Rattle.rules.specs.Words.{messageTypeRule, notifyTypeRule}
 use borrow.Author.Needs.{needs}
 use borrow.Author.Tests.{eq-eqb, ne-eqb}
 
-text-of-requires : tie.Need-text-of-requires
-text-of-requires c κs = search needs
+own-text-requires : tie.Need-own-text-requires
+own-text-requires c κs = search needs
 
 is-message-type-requires : tie.Need-is-message-type-requires
 is-message-type-requires c κs = search needs
@@ -18,7 +18,7 @@ under-requires c κs = search needs
 
 returns : tie.Need-returns
 unfolding contentField
-returns c = rw (eq-eqb _ _ (c .before .before .if1 .taken)) (is-ruled messageTypeRule _ _ _ _ (c .before .before .before .text-of .ensures) (c .before .is-message-type .ensures) (c .under .ensures))
+returns c = rw (eq-eqb _ _ (c .before .before .if1 .taken)) (is-ruled messageTypeRule _ _ _ _ (c .before .before .before .own-text .ensures) (c .before .is-message-type .ensures) (c .under .ensures))
 
 is-notify-type-requires : tie.Need-is-notify-type-requires
 is-notify-type-requires c κs = search needs
@@ -28,13 +28,13 @@ under-requires-2 c κs = search needs
 
 returns-2 : tie.Need-returns-2
 unfolding contentField
-returns-2 c = rw (ne-eqb _ _ (c .before .before .if1 .left)) (is-ruled notifyTypeRule _ _ _ _ (c .before .before .before .text-of .ensures) (c .before .is-notify-type .ensures) (c .under2 .ensures))
+returns-2 c = rw (ne-eqb _ _ (c .before .before .if1 .left)) (is-ruled notifyTypeRule _ _ _ _ (c .before .before .before .own-text .ensures) (c .before .is-notify-type .ensures) (c .under2 .ensures))
 
 pub keeps-content-spec : {M : Type 1} → statement M
 keeps-content-spec =
     tie.close
     (tie.spec
-    text-of-requires
+    own-text-requires
     is-message-type-requires
     under-requires
     returns

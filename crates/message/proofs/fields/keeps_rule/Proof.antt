@@ -45,8 +45,8 @@ returns-5 : tie.Need-returns-5
 unfolding keeps
 returns-5 c = rw (ne-eqb _ _ (c .before .before .before .before .before .before .if1 .left), ne-eqb _ _ (c .before .before .before .before .before .if2 .left), ne-eqb _ _ (c .before .before .before .before .if3 .left), ne-eqb _ _ (c .before .before .before .if4 .left), sym (c .before .before .is-by-kind .ensures) ∙ c .before .if5 .taken) (c .is-kind .ensures)
 
-text-of-requires : tie.Need-text-of-requires
-text-of-requires c κs = search needs
+own-text-requires : tie.Need-own-text-requires
+own-text-requires c κs = search needs
 
 is-text-requires : tie.Need-is-text-requires
 is-text-requires c κs = search needs
@@ -56,7 +56,7 @@ under-requires c κs = search needs
 
 returns-6 : tie.Need-returns-6
 unfolding keeps
-returns-6 c = rw (ne-eqb _ _ (c .before .before .before .before .before .before .before .before .if1 .left), ne-eqb _ _ (c .before .before .before .before .before .before .before .if2 .left), ne-eqb _ _ (c .before .before .before .before .before .before .if3 .left), ne-eqb _ _ (c .before .before .before .before .before .if4 .left), sym (c .before .before .before .before .is-by-kind .ensures) ∙ c .before .before .before .if5 .left) (is-ruled (textRule (c .before .before .before .before .before .before .before .before .before .before .args .n)) _ _ _ _ (c .before .before .text-of .ensures) (c .before .is-text .ensures) (c .under .ensures))
+returns-6 c = rw (ne-eqb _ _ (c .before .before .before .before .before .before .before .before .if1 .left), ne-eqb _ _ (c .before .before .before .before .before .before .before .if2 .left), ne-eqb _ _ (c .before .before .before .before .before .before .if3 .left), ne-eqb _ _ (c .before .before .before .before .before .if4 .left), sym (c .before .before .before .before .is-by-kind .ensures) ∙ c .before .before .before .if5 .left) (is-ruled (textRule (c .before .before .before .before .before .before .before .before .before .before .args .n)) _ _ _ _ (c .before .before .own-text .ensures) (c .before .is-text .ensures) (c .under .ensures))
 
 pub keeps-rule-spec : {M : Type 1} → statement M
 keeps-rule-spec =
@@ -73,7 +73,7 @@ keeps-rule-spec =
     is-by-kind-requires
     is-kind-requires
     returns-5
-    text-of-requires
+    own-text-requires
     is-text-requires
     under-requires
     returns-6)

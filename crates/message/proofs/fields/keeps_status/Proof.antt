@@ -10,8 +10,8 @@ use borrow.Author.Tests.{eq-eqb, ne-eqb}
 use lib.Dec.{ltb}
 use mathlib.Core.Path.{ap, _∙_}
 
-text-of-requires : tie.Need-text-of-requires
-text-of-requires c κs = search needs
+own-text-requires : tie.Need-own-text-requires
+own-text-requires c κs = search needs
 
 availability-requires : tie.Need-availability-requires
 availability-requires c κs = search needs
@@ -21,7 +21,7 @@ under-requires c κs = search needs
 
 returns : tie.Need-returns
 unfolding statusField oneOf
-returns c = rw (eq-eqb _ _ (c .before .before .if1 .taken)) (is-ruled (oneOf availabilities) _ _ _ _ (c .before .before .before .text-of .ensures) (ap (ltb 0) (c .before .availability .ensures)) (c .under .ensures))
+returns c = rw (eq-eqb _ _ (c .before .before .if1 .taken)) (is-ruled (oneOf availabilities) _ _ _ _ (c .before .before .before .own-text .ensures) (ap (ltb 0) (c .before .availability .ensures)) (c .under .ensures))
 
 is-string-requires : tie.Need-is-string-requires
 is-string-requires c κs = search needs
@@ -34,13 +34,13 @@ and-requires c κs = search needs
 
 returns-2 : tie.Need-returns-2
 unfolding statusField oneOf
-returns-2 c = rw (ne-eqb _ _ (c .before .before .before .if1 .left)) (is-free statusRule _ _ _ _ (c .before .before .before .before .text-of .ensures) (c .before .is-status .ensures) (c .and .ensures ∙ rw (c .before .before .is-string .ensures)))
+returns-2 c = rw (ne-eqb _ _ (c .before .before .before .if1 .left)) (is-free statusRule _ _ _ _ (c .before .before .before .before .own-text .ensures) (c .before .is-status .ensures) (c .and .ensures ∙ rw (c .before .before .is-string .ensures)))
 
 pub keeps-status-spec : {M : Type 1} → statement M
 keeps-status-spec =
     tie.close
     (tie.spec
-    text-of-requires
+    own-text-requires
     availability-requires
     under-requires
     returns

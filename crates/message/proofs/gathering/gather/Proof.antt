@@ -1,5 +1,6 @@
 -- `message::gathering::gather` meets its contract. The loop keeps that the members still to come decide what is left to gather. Assumes nothing.
 use Prim.Native.Nat.{_≤_, _<_, _-_}
+use Rattle.json.proofs.PlaceLaws.{closing-is, raw-is}
 use Rattle.json.specs.Places.{valueOf, membersFrom}
 use Rattle.message.proofs.GatherLaws.{Sofar, started, over, repeats, goes-on, no-more, one-more, spent, no-comma, comma, has-is, note-is, number-is, there}
 use Rattle.message.proofs.gathering.gather.Statement.{statement}
@@ -41,8 +42,16 @@ returns c =
 member-at-requires : tie.Need-member-at-requires Inv-loop μ-loop
 member-at-requires c κs = search needs
 
-name-part-requires : tie.Need-name-part-requires Inv-loop μ-loop
-name-part-requires c κs = search needs
+add-part : tie.Need-add-part Inv-loop μ-loop
+add-part c =
+    let x = c .before .before .before .before .before .before .before .args in
+    omega (arith, there (x .s .now) (c .before .before .before .skip .result) 33 (sym (c .before .before .byte .ensures) ∙ c .before .if1 .left))
+
+sub-part : tie.Need-sub-part Inv-loop μ-loop
+sub-part c = omega (arith, c .member-at .ensures .named .low, c .before .before .before .skip .ensures .low, c .before .before .before .before .before .loop .inv .0)
+
+part-requires : tie.Need-part-requires Inv-loop μ-loop
+part-requires c κs = search needs
 
 number-of-requires : tie.Need-number-of-requires Inv-loop μ-loop
 number-of-requires c κs = search needs
@@ -60,35 +69,35 @@ returns-2 c =
     let q = b .before .skip .result in
     let one = one-more s (l .loop .n) (l .loop .p) (omega arith) (b .before .skip .ensures .is) (sym (b .byte .ensures) ∙ c .before .before .before .before .before .before .if1 .left) in
     let m = c .before .before .before .before .before .member-at in
-    let k = number-is ns s q (c .before .before .before .before .name-part .ensures) (c .before .before .before .number-of .ensures .0) in
+    let k = number-is ns s q (c .before .before .before .before .part .ensures ∙ raw-is s q (closing-is s q (m .ensures .named))) (c .before .before .before .number-of .ensures .0) in
     repeats (l .loop .inv .1 .1 .1) q _ one (λ e. omega (arith, b .before .skip .ensures .low))
     (sym (has-is ns s (l .loop .at) q k (c .before .is-noted .ensures)) ∙ c .if2 .taken)
 
-with-place-requires : tie.Need-with-place-requires Inv-loop μ-loop
-with-place-requires c κs = search needs
+note-requires : tie.Need-note-requires Inv-loop μ-loop
+note-requires c κs = search needs
 
 byte-requires-2 : tie.Need-byte-requires-2 Inv-loop μ-loop
 byte-requires-2 c κs = search needs
 
 returns-3 : tie.Need-returns-3 Inv-loop μ-loop
 returns-3 c =
-    let b = c .before .before .before .before .before .before .before .before .before .before in
+    let b = c .before .before .before .before .before .before .before .before .before .before .before in
     let l = b .before .before .before in
     let x = l .before .before .args in
     let s = x .s .now in
     let ns = namesOf (x .hop) in
     let q = b .before .skip .result in
-    let one = one-more s (l .loop .n) (l .loop .p) (omega arith) (b .before .skip .ensures .is) (sym (b .byte .ensures) ∙ c .before .before .before .before .before .before .before .before .before .if1 .left) in
-    let m = c .before .before .before .before .before .before .before .before .member-at in
-    let k = number-is ns s q (c .before .before .before .before .before .before .before .name-part .ensures) (c .before .before .before .before .before .before .number-of .ensures .0) in
-    let new = sym (has-is ns s (l .loop .at) q k (c .before .before .before .before .is-noted .ensures)) ∙ c .before .before .before .if2 .left in
-    let at = note-is ns s (l .loop .at) q k (m .ensures .begins .is) (c .before .before .with-place .ensures) in
+    let one = one-more s (l .loop .n) (l .loop .p) (omega arith) (b .before .skip .ensures .is) (sym (b .byte .ensures) ∙ c .before .before .before .before .before .before .before .before .before .before .if1 .left) in
+    let m = c .before .before .before .before .before .before .before .before .before .member-at in
+    let k = number-is ns s q (c .before .before .before .before .before .before .before .before .part .ensures ∙ raw-is s q (closing-is s q (m .ensures .named))) (c .before .before .before .before .before .before .before .number-of .ensures .0) in
+    let new = sym (has-is ns s (l .loop .at) q k (c .before .before .before .before .before .is-noted .ensures)) ∙ c .before .before .before .before .if2 .left in
+    let at = note-is ns s (l .loop .at) q k (m .ensures .begins .is) (c .before .before .note .ensures) in
     over (goes-on (l .loop .inv .1 .1 .1) q _ one new at (no-comma s _ (valueOf s q) (m .ensures .goes .is) (λ e. c .if3 .taken (c .before .byte2 .ensures ∙ e)))) refl
 
 add-p-2 : tie.Need-add-p-2 Inv-loop μ-loop
 add-p-2 c =
-    let l = c .before .before .before .before .before .before .before .before .before .before .before .before .before in
-    let m = c .before .before .before .before .before .before .before .before .member-at in
+    let l = c .before .before .before .before .before .before .before .before .before .before .before .before .before .before in
+    let m = c .before .before .before .before .before .before .before .before .before .member-at in
     omega (arith, l .loop .inv .1 .1 .0, there (l .before .before .args .s .now) (m .result .then) 43 (sym (c .before .byte2 .ensures) ∙ c .if3 .left))
 
 sub-n : tie.Need-sub-n Inv-loop μ-loop
@@ -99,17 +108,17 @@ loop-less c = search needs
 
 loop-again : tie.Need-loop-again Inv-loop μ-loop
 loop-again c =
-    let b = c .before .before .before .before .before .before .before .before .before .before in
+    let b = c .before .before .before .before .before .before .before .before .before .before .before in
     let l = b .before .before .before in
     let x = l .before .before .args in
     let s = x .s .now in
     let ns = namesOf (x .hop) in
     let q = b .before .skip .result in
-    let one = one-more s (l .loop .n) (l .loop .p) (omega arith) (b .before .skip .ensures .is) (sym (b .byte .ensures) ∙ c .before .before .before .before .before .before .before .before .before .if1 .left) in
-    let m = c .before .before .before .before .before .before .before .before .member-at in
-    let k = number-is ns s q (c .before .before .before .before .before .before .before .name-part .ensures) (c .before .before .before .before .before .before .number-of .ensures .0) in
-    let new = sym (has-is ns s (l .loop .at) q k (c .before .before .before .before .is-noted .ensures)) ∙ c .before .before .before .if2 .left in
-    let at = note-is ns s (l .loop .at) q k (m .ensures .begins .is) (c .before .before .with-place .ensures) in
+    let one = one-more s (l .loop .n) (l .loop .p) (omega arith) (b .before .skip .ensures .is) (sym (b .byte .ensures) ∙ c .before .before .before .before .before .before .before .before .before .before .if1 .left) in
+    let m = c .before .before .before .before .before .before .before .before .before .member-at in
+    let k = number-is ns s q (c .before .before .before .before .before .before .before .before .part .ensures ∙ raw-is s q (closing-is s q (m .ensures .named))) (c .before .before .before .before .before .before .before .number-of .ensures .0) in
+    let new = sym (has-is ns s (l .loop .at) q k (c .before .before .before .before .before .is-noted .ensures)) ∙ c .before .before .before .before .if2 .left in
+    let at = note-is ns s (l .loop .at) q k (m .ensures .begins .is) (c .before .before .note .ensures) in
     let e = sym (c .before .byte2 .ensures) ∙ c .if3 .left in (
       search needs,
       (
@@ -136,11 +145,13 @@ gather-spec =
     byte-requires
     returns
     member-at-requires
-    name-part-requires
+    add-part
+    sub-part
+    part-requires
     number-of-requires
     is-noted-requires
     returns-2
-    with-place-requires
+    note-requires
     byte-requires-2
     returns-3
     add-p-2

@@ -1,7 +1,8 @@
--- `message::reading::judge` meets its contract. Each exit puts in what led there; `ReadingLaws` has the rows. Assumes nothing.
+-- `message::reading::judge` meets its contract. By its definition and what the callees ensure. Assumes nothing.
 use Rattle.message.proofs.FactLaws.{setting-tag}
 use Rattle.message.proofs.reading.judge.Statement.{statement}
 use Rattle.message.proofs.reading.judge.Tie as tie
+use Rattle.message.specs.Message.{methodOf, numberOf}
 use Rattle.message.specs.Reading.{judged}
 use Rattle.message.specs.declared.reading.Reading.the-variants.{Read}
 use borrow.Author.Needs.{needs}
@@ -25,14 +26,22 @@ returns : tie.Need-returns
 unfolding judged
 returns c = rw (sym (c .before .before .before .before .check-run .ensures) ∙ c .before .before .enum-told .given .1, lt-ltb _ _ (c .before .if1 .taken)) (ap Read (c .probe-of .ensures))
 
+element-copy-out-sequence-at : tie.Need-element-copy-out-sequence-at
+element-copy-out-sequence-at c = search needs
+
+element-copy-out-sequence-at-2 : tie.Need-element-copy-out-sequence-at-2
+element-copy-out-sequence-at-2 c = search needs
+
+sequence-at-requires : tie.Need-sequence-at-requires
+sequence-at-requires c κs = c .before .before .before .before .before .before .before .pre .1 .ends 1
+
 setting-of-requires : tie.Need-setting-of-requires
-setting-of-requires c κs = search needs
+unfolding methodOf
+setting-of-requires c κs = (c .sequence-at .ensures .1 .0, c .before .before .before .before .before .before .before .before .pre .1)
 
 settle-requires : tie.Need-settle-requires
-settle-requires c κs =
-    let x = c .before .before .before .before .before .before .args in
-    let e = setting-tag (x .s .now) (x .tag) (x .at .now) (c .setting-of .ensures .0) in
-    (omega arith, c .setting-of .ensures .1)
+unfolding numberOf
+settle-requires c κs = let x = c .before .before .before .before .before .before .before .before .before in let e = setting-tag (x .args .s .now) (x .args .tag) (x .args .at .now) (c .setting-of .ensures .0) in (omega (arith, x .pre .0), (omega (arith, c .setting-of .ensures .1, c .before .sequence-at .ensures .1 .1), (c .before .sequence-at .ensures .0, x .pre .1)))
 
 returns-2 : tie.Need-returns-2
 unfolding judged
@@ -40,7 +49,7 @@ returns-2 c = rw (sym (c .before .before .before .check-run .ensures) ∙ c .bef
 
 returns-3 : tie.Need-returns-3
 unfolding judged
-returns-3 c = rw (sym (c .before .before .before .before .before .check-run .ensures) ∙ c .before .before .before .enum-told .given .1, le-ltb _ _ (c .before .before .if1 .left)) (rw (c .before .setting-of .ensures .0) at (c .settle .ensures))
+returns-3 c = rw (sym (c .before .before .before .before .before .before .before .before .check-run .ensures) ∙ c .before .before .before .before .before .before .enum-told .given .1, le-ltb _ _ (c .before .before .before .before .before .if1 .left)) (rw (c .before .setting-of .ensures .0) at (c .settle .ensures))
 
 pub judge-spec : {M : Type 1} → statement M
 judge-spec =
@@ -51,6 +60,9 @@ judge-spec =
     enum-told
     probe-of-requires
     returns
+    element-copy-out-sequence-at
+    element-copy-out-sequence-at-2
+    sequence-at-requires
     setting-of-requires
     settle-requires
     returns-2

@@ -1,4 +1,4 @@
--- `message::reading::settle` meets its contract. Each exit puts in what led there; `ReadingLaws` has the rows. Assumes nothing.
+-- `message::reading::settle` meets its contract. By its definition and what the callees ensure. Assumes nothing.
 use Rattle.message.proofs.reading.settle.Statement.{statement}
 use Rattle.message.proofs.reading.settle.Tie as tie
 use Rattle.message.specs.Reading.{settled}

@@ -1,5 +1,6 @@
--- `message::reading::shape` meets its contract. Each exit puts in what led there; `ReadingLaws` has the rows. Assumes nothing.
+-- `message::reading::shape` meets its contract. By its definition and what the callees ensure. Assumes nothing.
 use Rattle.message.proofs.ReadingLaws.{no-shape, name-twice, each-once}
+use Rattle.message.proofs.WalkLaws.{ended-none}
 use Rattle.message.proofs.reading.shape.Statement.{statement}
 use Rattle.message.proofs.reading.shape.Tie as tie
 use borrow.Author.Needs.{needs}
@@ -19,10 +20,10 @@ returns-2 : tie.Need-returns-2
 returns-2 c = let g = c .before in let f = g .before .before in name-twice (f .before .before .args .s .now) (f .shape-of .ensures) (g .before .if1 .left) (g .gather .ensures) (c .if2 .taken)
 
 judge-requires : tie.Need-judge-requires
-judge-requires c κs = c .before .before .before .before .before .shape-of .ensures .few
+judge-requires c κs = let g = c .before .before .before .before in (g .before .before .shape-of .ensures .few, ended-none (g .before .before .before .before .args .s .now) (g .gather .result .at))
 
 returns-3 : tie.Need-returns-3
-returns-3 c = let e = c .before .before .before in let g = e .before in let f = g .before .before in c .judge .ensures ∙ each-once (f .before .before .args .s .now) (f .shape-of .ensures) (g .before .if1 .left) (g .gather .ensures) (e .if2 .left)
+returns-3 c = let e = c .before .before .before .before in let g = e .before in let f = g .before .before in c .judge .ensures ∙ each-once (f .before .before .args .s .now) (f .shape-of .ensures) (g .before .if1 .left) (g .gather .ensures) (e .if2 .left)
 
 pub shape-spec : {M : Type 1} → statement M
 shape-spec =

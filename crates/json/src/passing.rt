@@ -1,0 +1,74 @@
+// Readers for a caller that walks an array or an object himself: a string, and a member, judged and passed in one walk over its bytes.
+use crate::Walked;
+use crate::places::Member;
+use crate::places::skip;
+use crate::strings::string;
+use crate::values::value;
+use octets::byte;
+use octets::or;
+ghost use mathlib.Core.Bool.{_||_};
+ghost use mathlib.Core.Path.{_≡_};
+ghost use Prim.Native.Nat.{_<_};
+ghost use lib.Dec.{eqb};
+ghost use lib.ListN.{getD, length};
+ghost use Rattle.json.specs.Passing.{PassedMember, PassedString};
+
+// The place behind the string that opens at q; 0 where none does.
+pub fn pass_string(s: &[u8], q: usize) -> usize
+    requires { ⌜ (q < length (now s)) × (getD (now s) q 0 ≡ 34) ⌝ }
+    ensures { λ r. ⌜ (0 < r → PassedString (now (s .entry)) q r) ⌝ }
+{
+    let r = string(s, q + 1);
+    let Walked::End(e) = r else {
+        return 0;
+    };
+    e
+}
+
+fn nothing() -> Member
+    ensures { λ r. ⌜ r .then ≡ 0 ⌝ }
+{
+    Member {
+        name: 0,
+        value: 0,
+        end: 0,
+        then: 0,
+    }
+}
+
+// What may follow a member: a comma or the closing brace.
+fn is_next(b: u8) -> bool
+    ensures { λ r. ⌜ r ≡ (eqb b 44 || eqb b 125) ⌝ }
+{
+    or(b == 44, b == 125)
+}
+
+// The member whose name opens at q, with `left` levels left in its object, if it is followed as a member is; else `then` is 0.
+pub fn pass_member(s: &[u8], q: usize, left: usize) -> Member
+    requires { ⌜ (q < length (now s)) × (getD (now s) q 0 ≡ 34) ⌝ }
+    ensures { λ r. ⌜ (0 < r .then → PassedMember (now (s .entry)) q left (r .name) (r .value) (r .end) (r .then)) ⌝ }
+{
+    let n = string(s, q + 1);
+    let Walked::End(e) = n else {
+        return nothing();
+    };
+    let c = skip(s, e);
+    if byte(s, c) != 58 {
+        return nothing();
+    }
+    let v = skip(s, c + 1);
+    let r = value(s, v, left);
+    let Walked::End(w) = r else {
+        return nothing();
+    };
+    let t = skip(s, w);
+    if is_next(byte(s, t)) {
+        return Member {
+            name: e,
+            value: v,
+            end: w,
+            then: t,
+        };
+    }
+    nothing()
+}

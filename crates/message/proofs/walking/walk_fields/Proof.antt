@@ -1,0 +1,131 @@
+-- `message::walking::walk_fields` meets its contract. The loop keeps the machine's answer beside what is gathered; one law of `WalkLaws` for each way out. Assumes nothing.
+use Prim.Native.Nat.{_≤_, _<_}
+use Rattle.message.proofs.GatherLaws.{there}
+use Rattle.message.proofs.WalkLaws.{Walking, walk-starts, walk-again, walk-shut}
+use Rattle.message.proofs.walking.walk_fields.Statement.{statement}
+use Rattle.message.proofs.walking.walk_fields.Tie as tie
+use borrow.Author.Needs.{needs}
+use lib.ListN.{length}
+use mathlib.Core.Path.{sym, _∙_}
+use native.Mathlib.Omega.{arith}
+
+abbrev Inv-loop : tie.InvT-loop
+Inv-loop s o at₀ end₀ p₀ n₀ at end p n = (0 < p) × ((p ≤ length s) × ((length s < 18446744073709551616) × Walking s o at end n p))
+
+abbrev μ-loop : tie.MeasureT-loop
+μ-loop s o at₀ end₀ p₀ n₀ at end p n = n
+
+add-p : tie.Need-add-p Inv-loop μ-loop
+add-p c = search needs
+
+skip-requires : tie.Need-skip-requires Inv-loop μ-loop
+skip-requires c κs = search needs
+
+byte-requires : tie.Need-byte-requires Inv-loop μ-loop
+byte-requires c κs = search needs
+
+returns : tie.Need-returns Inv-loop μ-loop
+returns c = λ h. absurd (omega (arith, h))
+
+loop-holds : tie.Need-loop-holds Inv-loop μ-loop
+loop-holds c = let x = c .before .before .before .before .args in (search needs, (search needs, (search needs, walk-starts (x .s .now) (x .o) (c .before .before .skip .ensures .is) (sym (c .before .byte .ensures) ∙ c .if1 .left))))
+
+skip-requires-2 : tie.Need-skip-requires-2 Inv-loop μ-loop
+skip-requires-2 c κs = search needs
+
+byte-requires-2 : tie.Need-byte-requires-2 Inv-loop μ-loop
+byte-requires-2 c κs = search needs
+
+returns-2 : tie.Need-returns-2 Inv-loop μ-loop
+returns-2 c = λ h. absurd (omega (arith, h))
+
+pass-member-requires : tie.Need-pass-member-requires Inv-loop μ-loop
+pass-member-requires c κs = let x = c .before .before .before .before .before .before .before .before .before .args in let e = sym (c .before .byte2 .ensures) ∙ c .if2 .left in (there (x .s .now) (c .before .before .skip2 .result) 33 e, e)
+
+returns-3 : tie.Need-returns-3 Inv-loop μ-loop
+returns-3 c = λ h. absurd (omega (arith, h))
+
+add-part : tie.Need-add-part Inv-loop μ-loop
+add-part c = let x = c .before .before .before .before .before .before .before .before .before .before .before .args in omega (arith, there (x .s .now) (c .before .before .before .before .skip2 .result) 33 (sym (c .before .before .before .byte2 .ensures) ∙ c .before .before .if2 .left))
+
+sub-part : tie.Need-sub-part Inv-loop μ-loop
+sub-part c = let m = c .before .pass-member .ensures (omega (arith, c .if3 .left)) in omega (arith, m .row .named .low, c .before .before .before .before .skip2 .ensures .low, c .before .before .before .before .before .before .loop .inv .0)
+
+part-requires : tie.Need-part-requires Inv-loop μ-loop
+part-requires c κs = search needs
+
+field-requires : tie.Need-field-requires Inv-loop μ-loop
+field-requires c κs = search needs
+
+is-noted-requires : tie.Need-is-noted-requires Inv-loop μ-loop
+is-noted-requires c κs = search needs
+
+returns-4 : tie.Need-returns-4 Inv-loop μ-loop
+returns-4 c = λ h. absurd (omega (arith, h))
+
+note-requires : tie.Need-note-requires Inv-loop μ-loop
+note-requires c κs = search needs
+
+note-requires-2 : tie.Need-note-requires-2 Inv-loop μ-loop
+note-requires-2 c κs = search needs
+
+byte-requires-3 : tie.Need-byte-requires-3 Inv-loop μ-loop
+byte-requires-3 c κs = search needs
+
+add-t34 : tie.Need-add-t34 Inv-loop μ-loop
+add-t34 c = let m = c .before .before .before .before .before .before .before .before .before .before .before .before .pass-member .ensures (omega (arith, c .before .before .before .before .before .before .before .before .before .before .before .if3 .left)) in omega (arith, m .inside, c .before .before .before .before .before .before .before .before .before .before .before .before .before .before .before .before .before .loop .inv .1 .1 .0)
+
+returns-5 : tie.Need-returns-5 Inv-loop μ-loop
+returns-5 c = λ h. let nn = c in let n2 = nn .before .before in let n1 = nn .before .before .before .before in let f4 = nn .before .before .before .before .before .before in let g = nn .before .before .before .before .before .before .before .before .before in let f3 = nn .before .before .before .before .before .before .before .before .before .before .before in let pm = nn .before .before .before .before .before .before .before .before .before .before .before .before in let f2 = nn .before .before .before .before .before .before .before .before .before .before .before .before .before in let sk = nn .before .before .before .before .before .before .before .before .before .before .before .before .before .before .before in let l = nn .before .before .before .before .before .before .before .before .before .before .before .before .before .before .before .before .before in walk-shut (l .loop .inv .1 .1 .1) (nn .before .before .before .before .before .before .before .before .before .before .before .before .before .before .before .before .loop-test .taken) (sk .skip2 .ensures .is) (sym (f2 .before .byte2 .ensures) ∙ f2 .if2 .left) (pm .pass-member .ensures (omega (arith, f3 .if3 .left))) (g .before .part .ensures) (g .field .ensures .0) (g .field .ensures .1) (f4 .before .is-noted .ensures) (f4 .if4 .left) (n1 .note .ensures) (n2 .note2 .ensures) (sym (c .before .byte3 .ensures) ∙ c .if5 .taken)
+
+returns-6 : tie.Need-returns-6 Inv-loop μ-loop
+returns-6 c = λ h. absurd (omega (arith, h))
+
+add-p-2 : tie.Need-add-p-2 Inv-loop μ-loop
+add-p-2 c = let m = c .before .before .before .before .before .before .before .before .before .before .before .before .before .pass-member .ensures (omega (arith, c .before .before .before .before .before .before .before .before .before .before .before .before .if3 .left)) in omega (arith, m .inside, c .before .before .before .before .before .before .before .before .before .before .before .before .before .before .before .before .before .before .loop .inv .1 .1 .0)
+
+sub-n : tie.Need-sub-n Inv-loop μ-loop
+sub-n c = search needs
+
+loop-less : tie.Need-loop-less Inv-loop μ-loop
+loop-less c = search needs
+
+loop-again : tie.Need-loop-again Inv-loop μ-loop
+loop-again c = let nn = c .before in let n2 = nn .before .before in let n1 = nn .before .before .before .before in let f4 = nn .before .before .before .before .before .before in let g = nn .before .before .before .before .before .before .before .before .before in let f3 = nn .before .before .before .before .before .before .before .before .before .before .before in let pm = nn .before .before .before .before .before .before .before .before .before .before .before .before in let f2 = nn .before .before .before .before .before .before .before .before .before .before .before .before .before in let sk = nn .before .before .before .before .before .before .before .before .before .before .before .before .before .before .before in let l = nn .before .before .before .before .before .before .before .before .before .before .before .before .before .before .before .before .before in let m = pm .pass-member .ensures (omega (arith, f3 .if3 .left)) in (omega arith, (omega (arith, m .inside), (l .loop .inv .1 .1 .0, walk-again (l .loop .inv .1 .1 .1) (nn .before .before .before .before .before .before .before .before .before .before .before .before .before .before .before .before .loop-test .taken) (sk .skip2 .ensures .is) (sym (f2 .before .byte2 .ensures) ∙ f2 .if2 .left) (pm .pass-member .ensures (omega (arith, f3 .if3 .left))) (g .before .part .ensures) (g .field .ensures .0) (g .field .ensures .1) (f4 .before .is-noted .ensures) (f4 .if4 .left) (n1 .note .ensures) (n2 .note2 .ensures) (sym (nn .before .byte3 .ensures) ∙ c .if6 .left))))
+
+returns-7 : tie.Need-returns-7 Inv-loop μ-loop
+returns-7 c = λ h. absurd (omega (arith, h))
+
+pub walk-fields-spec : {M : Type 1} → statement M
+walk-fields-spec =
+    tie.close
+    (tie.spec
+    Inv-loop
+    μ-loop
+    add-p
+    skip-requires
+    byte-requires
+    returns
+    loop-holds
+    skip-requires-2
+    byte-requires-2
+    returns-2
+    pass-member-requires
+    returns-3
+    add-part
+    sub-part
+    part-requires
+    field-requires
+    is-noted-requires
+    returns-4
+    note-requires
+    note-requires-2
+    byte-requires-3
+    add-t34
+    returns-5
+    returns-6
+    add-p-2
+    sub-n
+    loop-less
+    loop-again
+    returns-7)

@@ -1,0 +1,29 @@
+-- An object of Via by its own bytes v: where the values of its host and of its destination stand in it, and what they are (01 Reading, 'Rules';
+-- 01 Writing). The contracts of `src/hops.rt` cite them. Assumes nothing.
+use Prim.Native.Nat.{ℕ}
+use Rattle.json.specs.Places.{members}
+use Rattle.message.specs.Known.{empty, repeated}
+use Rattle.message.specs.Message.{textAt}
+use Rattle.message.specs.Via.{hopPlaces}
+use Rattle.message.specs.declared.hops.Hop.{Hop}
+use Rattle.rules.specs.Names.{hopMembers}
+use lib.Dec.{eqb}
+use lib.ListN.{getD}
+use mathlib.Core.Bool.{Bool, true, false}
+use mathlib.Core.List.{List}
+
+abbrev pub either : Bool → Hop → Hop → Hop
+either true a b = a
+either false a b = b
+
+-- where the two values stand; 0 for one that is missing, and for both where one of the three members stands twice
+unfoldable pub hopOf : List ℕ → Hop
+hopOf v =
+    either (eqb (repeated hopMembers v empty (members v 0)) 0) (record { host = getD (hopPlaces v 0) 1 0; destination = getD (hopPlaces v 0) 2 0 }) (record { host = 0; destination = 0 })
+
+-- its host, and its destination
+unfoldable pub hostOf : List ℕ → List ℕ
+hostOf v = textAt v (hopOf v .host)
+
+unfoldable pub destinationOf : List ℕ → List ℕ
+destinationOf v = textAt v (hopOf v .destination)

@@ -1,0 +1,176 @@
+// One walk over a text of the usual shape, an array of a tag and an object (01 Reading, rows 4 to 7): it judges the JSON and gathers the places and
+// the ends of the known fields at once. Any other text is left to the plain reader and the rows by themselves.
+use crate::gathering::is_noted;
+use crate::gathering::note;
+use json::part;
+use json::pass_member;
+use json::pass_string;
+use json::skip;
+use octets::byte;
+ghost use mathlib.Core.Path.{_≡_};
+ghost use Prim.Native.Nat.{_<_};
+ghost use lib.ListN.{length};
+ghost use Rattle.message.specs.Walk.{Begun, Listed, Usual};
+
+// The tag's number, and where the object opens; 0 where the text does not begin so.
+struct Beginning {
+    tag: u8,
+    object: usize,
+}
+
+fn no_beginning() -> Beginning
+    ensures { λ r. ⌜ r .tag ≡ 0 ⌝ }
+{
+    Beginning { tag: 0, object: 0 }
+}
+
+// The text up to its object's brace.
+fn begin(s: &[u8]) -> Beginning
+    ensures { λ r. ⌜ (0 < r .tag → Begun (now (s .entry)) (r .tag) (r .object)) ⌝ }
+{
+    let o = skip(s, 0);
+    if byte(s, o) != 91 {
+        return no_beginning();
+    }
+    let x = skip(s, o + 1);
+    if byte(s, x) != 34 {
+        return no_beginning();
+    }
+    let e = pass_string(s, x);
+    if e == 0 {
+        return no_beginning();
+    }
+    let c = skip(s, e);
+    if byte(s, c) != 44 {
+        return no_beginning();
+    }
+    let y = skip(s, c + 1);
+    if byte(s, y) != 123 {
+        return no_beginning();
+    }
+    Beginning {
+        tag: rules::tag(part(s, x + 1, e - 1)),
+        object: y,
+    }
+}
+
+// The place behind the object, 0 where the walk broke off; and the places and the ends of the known fields' values, 0 where there is none.
+struct Fields {
+    shut: usize,
+    at: [usize; 27],
+    end: [usize; 27],
+}
+
+// The members of the object that opens at o.
+fn walk_fields(s: &[u8], o: usize) -> Fields
+    requires { ⌜ o < length (now s) ⌝ }
+    ensures { λ r. ⌜ (0 < r .shut → Listed (now (s .entry)) o (r .shut) (r .at) (r .end)) ⌝ }
+{
+    let mut at = [0usize; 27];
+    let mut end = [0usize; 27];
+    let mut p = o + 1;
+    let mut n = s.len();
+    if byte(s, skip(s, p)) != 34 {
+        return Fields {
+            shut: 0,
+            at: at,
+            end: end,
+        };
+    }
+    while 0 < n {
+        let q = skip(s, p);
+        if byte(s, q) != 34 {
+            return Fields {
+                shut: 0,
+                at: at,
+                end: end,
+            };
+        }
+        let m = pass_member(s, q, 6);
+        let name = m.name;
+        let then = m.then;
+        if then == 0 {
+            return Fields {
+                shut: 0,
+                at: at,
+                end: end,
+            };
+        }
+        let k = rules::field(part(s, q + 1, name - 1));
+        if is_noted(&at, k) {
+            return Fields {
+                shut: 0,
+                at: at,
+                end: end,
+            };
+        }
+        note(&mut at, k, m.value);
+        note(&mut end, k, m.end);
+        let b = byte(s, then);
+        if b == 125 {
+            return Fields {
+                shut: then + 1,
+                at: at,
+                end: end,
+            };
+        }
+        if b != 44 {
+            return Fields {
+                shut: 0,
+                at: at,
+                end: end,
+            };
+        }
+        p = then + 1;
+        n -= 1;
+    }
+    Fields {
+        shut: 0,
+        at: at,
+        end: end,
+    }
+}
+
+// The tag, 0 where the text has not the usual shape; and the places and the ends of the known fields' values.
+pub struct Walk {
+    pub tag: u8,
+    pub at: [usize; 27],
+    pub end: [usize; 27],
+}
+
+fn no_walk() -> Walk
+    ensures { λ r. ⌜ r .tag ≡ 0 ⌝ }
+{
+    Walk {
+        tag: 0,
+        at: [0usize; 27],
+        end: [0usize; 27],
+    }
+}
+
+// The whole text.
+pub fn walk_text(s: &[u8]) -> Walk
+    ensures { λ r. ⌜ (0 < r .tag → Usual (now (s .entry)) (r .tag) (r .at) (r .end)) ⌝ }
+{
+    let b = begin(s);
+    let tag = b.tag;
+    let object = b.object;
+    if tag == 0 {
+        return no_walk();
+    }
+    let f = walk_fields(s, object);
+    let shut = f.shut;
+    let at = f.at;
+    let end = f.end;
+    if shut == 0 {
+        return no_walk();
+    }
+    let z = skip(s, shut);
+    if byte(s, z) != 93 {
+        return no_walk();
+    }
+    if skip(s, z + 1) < s.len() {
+        return no_walk();
+    }
+    Walk { tag, at, end }
+}
