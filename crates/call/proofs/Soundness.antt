@@ -1,6 +1,7 @@
 -- The rule keeps a record sound: whatever an event does to a sound record, what is set is sound, and so is what an INVITE opens.
 -- By the rows of the rule, each of which sets one of few things. Assumes nothing.
 use Prim.Native.Nat.{ℕ, _≤_, _<_}
+use Rattle.call.specs.Answer.{quietWord, isQuiet}
 use Rattle.call.specs.Rule.{choose, chooseAdmitted, refused, unchanged, heard, chatAt, entered, stays, goes, since, waiting, codeOf, opened, invite, ackIn, ack, cancelIn, cancel, highestOf, numbered, chatted, inTalk, admitted, onward, bye, message, notify, refer, callbackIn, request, progress, success, failure, toInvite, settled, toWithin, toInviting, toCallback, response, tickIn, unheld, checked, held, unknown, decided}
 use Rattle.call.specs.Sound.{Sound, SoundHeld, SoundAfter, Numbered}
 use Rattle.call.specs.declared.answers.Reason.the-variants.{NoCall, OtherParty, Earlier, WrongNumber, NotNow, NotSecure, TooLate}
@@ -19,6 +20,7 @@ use Rattle.call.specs.declared.events.Request.{Request}
 use Rattle.call.specs.declared.events.Response.{Response}
 use Rattle.call.specs.declared.events.Side.the-variants.{Caller, Callee}
 use Rattle.call.specs.declared.events.Side.{Side}
+use Rattle.call.specs.declared.records.After.the-variants.{Same}
 use Rattle.call.specs.declared.records.Call.{Call}
 use Rattle.call.specs.declared.records.Held.the-variants.{Nothing, Is}
 use Rattle.call.specs.declared.records.Held.{Held}
@@ -27,13 +29,18 @@ use Rattle.call.specs.declared.requests.Admitted.the-variants.{Stops, Go
 use Rattle.call.specs.declared.requests.Admitted.{Admitted}
 use borrow.Author.Tests.{ltb-false, leb-false}
 use lib.Dec.{eqb, leb, ltb}
-use mathlib.Core.Bool.{Bool, true, false, _&&_}
-use mathlib.Core.Path.{_≡_, refl}
+use mathlib.Core.Bool.{Bool, true, false, cond, _&&_}
+use mathlib.Core.Path.{_≡_, refl, sym, ap, _∙_}
 use native.Mathlib.Omega.{arith}
 
--- an outcome that sets nothing but a sound record
+-- an outcome that sets nothing but a sound record, and nothing where its answer says so
 pub record Fine (o : Outcome) : Type 0 where
   pub fine : SoundAfter (o .after)
+  pub still : isQuiet (o .answer) ≡ true → o .after ≡ Same
+
+-- an answer is not of both kinds
+loud : {A : Type 0} {b : Bool} → b ≡ false → b ≡ true → A
+loud p q = absurd (let z : _≡_ {A = ℕ} 0 1 = ap {B = ℕ} (λ (b : Bool). cond b 1 0) (sym p ∙ q) in omega arith)
 
 either : (t : Bool) (a b : Outcome) → Fine a → Fine b → Fine (choose t a b)
 either true a b p q = p
@@ -44,9 +51,14 @@ unless : (t : Bool) (a b : Outcome) → Fine a → (t ≡ false → Fine b) → 
 unless true a b p q = p
 unless false a b p q = q refl
 
+-- no earlier than the last time, and a time of 64 bits
+record Timely (last now : ℕ) : Type 0 where
+  after : last ≤ now
+  clock : now < 18446744073709551616
+
 -- what is set
 
-module _ (c : Call) (now : ℕ) (s : Sound c) (later : c .last ≤ now) where
+module _ (c : Call) (now : ℕ) (s : Sound c) (later : Timely (c .last) now) where
   heard-sound : Sound (heard now c)
   heard-sound =
       record {
@@ -57,17 +69,20 @@ module _ (c : Call) (now : ℕ) (s : Sound c) (later : c .last ≤ now) where
         callee-known = s .callee-known;
         callee-none = s .callee-none;
         callee-some = s .callee-some;
-        entry-past = (let e = s .entry-past in omega arith);
-        chat-past = (let e = s .chat-past in omega arith);
+        entry-past = (let e = s .entry-past in let l = later .after in omega arith);
+        chat-past = (let e = s .chat-past in let l = later .after in omega arith);
+        caller-fits = s .caller-fits;
+        callee-fits = s .callee-fits;
+        last-fits = later .clock;
       }
 
   chat-before : (x : State) → chatAt x now (c .chat) ≤ now
-  chat-before Calling = let e = s .chat-past in omega arith
-  chat-before Ringing = let e = s .chat-past in omega arith
+  chat-before Calling = let e = s .chat-past in let l = later .after in omega arith
+  chat-before Ringing = let e = s .chat-past in let l = later .after in omega arith
   chat-before Answered = omega arith
-  chat-before Talking = let e = s .chat-past in omega arith
-  chat-before Ended = let e = s .chat-past in omega arith
-  chat-before Cancelling = let e = s .chat-past in omega arith
+  chat-before Talking = let e = s .chat-past in let l = later .after in omega arith
+  chat-before Ended = let e = s .chat-past in let l = later .after in omega arith
+  chat-before Cancelling = let e = s .chat-past in let l = later .after in omega arith
 
   entered-sound : (x : State) → Sound (entered x now c)
   entered-sound x =
@@ -81,19 +96,22 @@ module _ (c : Call) (now : ℕ) (s : Sound c) (later : c .last ≤ now) where
         callee-some = s .callee-some;
         entry-past = omega arith;
         chat-past = chat-before x;
+        caller-fits = s .caller-fits;
+        callee-fits = s .callee-fits;
+        last-fits = later .clock;
       }
 
-  stays-fine : (w : Word) → Fine (stays w now c)
-  stays-fine w = record { fine = heard-sound }
+  stays-fine : (w : Word) → quietWord w ≡ false → Fine (stays w now c)
+  stays-fine w l = record { fine = heard-sound; still = loud l }
 
-  goes-fine : (w : Word) (x : State) → Fine (goes w x now c)
-  goes-fine w x = record { fine = entered-sound x }
+  goes-fine : (w : Word) (x : State) → quietWord w ≡ false → Fine (goes w x now c)
+  goes-fine w x l = record { fine = entered-sound x; still = loud l }
 
 refused-fine : (r : Reason) (w : Waiting) → Fine (refused r w)
-refused-fine r w = record { fine = tt }
+refused-fine r w = record { fine = tt; still = λ e. refl }
 
 unchanged-fine : (w : Word) (c : Call) → Fine (unchanged w c)
-unchanged-fine w c = record { fine = tt }
+unchanged-fine w c = record { fine = tt; still = λ e. refl }
 
 -- what a request within a call goes on with
 
@@ -117,8 +135,8 @@ code-high Callback = omega arith
 code-high Refer = omega arith
 code-high Notify = omega arith
 
-numbered-sound : (side : Side) (n : ℕ) (m : Method) (c : Call) → Sound c → highestOf side c .number < n → Sound (numbered side n (codeOf m) c)
-numbered-sound Caller n m c s h =
+numbered-sound : (side : Side) (n : ℕ) (m : Method) (c : Call) → Sound c → highestOf side c .number < n → n < 4294967296 → Sound (numbered side n (codeOf m) c)
+numbered-sound Caller n m c s h fits =
     record {
       invited = s .invited;
       not-below = (let e = s .not-below in omega arith);
@@ -129,8 +147,11 @@ numbered-sound Caller n m c s h =
       callee-some = s .callee-some;
       entry-past = s .entry-past;
       chat-past = s .chat-past;
+      caller-fits = fits;
+      callee-fits = s .callee-fits;
+      last-fits = s .last-fits;
     }
-numbered-sound Callee n m c s h =
+numbered-sound Callee n m c s h fits =
     record {
       invited = s .invited;
       not-below = s .not-below;
@@ -141,6 +162,9 @@ numbered-sound Callee n m c s h =
       callee-some = (λ e. absurd (let l = code-low m in omega arith));
       entry-past = s .entry-past;
       chat-past = s .chat-past;
+      caller-fits = s .caller-fits;
+      callee-fits = fits;
+      last-fits = s .last-fits;
     }
 
 numbered-last : (side : Side) (n m : ℕ) (c : Call) → numbered side n m c .last ≡ c .last
@@ -150,31 +174,31 @@ numbered-last Callee n m c = refl
 -- a sound record that was last heard no later, or an outcome that is fine
 abbrev Onward : ℕ → Admitted → Type 0
 Onward now (Stops o) = Fine o
-Onward now (Goes d) = Sound d × (d .last ≤ now)
+Onward now (Goes d) = Sound d × (Timely (d .last) now)
 
 pick-onward : (now : ℕ) (t : Bool) (a b : Admitted) → (t ≡ true → Onward now a) → (t ≡ false → Onward now b) → Onward now (chooseAdmitted t a b)
 pick-onward now true a b p q = p refl
 pick-onward now false a b p q = q refl
 
-module _ (c : Call) (now : ℕ) (s : Sound c) (later : c .last ≤ now) where
-  admitted-onward : (r : Request) → Onward now (admitted r c)
+module _ (c : Call) (now : ℕ) (s : Sound c) (later : Timely (c .last) now) where
+  admitted-onward : (r : Request) → r .number < 4294967296 → Onward now (admitted r c)
   unfolding admitted
-  admitted-onward r =
+  admitted-onward r fits =
       pick-onward now (eqb (r .number) (highestOf (r .from) c .number) && eqb (codeOf (r .method)) (highestOf (r .from) c .method)) _ _
       (λ e. unchanged-fine Repeat c)
       (λ e. pick-onward now (leb (r .number) (highestOf (r .from) c .number)) _ _ (λ f. refused-fine WrongNumber Requester)
       (λ f. pick-onward now (inTalk (c .state)) _ _
       (λ g. (
-        numbered-sound (r .from) (r .number) (r .method) c s (leb-false _ _ f),
+        numbered-sound (r .from) (r .number) (r .method) c s (leb-false _ _ f) fits,
         rw (numbered-last (r .from) (r .number) (codeOf (r .method)) c) later,
       ))
       (λ g. refused-fine NotNow Requester)))
 
-onward-fine : (now : ℕ) (a : Admitted) (f : Call → Outcome) → Onward now a → ((d : Call) → Sound d → d .last ≤ now → Fine (f d)) → Fine (onward a f)
+onward-fine : (now : ℕ) (a : Admitted) (f : Call → Outcome) → Onward now a → ((d : Call) → Sound d → Timely (d .last) now → Fine (f d)) → Fine (onward a f)
 onward-fine now (Stops o) f p g = p
 onward-fine now (Goes d) f p g = g d (p .0) (p .1)
 
-chatted-sound : (c : Call) (now : ℕ) → Sound c → c .last ≤ now → Sound (heard now (chatted now c))
+chatted-sound : (c : Call) (now : ℕ) → Sound c → Timely (c .last) now → Sound (heard now (chatted now c))
 chatted-sound c now s later =
     record {
       invited = s .invited;
@@ -184,33 +208,36 @@ chatted-sound c now s later =
       callee-known = s .callee-known;
       callee-none = s .callee-none;
       callee-some = s .callee-some;
-      entry-past = (let e = s .entry-past in omega arith);
+      entry-past = (let e = s .entry-past in let l = later .after in omega arith);
       chat-past = omega arith;
+      caller-fits = s .caller-fits;
+      callee-fits = s .callee-fits;
+      last-fits = later .clock;
     }
 
 -- the rows of the rule, on a sound record that was last heard no later
 
-module _ (c : Call) (now : ℕ) (s : Sound c) (later : c .last ≤ now) where
+module _ (c : Call) (now : ℕ) (s : Sound c) (later : Timely (c .last) now) where
   rejected : (w : Waiting) → Fine (refused NotNow w)
   rejected w = refused-fine NotNow w
 
-  stay : (w : Word) → Fine (stays w now c)
-  stay w = stays-fine c now s later w
+  stay : (w : Word) → quietWord w ≡ false → Fine (stays w now c)
+  stay w l = stays-fine c now s later w l
 
-  go : (w : Word) (x : State) → Fine (goes w x now c)
-  go w x = goes-fine c now s later w x
+  go : (w : Word) (x : State) → quietWord w ≡ false → Fine (goes w x now c)
+  go w x l = goes-fine c now s later w x l
 
   ack-fine : (x : State) → Fine (ackIn x now c)
   ack-fine Calling = rejected Nobody
   ack-fine Ringing = rejected Nobody
-  ack-fine Answered = go Pass Talking
+  ack-fine Answered = go Pass Talking refl
   ack-fine Talking = unchanged-fine Repeat c
   ack-fine Ended = rejected Nobody
   ack-fine Cancelling = rejected Nobody
 
   cancel-fine : (x : State) → Fine (cancelIn x now c)
-  cancel-fine Calling = go Pass Cancelling
-  cancel-fine Ringing = go Pass Cancelling
+  cancel-fine Calling = go Pass Cancelling refl
+  cancel-fine Ringing = go Pass Cancelling refl
   cancel-fine Answered = unchanged-fine Repeat c
   cancel-fine Talking = unchanged-fine Repeat c
   cancel-fine Ended = unchanged-fine Repeat c
@@ -221,61 +248,61 @@ module _ (c : Call) (now : ℕ) (s : Sound c) (later : c .last ≤ now) where
   callback-fine Ringing = rejected CallbackRequester
   callback-fine Answered = rejected CallbackRequester
   callback-fine Talking = rejected CallbackRequester
-  callback-fine Ended = either (leb (since now (c .entry)) 3600000) _ _ (stay Pass) (refused-fine TooLate CallbackRequester)
+  callback-fine Ended = either (leb (since now (c .entry)) 3600000) _ _ (stay Pass refl) (refused-fine TooLate CallbackRequester)
   callback-fine Cancelling = rejected CallbackRequester
 
-  within-fine : (r : Request) (f : Call → Outcome) → ((d : Call) → Sound d → d .last ≤ now → Fine (f d)) → Fine (onward (admitted r c) f)
-  within-fine r f g = onward-fine now (admitted r c) f (admitted-onward c now s later r) g
+  within-fine : (r : Request) (f : Call → Outcome) → r .number < 4294967296 → ((d : Call) → Sound d → Timely (d .last) now → Fine (f d)) → Fine (onward (admitted r c) f)
+  within-fine r f fits g = onward-fine now (admitted r c) f (admitted-onward c now s later r fits) g
 
-  request-fine : (m : Method) (r : Request) → Fine (request m r now c)
+  request-fine : (m : Method) (r : Request) → r .number < 4294967296 → Fine (request m r now c)
   unfolding request invite ack cancel bye message notify refer
-  request-fine Invite r = either (eqb (r .number) (c .invite)) _ _ (unchanged-fine Repeat c) (rejected Requester)
-  request-fine bye- r = within-fine r _ (λ d t l. goes-fine d now t l Pass Ended)
-  request-fine Cancel r = either (eqb (r .number) (c .invite)) _ _ (cancel-fine (c .state)) (refused-fine WrongNumber Requester)
-  request-fine Ack r = either (eqb (r .number) (c .invite)) _ _ (ack-fine (c .state)) (refused-fine WrongNumber Nobody)
-  request-fine Message r = within-fine r _ (λ d t l. record { fine = chatted-sound d now t l })
-  request-fine Callback r = callback-fine (c .state)
-  request-fine Refer r = within-fine r _ (λ d t l. either (d .secure) _ _ (stays-fine d now t l Pass) (refused-fine NotSecure Requester))
-  request-fine Notify r = within-fine r _ (λ d t l. stays-fine d now t l Pass)
+  request-fine Invite r fits = either (eqb (r .number) (c .invite)) _ _ (unchanged-fine Repeat c) (rejected Requester)
+  request-fine bye- r fits = within-fine r _ fits (λ d t l. goes-fine d now t l Pass Ended refl)
+  request-fine Cancel r fits = either (eqb (r .number) (c .invite)) _ _ (cancel-fine (c .state)) (refused-fine WrongNumber Requester)
+  request-fine Ack r fits = either (eqb (r .number) (c .invite)) _ _ (ack-fine (c .state)) (refused-fine WrongNumber Nobody)
+  request-fine Message r fits = within-fine r _ fits (λ d t l. record { fine = chatted-sound d now t l; still = loud refl })
+  request-fine Callback r fits = callback-fine (c .state)
+  request-fine Refer r fits = within-fine r _ fits (λ d t l. either (d .secure) _ _ (stays-fine d now t l Pass refl) (refused-fine NotSecure Requester))
+  request-fine Notify r fits = within-fine r _ fits (λ d t l. stays-fine d now t l Pass refl)
 
   progress-fine : (x : State) (status : ℕ) → Fine (progress x status now c)
-  progress-fine Calling status = either (eqb status 180) _ _ (go Pass Ringing) (stay Pass)
-  progress-fine Ringing status = stay Pass
+  progress-fine Calling status = either (eqb status 180) _ _ (go Pass Ringing refl) (stay Pass refl)
+  progress-fine Ringing status = stay Pass refl
   progress-fine Answered status = rejected Nobody
   progress-fine Talking status = rejected Nobody
   progress-fine Ended status = rejected Nobody
-  progress-fine Cancelling status = stay Pass
+  progress-fine Cancelling status = stay Pass refl
 
   success-fine : (x : State) → Fine (success x now c)
-  success-fine Calling = go Pass Answered
-  success-fine Ringing = go Pass Answered
-  success-fine Answered = stay Pass
-  success-fine Talking = stay Pass
-  success-fine Ended = stay Bye
-  success-fine Cancelling = go Bye Ended
+  success-fine Calling = go Pass Answered refl
+  success-fine Ringing = go Pass Answered refl
+  success-fine Answered = stay Pass refl
+  success-fine Talking = stay Pass refl
+  success-fine Ended = stay Bye refl
+  success-fine Cancelling = go Bye Ended refl
 
   failure-fine : (x : State) → Fine (failure x now c)
-  failure-fine Calling = go Pass Ended
-  failure-fine Ringing = go Pass Ended
+  failure-fine Calling = go Pass Ended refl
+  failure-fine Ringing = go Pass Ended refl
   failure-fine Answered = rejected Nobody
   failure-fine Talking = rejected Nobody
   failure-fine Ended = rejected Nobody
-  failure-fine Cancelling = go Pass Ended
+  failure-fine Cancelling = go Pass Ended refl
 
   settled-fine : (x : State) (six : Bool) → Fine (settled x six now c)
   settled-fine Calling six = rejected Nobody
   settled-fine Ringing six = rejected Nobody
-  settled-fine Answered six = stay Pass
-  settled-fine Talking six = stay Pass
-  settled-fine Ended six = stay Pass
-  settled-fine Cancelling six = either six _ _ (stay Pass) (rejected Nobody)
+  settled-fine Answered six = stay Pass refl
+  settled-fine Talking six = stay Pass refl
+  settled-fine Ended six = stay Pass refl
+  settled-fine Cancelling six = either six _ _ (stay Pass refl) (rejected Nobody)
 
   to-callback-fine : (x : State) → Fine (toCallback x now c)
   to-callback-fine Calling = rejected Nobody
   to-callback-fine Ringing = rejected Nobody
   to-callback-fine Answered = rejected Nobody
   to-callback-fine Talking = rejected Nobody
-  to-callback-fine Ended = stay Pass
+  to-callback-fine Ended = stay Pass refl
   to-callback-fine Cancelling = rejected Nobody
 
   wrong : Fine (refused WrongNumber Nobody)
@@ -308,27 +335,27 @@ module _ (c : Call) (now : ℕ) (s : Sound c) (later : c .last ≤ now) where
   response-fine Notify r = to-within-fine r
 
   tick-fine : (x : State) → Fine (tickIn x now c)
-  tick-fine Calling = either (leb 15000 (since now (c .entry))) _ _ (go Timeout Ended) (unchanged-fine None c)
-  tick-fine Ringing = either (leb 150000 (since now (c .entry))) _ _ (go Timeout Ended) (unchanged-fine None c)
-  tick-fine Answered = either (leb 1800000 (since now (c .chat))) _ _ (go Idle Ended) (unchanged-fine None c)
-  tick-fine Talking = either (leb 1800000 (since now (c .chat))) _ _ (go Idle Ended) (unchanged-fine None c)
-  tick-fine Ended = either (ltb 3600000 (since now (c .entry))) _ _ (record { fine = tt }) (unchanged-fine None c)
-  tick-fine Cancelling = either (leb 15000 (since now (c .entry))) _ _ (go Timeout Ended) (unchanged-fine None c)
+  tick-fine Calling = either (leb 15000 (since now (c .entry))) _ _ (go Timeout Ended refl) (unchanged-fine None c)
+  tick-fine Ringing = either (leb 150000 (since now (c .entry))) _ _ (go Timeout Ended refl) (unchanged-fine None c)
+  tick-fine Answered = either (leb 1800000 (since now (c .chat))) _ _ (go Idle Ended refl) (unchanged-fine None c)
+  tick-fine Talking = either (leb 1800000 (since now (c .chat))) _ _ (go Idle Ended refl) (unchanged-fine None c)
+  tick-fine Ended = either (ltb 3600000 (since now (c .entry))) _ _ (record { fine = tt; still = loud refl }) (unchanged-fine None c)
+  tick-fine Cancelling = either (leb 15000 (since now (c .entry))) _ _ (go Timeout Ended refl) (unchanged-fine None c)
 
 -- the checks 21 and 22 before them
 
-checked-fine : (agrees : Bool) (w : Waiting) (now : ℕ) (c : Call) (o : Outcome) → (c .last ≤ now → Fine o) → Fine (checked agrees w now c o)
-checked-fine agrees w now c o f =
-    either agrees _ _ (unless (ltb now (c .last)) _ _ (refused-fine Earlier w) (λ e. f (ltb-false _ _ e))) (refused-fine OtherParty w)
+checked-fine : (agrees : Bool) (w : Waiting) (now : ℕ) (c : Call) (o : Outcome) → now < 18446744073709551616 → (Timely (c .last) now → Fine o) → Fine (checked agrees w now c o)
+checked-fine agrees w now c o t f =
+    either agrees _ _ (unless (ltb now (c .last)) _ _ (refused-fine Earlier w) (λ e. f (record { after = ltb-false _ _ e; clock = t }))) (refused-fine OtherParty w)
 
-held-fine : (e : Event) (now : ℕ) (c : Call) → Sound c → Fine (held e now c)
+held-fine : (e : Event) (now : ℕ) (c : Call) → Sound c → Numbered e → now < 18446744073709551616 → Fine (held e now c)
 unfolding held
-held-fine (Asks r agrees) now c s = checked-fine agrees (waiting (r .method)) now c _ (λ l. request-fine c now s l (r .method) r)
-held-fine (Replies r agrees) now c s = checked-fine agrees Nobody now c _ (λ l. response-fine c now s l (r .method) r)
-held-fine Tick now c s = checked-fine true Nobody now c _ (λ l. tick-fine c now s l (c .state))
+held-fine (Asks r agrees) now c s n t = checked-fine agrees (waiting (r .method)) now c _ t (λ l. request-fine c now s l (r .method) r (n .1))
+held-fine (Replies r agrees) now c s n t = checked-fine agrees Nobody now c _ t (λ l. response-fine c now s l (r .method) r)
+held-fine Tick now c s n t = checked-fine true Nobody now c _ t (λ l. tick-fine c now s l (c .state))
 
-opened-sound : (number : ℕ) (secure : Bool) (now : ℕ) → 1 ≤ number → Sound (opened number secure now)
-opened-sound number secure now h =
+opened-sound : (number : ℕ) (secure : Bool) (now : ℕ) → 1 ≤ number → number < 4294967296 → now < 18446744073709551616 → Sound (opened number secure now)
+opened-sound number secure now h fits t =
     record {
       invited = h;
       not-below = omega arith;
@@ -339,25 +366,34 @@ opened-sound number secure now h =
       callee-some = (λ e. refl);
       entry-past = omega arith;
       chat-past = omega arith;
+      caller-fits = fits;
+      callee-fits = omega arith;
+      last-fits = t;
     }
 
-unheld-fine : (m : Method) (r : Request) (now : ℕ) → 1 ≤ r .number → Fine (unheld m r now)
-unheld-fine Invite r now h = record { fine = opened-sound (r .number) (r .secure) now h }
-unheld-fine bye- r now h = refused-fine NoCall Requester
-unheld-fine Cancel r now h = refused-fine NoCall Requester
-unheld-fine Ack r now h = refused-fine NoCall Nobody
-unheld-fine Message r now h = refused-fine NoCall Requester
-unheld-fine Callback r now h = refused-fine NoCall CallbackRequester
-unheld-fine Refer r now h = refused-fine NoCall Requester
-unheld-fine Notify r now h = refused-fine NoCall Requester
+unheld-fine : (m : Method) (r : Request) (now : ℕ) → 1 ≤ r .number → r .number < 4294967296 → now < 18446744073709551616 → Fine (unheld m r now)
+unheld-fine Invite r now h fits t = record { fine = opened-sound (r .number) (r .secure) now h fits t; still = loud refl }
+unheld-fine bye- r now h fits t = refused-fine NoCall Requester
+unheld-fine Cancel r now h fits t = refused-fine NoCall Requester
+unheld-fine Ack r now h fits t = refused-fine NoCall Nobody
+unheld-fine Message r now h fits t = refused-fine NoCall Requester
+unheld-fine Callback r now h fits t = refused-fine NoCall CallbackRequester
+unheld-fine Refer r now h fits t = refused-fine NoCall Requester
+unheld-fine Notify r now h fits t = refused-fine NoCall Requester
 
-unknown-fine : (e : Event) (now : ℕ) → Numbered e → Fine (unknown e now)
+unknown-fine : (e : Event) (now : ℕ) → Numbered e → now < 18446744073709551616 → Fine (unknown e now)
 unfolding unknown
-unknown-fine (Asks r agrees) now h = unheld-fine (r .method) r now h
-unknown-fine (Replies r agrees) now h = refused-fine NoCall Nobody
-unknown-fine Tick now h = refused-fine NoCall Nobody
+unknown-fine (Asks r agrees) now h t = unheld-fine (r .method) r now (h .0) (h .1) t
+unknown-fine (Replies r agrees) now h t = refused-fine NoCall Nobody
+unknown-fine Tick now h t = refused-fine NoCall Nobody
 
--- THE THEOREM: on a sound record, or on none, an event that carries a number at least 1 sets nothing but a sound record
-pub decided-sound : (h : Held) (e : Event) (now : ℕ) → SoundHeld h → Numbered e → SoundAfter (decided h e now .after)
-decided-sound Nothing e now s n = unknown-fine e now n .fine
-decided-sound (Is c) e now s n = held-fine e now c s .fine
+-- THE THEOREM: on a sound record, or on none, an event that carries a number of CSeq and a time of 64 bits sets nothing but a sound record
+pub decided-sound : (h : Held) (e : Event) (now : ℕ) → SoundHeld h → Numbered e → now < 18446744073709551616 → SoundAfter (decided h e now .after)
+decided-sound Nothing e now s n t = unknown-fine e now n t .fine
+decided-sound (Is c) e now s n t = held-fine e now c s n t .fine
+
+-- and where its answer says that nothing changes, it leaves the record
+pub decided-still : (h : Held) (e : Event) (now : ℕ) → SoundHeld h → Numbered e → now < 18446744073709551616 → isQuiet (decided h e now .answer) ≡ true
+    → decided h e now .after ≡ Same
+decided-still Nothing e now s n t = unknown-fine e now n t .still
+decided-still (Is c) e now s n t = held-fine e now c s n t .still

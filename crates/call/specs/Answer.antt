@@ -2,6 +2,11 @@
 -- words are spelt where they are written.
 -- Assumes nothing.
 use Prim.Native.Nat.{ℕ}
+use Rattle.call.specs.declared.answers.Answer.the-variants.{Accepted, Refused}
+use Rattle.call.specs.declared.answers.Answer.{Answer}
+use Rattle.call.specs.declared.answers.Word.the-variants.{Pass, Repeat, Bye, Timeout, Idle, Freed, None}
+use Rattle.call.specs.declared.answers.Word.{Word}
+use mathlib.Core.Bool.{Bool, true, false}
 use Rattle.call.specs.declared.answers.State.{State}
 use Rattle.call.specs.declared.answers.State.the-variants.{Calling, Ringing, Answered, Talking, Ended, Cancelling}
 use Rattle.call.specs.declared.answers.Shown.{Shown}
@@ -73,3 +78,17 @@ replyOf Table = 0
 replyOf (Reading n p) = 0
 replyOf PingPong = 0
 replyOf (Call r w) = replyTo w r
+
+-- refusals change nothing, and repeat and none change nothing
+abbrev pub quietWord : Word → Bool
+quietWord Pass = false
+quietWord Repeat = true
+quietWord Bye = false
+quietWord Timeout = false
+quietWord Idle = false
+quietWord Freed = false
+quietWord None = true
+
+abbrev pub isQuiet : Answer → Bool
+isQuiet (Accepted w s) = quietWord w
+isQuiet (Refused f) = true

@@ -1,7 +1,7 @@
 -- What the numbers of a record in use meet (01 The table image, 'Well-formed'). The theorem of `proofs/Soundness.antt` says that the rule keeps
 -- it. Assumes nothing.
 use mathlib.Core.Path.{_≡_}
-use Prim.Native.Nat.{ℕ, _≤_}
+use Prim.Native.Nat.{ℕ, _≤_, _<_}
 use Rattle.call.specs.declared.records.Call.{Call}
 use Rattle.call.specs.declared.records.Held.{Held}
 use Rattle.call.specs.declared.records.Held.the-variants.{Nothing, Is}
@@ -12,7 +12,7 @@ use Rattle.call.specs.declared.events.Event.the-variants.{Asks, Replies,
 
 -- (state 1 to 6 and Secure-Call 0 or 1 hold by their types; texts, 00s, distinct Call-IDs and the header are the table's)
 -- INVITE number at least 1, caller's highest not below it, methods 1 to 8 (the callee's is 0 exactly if the callee's highest is 0),
--- both other times at most the last time
+-- both other times at most the last time; and numbers and times fit the bytes that they have
 pub record Sound (c : Call) : Type 0 where
   pub invited : 1 ≤ c .invite
   pub not-below : c .invite ≤ c .caller .number
@@ -23,6 +23,9 @@ pub record Sound (c : Call) : Type 0 where
   pub callee-some : c .callee .method ≡ 0 → c .callee .number ≡ 0
   pub entry-past : c .entry ≤ c .last
   pub chat-past : c .chat ≤ c .last
+  pub caller-fits : c .caller .number < 4294967296
+  pub callee-fits : c .callee .number < 4294967296
+  pub last-fits : c .last < 18446744073709551616
 
 -- of the record that an event finds: none, or a sound one
 abbrev pub SoundHeld : Held → Type 0
@@ -35,8 +38,8 @@ SoundAfter Same = Unit
 SoundAfter (Set c) = Sound c
 SoundAfter Free = Unit
 
--- an event's number is at least 1, as the reading sees to (01 Reading, CSeq)
+-- an event's number is 1 to 4294967295, as the reading sees to (01 Reading, CSeq)
 abbrev pub Numbered : Event → Type 0
-Numbered (Asks r agrees) = 1 ≤ r .number
-Numbered (Replies r agrees) = 1 ≤ r .number
+Numbered (Asks r agrees) = (1 ≤ r .number) × (r .number < 4294967296)
+Numbered (Replies r agrees) = (1 ≤ r .number) × (r .number < 4294967296)
 Numbered Tick = Unit

@@ -1,4 +1,4 @@
--- Making a blank table (01 The table image, last sentence). Cited by the contract of `src/blanking.rt`. Assumes nothing.
+-- Making a blank table (01 The table image, last sentence). Cited by the contracts of `src/blanking.rt`. Assumes nothing.
 use Prim.Native.Nat.{ℕ, _+_, _*_}
 use Rattle.octets.specs.Class.{among}
 use Rattle.table.specs.Image.{headerSize, recordSize, headerOf}
@@ -25,7 +25,12 @@ abbrev pub eitherList : Bool → List ℕ → List ℕ → List ℕ
 eitherList true a b = a
 eitherList false a b = b
 
--- done, or refused (01's number 1) for a wrong count or length
+-- the paper's number: a wrong count or length is refused by 1; 0 where it is done
+abbrev pub madeNumber : Made → ℕ
+madeNumber Done = 0
+madeNumber Refused = 1
+
+-- done, or refused for a wrong count or length
 abbrev pub blankAnswer : List ℕ → ℕ → Made
 blankAnswer out count = madeIf (blankFits count (length out))
 

@@ -1,5 +1,5 @@
--- The table image as a whole (01 The table image): a header, then records of one size. Cited by every contract of `src/`.
--- Assumes nothing.
+-- The table image as a whole (01 The table image): a header, then records of one size. Cited by the contracts of
+-- `src/` but those of `texts.rt`. Assumes nothing.
 use Prim.Native.Nat.{ℕ, _+_, _-_, _*_, _/_}
 use Rattle.octets.specs.Ascii.{ascii}
 use Rattle.octets.specs.Number.{bytesOf}

@@ -1,5 +1,6 @@
 -- One record (01 The table image, first paragraph): where its fields stand, and how it is put together. Cited by the contracts of
--- `src/numbers.rt`, `src/texts.rt`, `src/records.rt` and `src/searching.rt`. Assumes nothing.
+-- `src/numbers.rt`, `src/texts.rt`, `src/records.rt`, `src/searching.rt`, `src/marks.rt` and `src/soundness.rt`; `src/layout.rt` has its places.
+-- Assumes nothing.
 use Prim.Native.Nat.{ℕ, _+_, _-_}
 use Rattle.octets.specs.Number.{bytesOf, numberOf}
 use Rattle.octets.specs.Text.{same}
@@ -166,7 +167,7 @@ unfoldable pub newRecord : List ℕ → List ℕ → List ℕ → List ℕ → F
 newRecord callId user callerFire calleeFire f =
     recordOf f (slotOf callIdRoom callId ++ (slotOf partyRoom user ++ (slotOf partyRoom callerFire ++ slotOf partyRoom calleeFire)))
 
--- a record is free if its state is 0
+-- a record is free if its state is 0; in a well-formed table it is then all 00
 abbrev pub isFree : List ℕ → Bool
 isFree r = eqb (getD r stateAt 0) 0
 

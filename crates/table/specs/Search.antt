@@ -1,5 +1,5 @@
--- Where a call's record is, the lowest free one, and how many are free. Cited by the contracts of `src/searching.rt`.
--- Assumes nothing.
+-- Where a call's record is, the lowest free one, and how many are free. Cited by the contracts of `src/searching.rt`;
+-- how many are free is for the laws of the stores. Assumes nothing.
 use Prim.Native.Nat.{ℕ, zero, suc, _+_}
 use Rattle.table.specs.Image.{size, recordAt}
 use Rattle.table.specs.Record.{isFree, isNamed}

@@ -1,5 +1,5 @@
 -- Well-formed (01 The table image, second paragraph): one record by itself, then the whole. Cited by the contracts of
--- `src/soundness.rt` and `src/marks.rt`. Assumes nothing.
+-- `src/soundness.rt`, `src/marks.rt` and `src/texts.rt`. Assumes nothing.
 use Prim.Native.Nat.{ℕ, _+_, _*_}
 use Rattle.octets.specs.Class.{among, all}
 use Rattle.octets.specs.Text.{same}

@@ -5,12 +5,22 @@ use crate::layout::RECORD_SIZE;
 use crate::texts::clear;
 ghost use mathlib.Core.Path.{_≡_};
 ghost use Prim.Native.Nat.{_<_};
-ghost use Rattle.table.specs.Blank.{blankAfter, blankAnswer};
+ghost use Rattle.table.specs.Blank.{blankAfter, blankAnswer, madeNumber};
 ghost use Rattle.table.specs.Image.{headerOf};
 
 pub enum Made {
     Done,
     Refused,
+}
+
+// The paper's number, 0 where it is done.
+pub fn made_number(m: Made) -> u8
+    ensures { λ n. ⌜ n ≡ madeNumber m ⌝ }
+{
+    match m {
+        Made::Done => 0,
+        Made::Refused => 1,
+    }
 }
 
 // The header of a table of so many records.

@@ -12,6 +12,7 @@ mod texts;
 
 pub use blanking::Made;
 pub use blanking::blank;
+pub use blanking::made_number;
 pub use numbers::Fields;
 pub use records::fields_at;
 pub use records::open;

@@ -1,0 +1,20 @@
+-- Both sides of the mark (01), proved together. Assumes nothing.
+use Rattle.call.specs.Rule.{held, request}
+use Rattle.exchange.specs.Marks.{Every, marks}
+use Rattle.json.specs.Machine.{from, walk, step, isWs, begin, opens, point, expo, ends}
+use Rattle.message.specs.Reading.{reading}
+use Rattle.message.specs.declared.reading.Reading.the-variants.{Refused}
+use Rattle.octets.specs.Ascii.{ascii}
+use Rattle.octets.specs.Class.{among}
+use Rattle.rules.proofs.Marks.{call-ids, sequences, dates}
+use Rattle.utf8.specs.Rfc3629.{octets, charAt, begins, goesOn}
+use mathlib.Core.Path.{_≡_, refl}
+
+number : reading (ascii "[01]") ≡ Refused 4 2
+unfolding reading octets charAt begins among goesOn from walk step isWs begin opens point expo ends
+number = refl
+
+pub both-sides : Every marks
+unfolding Every held request
+both-sides =
+    (call-ids .0, (call-ids .1, (sequences .0, (sequences .1 .0, (sequences .1 .1, (dates .0, (dates .1, (number, (refl, (refl, (refl, (refl, tt))))))))))))

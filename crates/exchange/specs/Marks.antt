@@ -1,0 +1,79 @@
+-- 'Both sides of the mark' (01), as one list over the definitions that the public contracts cite: those of the rules, of the reading and of
+-- the rule of one call. Assumes nothing.
+use Prim.Native.Nat.{ℕ}
+use Rattle.call.specs.Rule.{decided}
+use Rattle.call.specs.declared.answers.Answer.the-variants as answers
+use Rattle.call.specs.declared.answers.Answer.{Answer}
+use Rattle.call.specs.declared.answers.Reason.the-variants.{TooLate}
+use Rattle.call.specs.declared.answers.Refusal.the-variants.{Call as Ruled}
+use Rattle.call.specs.declared.answers.Shown.the-variants.{In}
+use Rattle.call.specs.declared.answers.State.the-variants.{Calling, Ended}
+use Rattle.call.specs.declared.answers.State.{State}
+use Rattle.call.specs.declared.answers.Waiting.the-variants.{CallbackRequester}
+use Rattle.call.specs.declared.answers.Word.the-variants.{Pass, Timeout, None}
+use Rattle.call.specs.declared.events.Event.the-variants.{Asks, Tick}
+use Rattle.call.specs.declared.events.Event.{Event}
+use Rattle.call.specs.declared.events.Method.the-variants.{Callback}
+use Rattle.call.specs.declared.events.Side.the-variants.{Callee}
+use Rattle.call.specs.declared.records.Call.{Call}
+use Rattle.call.specs.declared.records.Held.the-variants.{Is}
+use Rattle.message.specs.Reading.{reading}
+use Rattle.message.specs.declared.reading.Reading.the-variants as readings
+use Rattle.message.specs.declared.reading.Reading.{Reading}
+use Rattle.octets.specs.Ascii.{ascii}
+use Rattle.rules.specs.Date.{dateRule}
+use Rattle.rules.specs.Sequence.{sequenceRule}
+use Rattle.rules.specs.Texts.{callIdRule}
+use mathlib.Core.Bool.{Bool, true, false}
+use mathlib.Core.List.{List, [], _∷_}
+use mathlib.Core.Path.{_≡_}
+
+-- what a definition gives, and what the paper says: of a text and its rule, of a reading, of an event
+pub data Mark : Type 0 where
+  keeps : Bool → Bool → Mark
+  reads : Reading → Reading → Mark
+  answers-to : Answer → Answer → Mark
+
+abbrev pub Holds : Mark → Type 0
+Holds (keeps a b) = a ≡ b
+Holds (reads a b) = a ≡ b
+Holds (answers-to a b) = a ≡ b
+
+unfoldable pub Every : List Mark → Type 0
+Every [] = Unit
+Every (m ∷ ms) = Holds m × Every ms
+
+-- a call that entered a state at a time, and was not heard of since
+abbrev pub entered : State → ℕ → Call
+entered s at =
+    record {
+      state = s;
+      secure = false;
+      invite = 1;
+      caller = record { number = 1; method = 1 };
+      callee = record { number = 0; method = 0 };
+      last = at;
+      entry = at;
+      chat = at;
+    }
+
+-- a CALLBACK of the call's own parties
+abbrev pub callback : Event
+callback = Asks (record { method = Callback; number = 1; from = Callee; secure = false }) true
+
+-- the paper's list, in its order
+abbrev pub marks : List Mark
+marks =
+    keeps (callIdRule (ascii "A1")) true
+    ∷ keeps (callIdRule (ascii "A.")) false
+    ∷ keeps (sequenceRule (ascii "4294967295 BYE")) true
+    ∷ keeps (sequenceRule (ascii "4294967296 BYE")) false
+    ∷ keeps (sequenceRule (ascii "01 BYE")) false
+    ∷ keeps (dateRule (ascii "2000-02-29T12:00:00+0900")) true
+    ∷ keeps (dateRule (ascii "1900-02-29T12:00:00+0900")) false
+    ∷ reads (reading (ascii "[01]")) (readings.Refused 4 2)
+    ∷ answers-to (decided (Is (entered Calling 1000)) Tick 15999 .answer) (answers.Accepted None (In Calling))
+    ∷ answers-to (decided (Is (entered Calling 1000)) Tick 16000 .answer) (answers.Accepted Timeout (In Ended))
+    ∷ answers-to (decided (Is (entered Ended 0)) callback 3600000 .answer) (answers.Accepted Pass (In Ended))
+    ∷ answers-to (decided (Is (entered Ended 0)) callback 3600001 .answer) (answers.Refused (Ruled TooLate CallbackRequester))
+    ∷ []

@@ -1,0 +1,4 @@
+pub mod FactLaws
+pub mod KeepingLaws
+pub mod StepLaws
+pub mod Determined
