@@ -1,0 +1,32 @@
+-- Document 01's example, the BYE and its 200, computed from the definitions (01 Writing). Assumes nothing.
+use Rattle.json.specs.Machine.{isWs, opens, begin, ends, step, stops, walk, from}
+use Rattle.json.specs.Places.{part, spaces, past, isOpen, isShut, left, size, behind, closing, raw, next, valueOf, follows, more, memberAt, membersFrom, members, elementsFrom, elements}
+use Rattle.message.specs.Checks.{lacks, breaks, lowest, checked}
+use Rattle.message.specs.Field.{addressRule, textRule, byKind, keeps}
+use Rattle.message.specs.Known.{numberAt, has, note, noted, repeated}
+use Rattle.message.specs.Message.{textAt, numberOf, methodOf, fromCaller, toCaller, settingOf, sameSide, wrongSide, wrongNumber, sidesDisagree, requestDisagrees, disagrees, messageOf}
+use Rattle.message.specs.Reading.{agreed, settled, judged, known, shaped, reading}
+use Rattle.message.specs.Shape.{tagAt, tagOf, objectOf}
+use Rattle.message.specs.Value.{isString, isArray, textOf, freely, ruled}
+use Rattle.message.specs.Via.{hopPlaces, hopRule, hopKeeps, isHop, viaRule}
+use Rattle.octets.specs.Ascii.{ascii}
+use Rattle.octets.specs.Class.{among, isDigit, isLower, isUpper, isLetter, isAlnum, all}
+use Rattle.octets.specs.Text.{same, standsAt}
+use Rattle.rules.specs.Address.{callerRule, calleeRule, userEnd, callerEnd, calleeEnd, addressOf}
+use Rattle.rules.specs.Classes.{holds}
+use Rattle.rules.specs.Date.{leap, daysIn, dateRule}
+use Rattle.rules.specs.Fields.{isIn, tagAsks, methodAsks}
+use Rattle.rules.specs.Pieces as pieces
+use Rattle.rules.specs.Pieces.{span, digits, value, placeFrom, within, reads}
+use Rattle.rules.specs.Sequence as sequence
+use Rattle.rules.specs.Sequence.{sequenceRule, numberEnd, sequenceOf}
+use Rattle.rules.specs.Status.{indexIn, listed, statusText}
+use Rattle.rules.specs.Texts.{callIdRule, hostRule, destinationRule, organizationRule, unescaped}
+use Rattle.utf8.specs.Rfc3629.{begins, goesOn, charAt, octets}
+use Rattle.writing.specs.Outcome.{write}
+use Rattle.writing.specs.Reply.{replyText, replyOf, unanswered, wrongCode, replyTo, replying}
+use mathlib.Core.Path.{_≡_, refl}
+
+pub example : replying (ascii "[\"request\",{\"CSeq\":\"7 BYE\",\"To\":\"net119:u1@nishi.caller\",\"From\":\"net119:fire@kita.callee\",\"Call-ID\":\"A1.nx\",\"Date\":\"2024-02-29T23:59:59+0900\",\"Via\":[{\"host\":\"h1.nx\",\"destination\":\"kita.callee\",\"organization\":\"nx\"}]}]") 200 (ascii "2024-03-01T00:00:00+0900") ≡ write (ascii "[\"response\",{\"Status\":\"200 OK\",\"CSeq\":\"7 BYE\",\"To\":\"net119:u1@nishi.caller\",\"From\":\"net119:fire@kita.callee\",\"Call-ID\":\"A1.nx\",\"Date\":\"2024-03-01T00:00:00+0900\",\"Via\":[{\"host\":\"h1.nx\",\"destination\":\"kita.callee\",\"organization\":\"nx\"}]}]")
+unfolding among isDigit isLower isUpper isLetter isAlnum all same standsAt begins goesOn charAt octets isWs opens begin ends step stops walk from part spaces past isOpen isShut left size behind closing raw next valueOf follows more memberAt membersFrom members elementsFrom elements sequenceRule numberEnd sequenceOf span digits value placeFrom within reads leap daysIn dateRule callerRule calleeRule userEnd callerEnd calleeEnd addressOf indexIn listed statusText callIdRule hostRule destinationRule organizationRule unescaped holds isIn tagAsks methodAsks textAt numberOf methodOf fromCaller toCaller settingOf sameSide wrongSide wrongNumber sidesDisagree requestDisagrees disagrees messageOf agreed settled judged known shaped reading lacks breaks lowest checked isString isArray textOf freely ruled tagAt tagOf objectOf addressRule textRule byKind keeps hopPlaces hopRule hopKeeps isHop viaRule numberAt has note noted repeated replyText replyOf unanswered wrongCode replyTo replying pieces.behind pieces.keeps sequence.numberOf sequence.methodOf
+example = refl

@@ -1,0 +1,17 @@
+// Writing (document 01): the reply to a request, our Via entry added to a request or taken off a response, and the next host.
+// Proved: answer and output are what specs/ says, byte for byte; what is written is read back; taking our entry off undoes adding it.
+// A caller may hand over any bytes and any room: on a refusal the output is as it was, and bytes past the result always stay.
+mod answers;
+mod edits;
+mod putting;
+mod replies;
+mod routes;
+
+pub use answers::Refusal;
+pub use answers::Removed;
+pub use answers::Written;
+pub use answers::number;
+pub use edits::add;
+pub use edits::next_hop;
+pub use edits::remove;
+pub use replies::reply;
