@@ -1,0 +1,110 @@
+// The library for C (libnet119.a, include/net119.h): the public entries of the crates below, with flat answers.
+// Proved: each function answers what the entry behind it answers, and leaves in each lent buffer what that leaves.
+// A caller may hand over any bytes; what it must hold to about its pointers is in the header.
+mod flat;
+
+use flat::EventAnswer;
+use flat::ReadAnswer;
+use flat::RemoveAnswer;
+use flat::WriteAnswer;
+use flat::flat_answer;
+use flat::flat_reading;
+use flat::flat_removed;
+use flat::flat_written;
+ghost use mathlib.Core.Path.{_≡_};
+ghost use lib.ListN.{length};
+ghost use Rattle.keeper.specs.Keeping.{onMessage, onTick};
+ghost use Rattle.message.specs.Reading.{reading};
+ghost use Rattle.net119.specs.Flat.{flatAnswer, flatReading, flatRemoved, flatWritten};
+ghost use Rattle.table.specs.Blank.{blankAfter, blankAnswer, madeNumber};
+ghost use Rattle.table.specs.WellFormed.{wellFormed};
+ghost use Rattle.writing.specs.Adding.{adding};
+ghost use Rattle.writing.specs.Outcome.{answered, left};
+ghost use Rattle.writing.specs.Removing.{removing, shown, viaIn};
+ghost use Rattle.writing.specs.Reply.{replying};
+
+// Reads a message.
+#[no_mangle]
+pub extern "C" fn net119_read(message: &[u8]) -> ReadAnswer
+    ensures { λ r. ⌜ r ≡ flatReading (reading (now (message .entry))) ⌝ }
+{
+    flat_reading(message::read(message))
+}
+
+// Makes a blank table of so many records: 0, or 1 where count or length is wrong.
+#[no_mangle]
+pub extern "C" fn net119_blank(table: &mut [u8], count: usize) -> u8
+    ensures { λ r. ⌜ (r ≡ madeNumber (blankAnswer (now (table .entry)) count)) × (now (table .exit) ≡ blankAfter (now (table .entry)) count) ⌝ }
+{
+    table::made_number(table::blank(table, count))
+}
+
+// Whether a table is well-formed.
+#[no_mangle]
+pub extern "C" fn net119_well_formed(table: &[u8]) -> bool
+    ensures { λ r. ⌜ r ≡ wellFormed (now (table .entry)) ⌝ }
+{
+    table::well_formed(table)
+}
+
+// A message at a time, on a table.
+#[no_mangle]
+pub extern "C" fn net119_message(table: &mut [u8], time: u64, message: &[u8]) -> EventAnswer
+    ensures { λ r. ⌜ (r ≡ flatAnswer (onMessage (now (table .entry)) time (now (message .entry)) .answer))
+        × (now (table .exit) ≡ onMessage (now (table .entry)) time (now (message .entry)) .table) ⌝ }
+{
+    flat_answer(keeper::message(table, time, message))
+}
+
+// A tick for a Call-ID at a time, on a table.
+#[no_mangle]
+pub extern "C" fn net119_tick(table: &mut [u8], time: u64, call_id: &[u8]) -> EventAnswer
+    ensures { λ r. ⌜ (r ≡ flatAnswer (onTick (now (table .entry)) time (now («call_id» .entry)) .answer))
+        × (now (table .exit) ≡ onTick (now (table .entry)) time (now («call_id» .entry)) .table) ⌝ }
+{
+    flat_answer(keeper::tick(table, time, call_id))
+}
+
+// Writes the reply to a request.
+#[no_mangle]
+pub extern "C" fn net119_reply(
+    out: &mut [u8],
+    message: &[u8],
+    code: u16,
+    date: &[u8],
+) -> WriteAnswer
+    ensures { λ r. ⌜ (r ≡ flatWritten (answered (length (now (out .entry))) (replying (now (message .entry)) code (now (date .entry)))))
+        × (now (out .exit) ≡ left (now (out .entry)) (replying (now (message .entry)) code (now (date .entry)))) ⌝ }
+{
+    flat_written(writing::reply(out, message, code, date))
+}
+
+// Writes a request with our Via entry added.
+#[no_mangle]
+pub extern "C" fn net119_add(
+    out: &mut [u8],
+    message: &[u8],
+    host: &[u8],
+    destination: &[u8],
+    organization: &[u8],
+) -> WriteAnswer
+    ensures { λ r. ⌜ (r ≡ flatWritten (answered (length (now (out .entry))) (adding (now (message .entry)) (now (host .entry)) (now (destination .entry)) (now (organization .entry)))))
+        × (now (out .exit) ≡ left (now (out .entry)) (adding (now (message .entry)) (now (host .entry)) (now (destination .entry)) (now (organization .entry)))) ⌝ }
+{
+    flat_written(writing::add(out, message, host, destination, organization))
+}
+
+// Writes a response with our Via entry taken off; where the next host stands in the message.
+#[no_mangle]
+pub extern "C" fn net119_remove(
+    out: &mut [u8],
+    message: &[u8],
+    host: &[u8],
+    destination: &[u8],
+    organization: &[u8],
+) -> RemoveAnswer
+    ensures { λ r. ⌜ (r ≡ flatRemoved (shown (now (message .entry)) (viaIn (reading (now (message .entry)))) (answered (length (now (out .entry))) (removing (now (message .entry)) (now (host .entry)) (now (destination .entry)) (now (organization .entry))))))
+        × (now (out .exit) ≡ left (now (out .entry)) (removing (now (message .entry)) (now (host .entry)) (now (destination .entry)) (now (organization .entry)))) ⌝ }
+{
+    flat_removed(writing::remove(out, message, host, destination, organization))
+}
