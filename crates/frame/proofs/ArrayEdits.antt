@@ -10,7 +10,8 @@ use lib.ListN.{length, take, drop, length-append}
 use lib.Seq.{drop-append-seam, take-append-seam, drop-append-add}
 use Rattle.json.specs.Places.{behind, elements, bytes}
 use Rattle.json.proofs.Listing.{Blank, Item, item, items, Good, Goods, values, stopsAt, array-read, array-stops}
-use Rattle.frame.specs.Edit.{lastOf, prevOf, stopsOf, added, removed}
+use Rattle.frame.specs.Edit.{added, removed}
+use Rattle.json.specs.Ends.{lastOf, prevOf, stopsOf}
 use Rattle.frame.proofs.Standing.{Val, Piece, piece-val}
 use Rattle.frame.proofs.Written.{items-append}
 

@@ -1,25 +1,9 @@
 -- The edits of an array in a text, as byte edits at the ends of its elements: what the laws of proofs/ArrayEdits.antt and proofs/Forwarding.antt speak
 -- of, for the writer (01 Writing: our Via entry). Assumes nothing.
 use Prim.Native.Nat.{ℕ}
-use mathlib.Core.List.{List, [], _∷_, _++_, map}
+use mathlib.Core.List.{List, _∷_, _++_}
 use lib.ListN.{take, drop}
-use Rattle.json.specs.Places.{behind, elements}
-
--- the last of these numbers, and the last but one; 0 if there is none
-unfoldable pub lastOf : List ℕ → ℕ
-lastOf [] = 0
-lastOf (x ∷ []) = x
-lastOf (x ∷ (y ∷ ys)) = lastOf (y ∷ ys)
-
-unfoldable pub prevOf : List ℕ → ℕ
-prevOf [] = 0
-prevOf (x ∷ []) = 0
-prevOf (x ∷ (y ∷ [])) = x
-prevOf (x ∷ (y ∷ (z ∷ zs))) = prevOf (y ∷ (z ∷ zs))
-
--- where the elements of the array at o end
-unfoldable pub stopsOf : List ℕ → ℕ → List ℕ
-stopsOf s o = map (behind s) (elements s o)
+use Rattle.json.specs.Ends.{lastOf, prevOf, stopsOf}
 
 -- s with x added right behind the last element of the array at o
 unfoldable pub added : List ℕ → ℕ → List ℕ → List ℕ

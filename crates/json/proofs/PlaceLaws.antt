@@ -8,7 +8,7 @@ use native.Mathlib.Omega.{arith}
 use lib.ListN.{length, take, drop, getD, drop-of-length-le, length-drop}
 use lib.Seq.{drop-cons, drop-drop, take-nil, take-all}
 use lib.Dec.{eqb, leb, ltb}
-use borrow.Author.Tests.{eq-eqb, ne-eqb, lt-ltb, le-ltb, ltb-true, eqb-false}
+use borrow.Author.Tests.{eq-eqb, ne-eqb, lt-ltb, le-ltb, eqb-false}
 use Rattle.json.specs.Machine.{isWs, isPlain}
 use Rattle.json.specs.Places.{pickN, part, spaces, past, isOpen, isShut, isMark, Inside, outside, quoted, escaped, turn, depth, left, unmarked, size, behind, closing, raw, next, valueOf, follows, Found}
 
@@ -66,17 +66,13 @@ module _ (s : List ℕ) (a : ℕ) where
   unfolding behind
   behind-inner h = omega (arith, size-fit (drop a s), length-drop a s)
 
-  next-by : (t : Bool) → ltb a (length s) ≡ t → (a ≤ length s → pickN t (a + 1) a ≤ length s) × (a ≤ pickN t (a + 1) a)
-  next-by true e = let h = ltb-true a (length s) e in (λ g. omega arith, omega arith)
-  next-by false e = (λ g. g, omega arith)
+  next-by : (t : Bool) → a ≤ pickN t (a + 1) a
+  next-by true = omega arith
+  next-by false = omega arith
 
   pub next-low : a ≤ next s a
   unfolding next
-  next-low = next-by (ltb a (length s)) refl .1
-
-  pub next-inner : a ≤ length s → next s a ≤ length s
-  unfolding next
-  next-inner = next-by (ltb a (length s)) refl .0
+  next-low = next-by (ltb a (length s))
 
   pub next-is : a < length s → next s a ≡ a + 1
   unfolding next

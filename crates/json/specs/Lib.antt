@@ -6,3 +6,4 @@ pub mod Runs
 pub mod Places
 pub mod Derived
 pub mod Passing
+pub mod Ends

@@ -1,6 +1,6 @@
 -- The steps of the splitter: what is kept of a line, and each answer of `next_line`. Assumes nothing.
 use Prim.Native.Nat.{ℕ, _+_, _-_, _≤_, _<_}
-use Rattle.lines.proofs.LineLaws.{before-within}
+use Rattle.octets.proofs.TextLaws.{before-within}
 use Rattle.lines.specs.Input.{bufferAfter, kept, lineEnd, nextOf, part}
 use Rattle.lines.specs.declared.splitting.Next.the-variants.{Held, Here, Pending}
 use Rattle.octets.proofs.TextLaws.{before-more}

@@ -4,7 +4,7 @@ use Rattle.lines.specs.Program.{lineOf, long, pickLine, said, saidBy, ti
 use Rattle.lines.specs.declared.reading.Line.the-variants.{Bad, Long, Message, Tick}
 use Rattle.lines.specs.declared.reading.Line.{Line}
 use Rattle.octets.proofs.DecimalLaws.{long as too-many}
-use Rattle.octets.proofs.TextLaws.{same-eq}
+use Rattle.octets.proofs.TextLaws.{before-within, same-eq}
 use Rattle.octets.specs.Ascii.{ascii}
 use Rattle.octets.specs.Decimal.{decimalIn}
 use Rattle.octets.specs.Text.{before, standsAt}
@@ -21,15 +21,6 @@ use native.Mathlib.Decide.{decLe, decLt}
 use native.Mathlib.Omega.{arith}
 
 -- Finding a byte among the first n.
-
-pub before-within : (b : ℕ) (s : List ℕ) → before b s ≤ length s
-unfolding before
-before-within b [] = omega arith
-before-within b (x ∷ s) = go (eqb x b) refl (before-within b s)
-  where
-    go : (t : Bool) → eqb x b ≡ t → before b s ≤ length s → before b (x ∷ s) ≤ length (x ∷ s)
-    go true e h = rw e (omega arith)
-    go false e h = rw e (omega arith)
 
 before-short : (b n : ℕ) (s : List ℕ) → before b s < n → before b (take n s) ≡ before b s
 unfolding before

@@ -1,4 +1,4 @@
--- Two parts written one behind the other are one, and what is answered where there is room and where there is not. Assumes nothing.
+-- What was written stands there, and what is answered where there is room and where there is not. Assumes nothing.
 use Prim.Native.Nat.{ℕ, _+_, _≤_, _<_}
 use Rattle.call.specs.declared.answers.Word.the-variants.{Pass, Repeat, Bye, Timeout, Idle, Freed, None}
 use Rattle.call.specs.declared.answers.Word.{Word}
@@ -6,18 +6,11 @@ use Rattle.lines.specs.Program.{afterWriting, spelling, wroteAt}
 use Rattle.lines.specs.declared.answering.Wrote.the-variants.{End, NoRoom}
 use Rattle.octets.specs.Splice.{splice, written}
 use borrow.Author.Tests.{le-leb, lt-leb}
-use lib.ListN.{drop, length, length-append, take}
-use lib.Seq.{drop-append-add, drop-drop, length-take-le, take-append-seam}
-use mathlib.Core.List.{List, _++_, append-assoc}
-use mathlib.Core.Path.{_≡_, _∙_}
+use lib.ListN.{drop, length, take}
+use lib.Seq.{take-append-seam}
+use mathlib.Core.List.{List}
+use mathlib.Core.Path.{_≡_}
 use native.Mathlib.Omega.{arith}
-
-pub splice-two : (o : List ℕ) (at : ℕ) (a b : List ℕ) → at + length a ≤ length o → splice (splice o at a) (at + length a) b ≡ splice o at (a ++ b)
-unfolding splice
-splice-two o at a b h =
-    let l : length (take at o ++ a) ≡ at + length a = length-append (take at o) a ∙ rw (length-take-le at o (omega arith)) in
-    let k : at + length a + length b ≡ at + (length a + length b) = omega arith in
-    rw (← append-assoc (take at o) a (drop (at + length a) o), ← l, take-append-seam, drop-append-add, l, drop-drop, length-append, k) (simp append-assoc)
 
 -- what was written at the front stands there
 pub front-written : (o w : List ℕ) {t : List ℕ} {n : ℕ} → t ≡ written o w → n ≡ length w → take n t ≡ w

@@ -39,11 +39,11 @@ linesOf s = ended [] s ++ last (unended [] s)
 abbrev pub kept : List ℕ → List ℕ → List ℕ
 kept o l = take (length o) l
 
--- where the line that goes on at from ends: at the next line feed, or behind the piece
+-- where the line ends that goes on at this place of the piece: at the next line feed, or behind the piece
 abbrev pub lineEnd : List ℕ → ℕ → ℕ
 lineEnd s from = from + before 10 (drop from s)
 
--- the line goes on with what stands in the piece from from on, up to its end
+-- what stands in the piece from this place on, up to the line's end
 abbrev pub part : List ℕ → ℕ → List ℕ
 part s from = take (before 10 (drop from s)) (drop from s)
 

@@ -10,7 +10,8 @@ use Rattle.message.proofs.TextLaws.{whole-cut, span-cut}
 use Rattle.message.specs.Checks.{asks, lacks, breaks, lowest, missing, broken, brokenPlace, judge, checked}
 use Rattle.message.specs.Field.{addressRule, textRule, statusField, byKind, keeps}
 use Rattle.message.specs.Known.{empty, noted, repeated}
-use Rattle.message.specs.Message.{textAt, numberIn, methodIn, callerIn, codeIn, numberOf, methodOf, fromCaller, toCaller, codeOf, settingOf, sameSide, wrongSide, wrongNumber, sidesDisagree, requestDisagrees, responseDisagrees, disagrees, userSpan, callerSpan, calleeSpan, callerAt, calleeAt, messageOf, probeOf}
+use Rattle.message.specs.Message.{numberIn, methodIn, callerIn, codeIn, numberOf, methodOf, fromCaller, toCaller, codeOf, settingOf, sameSide, wrongSide, wrongNumber, sidesDisagree, requestDisagrees, responseDisagrees, disagrees, userSpan, callerSpan, calleeSpan, callerAt, calleeAt, messageOf, probeOf}
+use Rattle.message.specs.Spans.{textAt}
 use Rattle.message.specs.Parties.{cut, callIdOf, userOf, callerFireOf, calleeFireOf}
 use Rattle.message.specs.Reading.{choose, unless, agreed, settled, judged, known, shaped, onJson, onUtf8, reading}
 use Rattle.message.specs.Shape.{pair, tagAt, tagOf, objectOf}

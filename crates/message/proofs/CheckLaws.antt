@@ -3,41 +3,47 @@ use Prim.Native.Nat.{ℕ, suc, _+_, _-_, _≤_, _<_}
 use Rattle.json.specs.Places.{bytes}
 use Rattle.message.specs.Checks.{asks, lacks, breaks, lowest, missing, broken, checked}
 use Rattle.message.specs.Field.{keeps}
+use Rattle.message.specs.Via.{viaRule}
 use Rattle.message.specs.declared.checking.Check.the-variants.{Good, Fault}
 use Rattle.message.specs.declared.fields.Setting.{Setting}
-use borrow.Author.Tests.{eq-eqb, ne-eqb, lt-ltb, le-ltb}
+use borrow.Author.Tests.{ne-eqb, lt-ltb, le-ltb}
 use lib.Dec.{eqb, ltb}
 use lib.ListN.{getD}
-use mathlib.Core.Bool.{Bool, true, false, not}
+use mathlib.Core.Bool.{Bool, true, false, not, _&&_}
 use mathlib.Core.List.{List}
-use mathlib.Core.Path.{_≡_, sym, _∙_}
+use mathlib.Core.Path.{_≡_, refl, _∙_}
 use native.Mathlib.Omega.{arith}
 
-module _ (run : Bool) (k : Setting) (t : List ℕ) (n : ℕ) {a : ℕ} (is : a ≡ asks run k n) where
-  pub required : a ≡ 1 → eqb (getD t n 0) 0 ≡ lacks run k t n
+and-none : (b : Bool) → false ≡ (b && false)
+and-none true = refl
+and-none false = refl
+
+and-all : (b : Bool) → b ≡ (b && true)
+and-all true = refl
+and-all false = refl
+
+module _ (run : Bool) (k : Setting) (t : List ℕ) (n : ℕ) where
+  pub not-lacking : (getD t n 0 ≡ 0 → ⊥) → false ≡ lacks run k t n
   unfolding lacks
-  required e = rw (eq-eqb (asks run k n) 1 (sym is ∙ e))
+  not-lacking e = rw (ne-eqb (getD t n 0) 0 e) (and-none (eqb (asks run k n) 1))
 
-  pub not-required : (a ≡ 1 → ⊥) → false ≡ lacks run k t n
-  unfolding lacks
-  not-required e = rw (ne-eqb (asks run k n) 1 (λ f. e (is ∙ f)))
+  pub absent : (s : List ℕ) → getD t n 0 ≡ 0 → false ≡ breaks s run k t n
+  unfolding breaks
+  absent s e = rw e (and-none (ltb 0 (asks run k n)))
 
-  module _ (s : List ℕ) where
-    pub unlisted : a ≡ 0 → false ≡ breaks s run k t n
-    unfolding breaks
-    unlisted e = rw (le-ltb 0 (asks run k n) (omega arith))
+  module _ {a : ℕ} (is : a ≡ asks run k n) where
+    pub lacking-if : getD t n 0 ≡ 0 → eqb a 1 ≡ lacks run k t n
+    unfolding lacks
+    lacking-if e = rw (is, e) (and-all (eqb (asks run k n) 1))
 
-    module _ (listed : a ≡ 0 → ⊥) where
-      some : ltb 0 (asks run k n) ≡ true
-      some = lt-ltb 0 (asks run k n) (omega arith)
-
-      pub absent : getD t n 0 ≡ 0 → false ≡ breaks s run k t n
+    module _ (s : List ℕ) where
+      pub unlisted : a ≡ 0 → false ≡ breaks s run k t n
       unfolding breaks
-      absent e = rw (some, le-ltb 0 (getD t n 0) (omega arith))
+      unlisted e = rw (le-ltb 0 (asks run k n) (omega arith))
 
-      pub present : {x : List ℕ} {r : Bool} → (getD t n 0 ≡ 0 → ⊥) → x ≡ bytes s (getD t n 0) → r ≡ keeps k n x → not r ≡ breaks s run k t n
+      pub present : {x : List ℕ} {r : Bool} → (a ≡ 0 → ⊥) → (getD t n 0 ≡ 0 → ⊥) → x ≡ bytes s (getD t n 0) → r ≡ keeps k n x → not r ≡ breaks s run k t n
       unfolding breaks
-      present {x} {r} e f g = rw (some, lt-ltb 0 (getD t n 0) (omega arith), ← f, ← g)
+      present {x} {r} some e f g = rw (lt-ltb 0 (asks run k n) (omega arith), lt-ltb 0 (getD t n 0) (omega arith), ← f, ← g)
 
 -- The lowest of the numbers from n to 26.
 
@@ -72,3 +78,7 @@ module _ (s : List ℕ) (run : Bool) (k : Setting) (t : List ℕ) {m : ℕ} (is 
     pub all-good : b ≡ 0 → Good ≡ checked s run k t
     unfolding checked
     all-good e = rw (← is, ← is-broken, le-ltb 0 m (omega arith), le-ltb 0 b (omega arith))
+
+-- what is said of Via at its place is said of the value found for field 6
+pub via-at : (s t : List ℕ) {via : Bool} {x : List ℕ} {n : ℕ} → via ≡ viaRule (bytes s (getD t 6 0)) → x ≡ bytes s (getD t n 0) → n ≡ 6 → via ≡ viaRule x
+via-at s t e f g = e ∙ rw (f, g)

@@ -1,10 +1,13 @@
 -- What is read of a message: the bounds of a method's code, and row 10 as the code goes through it. Assumes nothing.
 use Prim.Native.Nat.{ℕ, _+_, _<_}
-use Rattle.json.specs.Places.{pickN}
+use Rattle.json.specs.Places.{pickN, bytes}
 use Rattle.message.proofs.GatherLaws.{from-few}
 use Rattle.message.proofs.TextLaws.{sorted-is}
-use Rattle.message.specs.Message.{methodIn, settingOf, callerIn, callbackTraining, requestDisagrees, responseDisagrees, sidesDisagree, disagrees, fromCaller, toCaller, Taken, textAt, secureOf, textSpan, PartiesOf, pickA, callerAt, calleeAt, messageOf}
+use Rattle.message.specs.Message.{methodIn, settingOf, callerIn, callbackTraining, requestDisagrees, responseDisagrees, sidesDisagree, disagrees, fromCaller, toCaller, Taken, secureOf, PartiesOf, pickA, callerAt, calleeAt, messageOf}
+use Rattle.message.specs.Route.{moved, routeIn}
+use Rattle.message.specs.Spans.{textAt, textSpan}
 use Rattle.message.specs.declared.facts.Message.{Message}
+use Rattle.message.specs.declared.facts.Route.{Route}
 use Rattle.message.specs.declared.facts.Span.{Span}
 use Rattle.message.specs.declared.fields.Setting.{Setting}
 use Rattle.rules.specs.Address.{addressOf}
@@ -63,11 +66,11 @@ module _ (s : List ℕ) (k : Setting) (t : List ℕ) {number code : ℕ} {from t
   row-ten a b c d e f g i = i ∙ rw (g, f, e, d, c, a, b, h .numbered, h .coded, h .sent, h .meant)
 
 -- The message by its parts.
-module _ (s : List ℕ) (k : Setting) (t : List ℕ) {number code : ℕ} {from to : Address} (h : Taken s k t number code from to) {caller secure : Bool} {callid u f g : Span} where
-  pub message-is : caller ≡ callerIn from → secure ≡ secureOf s k (getD t 17 0) → callid ≡ textSpan s (getD t 5 0) → PartiesOf (pickN (callerIn from) (getD t 3 0) (getD t 2 0)) (pickA (callerIn from) from to) (pickN (callerIn from) (getD t 2 0) (getD t 3 0)) (pickA (callerIn from) to from) u f g → _≡_ {A = Message} (record { tag = k .tag; method = k .method; number = number; status = code; caller = caller; secure = secure; cseq = getD t 1 0; to = getD t 2 0; from = getD t 3 0; call = getD t 5 0; via = getD t 6 0; callid = callid; user = u; callerfire = f; calleefire = g }) (messageOf s k t)
+module _ (s : List ℕ) (k : Setting) (t : List ℕ) {number code : ℕ} {from to : Address} (h : Taken s k t number code from to) {caller secure : Bool} {callid u f g : Span} {via route : Route} where
+  pub message-is : caller ≡ callerIn from → secure ≡ secureOf s k (getD t 17 0) → callid ≡ textSpan s (getD t 5 0) → PartiesOf (pickN (callerIn from) (getD t 3 0) (getD t 2 0)) (pickA (callerIn from) from to) (pickN (callerIn from) (getD t 2 0) (getD t 3 0)) (pickA (callerIn from) to from) u f g → via ≡ routeIn (bytes s (getD t 6 0)) → route ≡ moved (getD t 6 0) via → _≡_ {A = Message} (record { tag = k .tag; method = k .method; number = number; status = code; caller = caller; secure = secure; cseq = getD t 1 0; to = getD t 2 0; from = getD t 3 0; call = getD t 5 0; via = getD t 6 0; callid = callid; user = u; callerfire = f; calleefire = g; route = route }) (messageOf s k t)
   unfolding messageOf fromCaller callerAt calleeAt
-  message-is a b c p =
+  message-is a b c p q m =
       let v = getD t 3 0 in
       let w = getD t 2 0 in
       let x = callerIn (addressOf (textAt s v)) in
-      rw (a, b, c, p .users, p .callers, p .callees, h .numbered, h .coded, h .sent, h .meant, sorted-is s x v w, sorted-is s x w v)
+      rw (m, q, a, b, c, p .users, p .callers, p .callees, h .numbered, h .coded, h .sent, h .meant, sorted-is s x v w, sorted-is s x w v)

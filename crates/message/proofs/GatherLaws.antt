@@ -1,18 +1,19 @@
 -- The walk over the members of an object, one member at a time: what is gathered so far, and that the rest decides the rest.
 -- Assumes nothing.
 use Prim.Native.Nat.{ℕ, zero, suc, _+_, _-_, _≤_, _<_}
-use Rattle.json.specs.Places.{pickL, raw, past, valueOf, follows, more, memberAt, membersFrom, members}
-use Rattle.message.specs.Known.{numberAt, empty, has, note, noted, repeated, Gathered}
+use Rattle.json.specs.Places.{pickL, behind, raw, past, valueOf, follows, more, memberAt, membersFrom, members}
+use Rattle.message.specs.Known.{numberAt, empty, has, note, noted, repeated, Gathered, Ended}
 use Rattle.octets.specs.Text.{same}
 use Rattle.rules.specs.Names.{hopMembers}
 use Rattle.rules.specs.Pieces.{placeOf, placeFrom, pickN as pickNumber}
 use borrow.Author.Tests.{eq-eqb, ne-eqb}
 use lib.Dec.{eqb, ltb}
-use lib.ListN.{length, getD, set, List·getD-eq-default}
+use lib.ListN.{length, getD, set, replicate, length-set, List·getD-eq-default}
+use lib.Seq.{getD-set-same, getD-set-other}
 use mathlib.Core.Bool.{Bool, true, false, _&&_}
 use mathlib.Core.List.{List, [], _∷_}
 use mathlib.Core.Path.{_≡_, refl, sym, _∙_}
-use native.Mathlib.Decide.{decLt}
+use native.Mathlib.Decide.{decLt, ℕ-discrete}
 use native.Mathlib.Omega.{arith}
 
 -- The members from a place on.
@@ -89,6 +90,42 @@ pub number-is : (ns : List (List ℕ)) (s : List ℕ) (q : ℕ) {x : List ℕ} {
 unfolding numberAt
 number-is ns s q e f = f ∙ rw e
 
+-- The ends that are known.
+
+abbrev noughts : ℕ → List ℕ
+noughts k = replicate k 0
+
+nought-at : (k n : ℕ) → getD (noughts k) n 0 ≡ 0
+nought-at zero n = refl
+nought-at (suc k) zero = refl
+nought-at (suc k) (suc n) = nought-at k n
+
+-- none is
+pub ended-none : (s t : List ℕ) → Ended s t empty
+ended-none s t = record { ends = λ n h. absurd (omega (arith, nought-at 27 n)) }
+
+module _ {s t e : List ℕ} (f : Ended s t e) (lt : length t ≡ 27) (le : length e ≡ 27) (k v w : ℕ) (few : k < 27) (is : w ≡ behind s v) where
+  set-ended : Ended s (set t k v) (set e k w)
+  set-ended = record { ends = λ n h. by n h (ℕ-discrete n k) }
+    where
+      by : (n : ℕ) → 0 < getD (set e k w) n 0 → Dec (n ≡ k) → getD (set e k w) n 0 ≡ behind s (getD (set t k v) n 0)
+      by n h (yes q) =
+          let a : getD (set e k w) k 0 ≡ w = getD-set-same e k w 0 (omega arith) in
+          let b : getD (set t k v) k 0 ≡ v = getD-set-same t k v 0 (omega arith) in
+          rw (q, a, b) is
+      by n h (no q) =
+          let a : getD (set e k w) n 0 ≡ getD e n 0 = getD-set-other e k n w 0 q in
+          let b : getD (set t k v) n 0 ≡ getD t n 0 = getD-set-other t k n v 0 q in
+          rw (a, b) (f .ends n (omega arith))
+
+  pub note-ended : (b : Bool) → Ended s (pickL b t (set t k v)) (pickL b e (set e k w))
+  note-ended true = f
+  note-ended false = set-ended
+
+pub length-note : (b : Bool) (t : List ℕ) (k v : ℕ) → length t ≡ 27 → length (pickL b t (set t k v)) ≡ 27
+length-note true t k v h = h
+length-note false t k v h = length-set t k v ∙ h
+
 -- a byte that is not 0 stands inside the text
 pub there : (s : List ℕ) (i b : ℕ) → getD s i 0 ≡ suc b → i < length s
 there s i b e = by (decLt i (length s))
@@ -107,5 +144,5 @@ unfolding placeFrom
 from-few [] k x h = omega arith
 from-few (n ∷ ns) k x h = pick-few (same x n) k (placeFrom ns (k + 1) x) _ (omega arith) (let r = from-few ns (k + 1) x (omega arith) in omega arith)
 
-pub hop-few : (x : List ℕ) → placeOf hopMembers x < 27
+pub hop-few : (x : List ℕ) → placeOf hopMembers x < 4
 hop-few x = let r = from-few hopMembers 1 x (omega arith) in omega arith

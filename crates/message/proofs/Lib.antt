@@ -2,6 +2,7 @@ pub mod ValueLaws
 pub mod GatherLaws
 pub mod ElementLaws
 pub mod ViaLaws
+pub mod RouteLaws
 pub mod TextLaws
 pub mod FieldLaws
 pub mod CheckLaws

@@ -3,15 +3,16 @@
 use Prim.Native.Nat.{ℕ, zero, suc, _+_, _-_, _≤_, _<_}
 use Rattle.json.proofs.PlaceLaws.{part-none, size-fit}
 use Rattle.json.specs.Places.{pickN, part, isOpen, isMark, Inside, outside, quoted, escaped, turn, depth, left, unmarked, size, behind, bytes, closing, raw}
-use Rattle.message.specs.Message.{textAt, Held, spanIn, textSpan, pickA}
+use Rattle.message.specs.Message.{Held, pickA}
+use Rattle.message.specs.Spans.{textAt, spanIn, textSpan}
 use Rattle.message.specs.Parties.{cut}
 use Rattle.message.specs.Value.{textOf, Own}
 use Rattle.rules.proofs.PartLaws.{caller-address-parts, callee-address-parts}
 use Rattle.rules.specs.Address.{addressOf}
 use Rattle.rules.specs.declared.addresses.Address.the-variants.{Caller, Callee, Broken}
 use Rattle.rules.specs.declared.addresses.Address.{Address}
-use borrow.Author.Tests.{lt-ltb}
-use lib.Dec.{eqb}
+use borrow.Author.Tests.{lt-ltb, ltb-true}
+use lib.Dec.{eqb, ltb}
 use lib.ListN.{length, take, drop, length-drop}
 use lib.Seq.{take-take, drop-drop, length-take-le}
 use mathlib.Core.Bool.{Bool, true, false}
@@ -64,6 +65,9 @@ module _ (s : List ℕ) (v : ℕ) where
   long : length (take (size (drop v s)) (drop v s)) ≡ size (drop v s)
   long = length-take-le (size (drop v s)) (drop v s) (size-fit (drop v s))
 
+  pub bytes-short : length (bytes s v) ≤ length s - v
+  bytes-short = rw (bytes-are, long) (omega (arith, size-fit (drop v s), length-drop v s))
+
   -- the bytes of a value end with it
   pub own-bytes : Own (bytes s v)
   unfolding behind
@@ -113,6 +117,18 @@ module _ (s : List ℕ) (v : ℕ) where
       let c = size-fit (drop v s) in
       omega (arith, length-drop v s)
 
+  span-by : (t : Bool) → ltb v (length s) ≡ t → (textSpan s v .start ≤ length s) × (textSpan s v .end ≤ length s)
+  unfolding textSpan
+  span-by true e = rw e (omega (arith, ltb-true v (length s) e), end-by (decLt 0 (length (textAt s v))))
+    where
+      end-by : Dec (0 < length (textAt s v)) → v + 1 + length (textAt s v) ≤ length s
+      end-by (yes h) = omega (arith, text-inside h)
+      end-by (no h) = omega (arith, ltb-true v (length s) e)
+  span-by false e = rw e (omega arith, omega arith)
+
+  pub span-within : (textSpan s v .start ≤ length s) × (textSpan s v .end ≤ length s)
+  span-within = span-by (ltb v (length s)) refl
+
   pub text-part : textAt s v ≡ part s (v + 1) (v + 1 + length (textAt s v))
   unfolding part
   text-part =
@@ -129,9 +145,12 @@ module _ (s : List ℕ) (v : ℕ) where
       rw (z, text-take) (sym (sub-take i (j - i) (size (drop v s) - 1 - 1) (drop (v + 1) s) (omega arith) ∙ ap (take (j - i)) (drop-drop i (v + 1) s)))
 
   -- where the texts of a message stand, these stand
-  pub whole-cut : 0 < length (textAt s v) → cut s (textSpan s v) ≡ textAt s v
+  pub there-cut : v < length s → cut s (textSpan s v) ≡ textAt s v
   unfolding cut textSpan
-  whole-cut h = let i = text-inside h in rw (lt-ltb v (length s) (omega arith)) (sym text-part)
+  there-cut h = rw (lt-ltb v (length s) h) (sym text-part)
+
+  pub whole-cut : 0 < length (textAt s v) → cut s (textSpan s v) ≡ textAt s v
+  whole-cut h = there-cut (omega (arith, text-inside h))
 
   pub span-cut : (i j : ℕ) → i ≤ j → j ≤ length (textAt s v) → cut s (spanIn v i j) ≡ part (textAt s v) i j
   unfolding cut spanIn

@@ -3,6 +3,8 @@ use Prim.Native.Nat.{ℕ, suc, _+_, _≤_}
 use Rattle.json.specs.Places.{past, bytes, elements, elementsFrom}
 use Rattle.message.proofs.ElementLaws.{no-elements, some-elements}
 use Rattle.message.specs.Known.{Gathered}
+use Rattle.message.specs.Route.{hostSpan}
+use Rattle.message.specs.Spans.{textSpan}
 use Rattle.message.specs.Value.{isArray, ruled}
 use Rattle.message.specs.Via.{hopPlaces, hopRule, hopKeeps, isHop, viaRule}
 use Rattle.octets.proofs.ClassLaws.{in-among, among-high}
@@ -10,9 +12,9 @@ use Rattle.octets.specs.Class.{among, all}
 use Rattle.rules.specs.Names.{hopMembers}
 use borrow.Author.Tests.{eq-eqb, ne-eqb, lt-ltb, le-ltb}
 use lib.ListN.{length, getD}
-use mathlib.Core.Bool.{Bool, true, false, _&&_}
+use mathlib.Core.Bool.{Bool, true, false, _&&_, true≢false}
 use mathlib.Core.List.{List, [], _∷_}
-use mathlib.Core.Path.{_≡_, refl, ap, _∙_}
+use mathlib.Core.Path.{_≡_, refl, sym, ap, _∙_}
 use native.Mathlib.Omega.{arith}
 
 -- An object of Via.
@@ -30,6 +32,14 @@ module _ (v : List ℕ) (o : ℕ) where
     pub once-each : twice ≡ 0 → (hopKeeps v (getD at 1 0) 1 && (hopKeeps v (getD at 2 0) 2 && hopKeeps v (getD at 3 0) 3)) ≡ isHop v o
     unfolding isHop hopPlaces
     once-each z = rw (eq-eqb _ _ e, ← (g .first), eq-eqb _ _ z, ← (g .places z))
+
+    pub host-found : twice ≡ 0 → textSpan v (getD at 1 0) ≡ hostSpan v o
+    unfolding hostSpan hopPlaces
+    host-found z = rw (← (g .places z))
+
+-- where nothing is kept, nothing is said of the host
+pub none-kept : {X : Type 0} {b : Bool} → b ≡ false → b ≡ true → X
+none-kept e f = absurd (true≢false (sym f ∙ e))
 
 -- a value that is not there, and one that is
 pub not-there : (v : List ℕ) (p n : ℕ) → p ≡ 0 → false ≡ hopKeeps v p n

@@ -1,6 +1,6 @@
 -- One walk over a text of the usual shape: its beginning, one turn for each member, its end. The machine's answer is carried along from place to
 -- place, and beside it what is gathered so far. Assumes nothing.
-use Prim.Native.Nat.{ℕ, zero, suc, _+_, _-_, _≤_, _<_}
+use Prim.Native.Nat.{ℕ, _+_, _-_, _≤_, _<_}
 use Rattle.json.proofs.EndLaws.{ends-open}
 use Rattle.json.proofs.MoveLaws.{moves, alike, whole, from-alone}
 use Rattle.json.proofs.PassLaws.{past-same, past-ink}
@@ -10,7 +10,7 @@ use Rattle.json.specs.Machine.{Stack, alone, text, arr, obj, value, first, name
 use Rattle.json.specs.Passing.{PassedString, PassedMember}
 use Rattle.json.specs.Places.{pickL, past, behind, raw, part, valueOf, follows, more, membersFrom}
 use Rattle.json.specs.declared.Walked.the-variants.{End}
-use Rattle.message.proofs.GatherLaws.{Sofar, started, over, goes-on, one-more, comma, no-comma, has-is, note-is, number-is, there}
+use Rattle.message.proofs.GatherLaws.{Sofar, started, over, goes-on, one-more, comma, no-comma, has-is, note-is, number-is, ended-none, note-ended, length-note, there}
 use Rattle.message.proofs.ShapeLaws.{a-pair}
 use Rattle.message.specs.Known.{numberAt, empty, Ended}
 use Rattle.message.specs.Reading.{judged, known, shaped, onJson}
@@ -20,50 +20,12 @@ use Rattle.rules.specs.Names.{fields, tags}
 use Rattle.rules.specs.Pieces.{placeOf}
 use borrow.Author.Tests.{ne-eqb}
 use lib.Dec.{eqb, ltb}
-use lib.ListN.{length, getD, set, replicate, length-set}
-use lib.Seq.{getD-set-same, getD-set-other}
-use mathlib.Core.Bool.{Bool, true, false, _&&_}
+use lib.ListN.{length, getD, set}
+use mathlib.Core.Bool.{Bool, false, _&&_}
 use mathlib.Core.List.{List, []}
 use mathlib.Core.Logic.{inr}
 use mathlib.Core.Path.{_≡_, refl, sym, ap, _∙_}
-use native.Mathlib.Decide.{ℕ-discrete}
 use native.Mathlib.Omega.{arith}
-
--- The ends that are known.
-
-abbrev noughts : ℕ → List ℕ
-noughts k = replicate k 0
-
-nought-at : (k n : ℕ) → getD (noughts k) n 0 ≡ 0
-nought-at zero n = refl
-nought-at (suc k) zero = refl
-nought-at (suc k) (suc n) = nought-at k n
-
--- none is
-pub ended-none : (s t : List ℕ) → Ended s t empty
-ended-none s t = record { ends = λ n h. absurd (omega (arith, nought-at 27 n)) }
-
-module _ {s t e : List ℕ} (f : Ended s t e) (lt : length t ≡ 27) (le : length e ≡ 27) (k v w : ℕ) (few : k < 27) (is : w ≡ behind s v) where
-  set-ended : Ended s (set t k v) (set e k w)
-  set-ended = record { ends = λ n h. by n h (ℕ-discrete n k) }
-    where
-      by : (n : ℕ) → 0 < getD (set e k w) n 0 → Dec (n ≡ k) → getD (set e k w) n 0 ≡ behind s (getD (set t k v) n 0)
-      by n h (yes q) =
-          let a : getD (set e k w) k 0 ≡ w = getD-set-same e k w 0 (omega arith) in
-          let b : getD (set t k v) k 0 ≡ v = getD-set-same t k v 0 (omega arith) in
-          rw (q, a, b) is
-      by n h (no q) =
-          let a : getD (set e k w) n 0 ≡ getD e n 0 = getD-set-other e k n w 0 q in
-          let b : getD (set t k v) n 0 ≡ getD t n 0 = getD-set-other t k n v 0 q in
-          rw (a, b) (f .ends n (omega arith))
-
-  note-by : (b : Bool) → Ended s (pickL b t (set t k v)) (pickL b e (set e k w))
-  note-by true = f
-  note-by false = set-ended
-
-length-note : (b : Bool) (t : List ℕ) (k v : ℕ) → length t ≡ 27 → length (pickL b t (set t k v)) ≡ 27
-length-note true t k v h = h
-length-note false t k v h = length-set t k v ∙ h
 
 -- The walk over the members of the object at o: p is behind the brace or a comma, n members at most are to come.
 pub record Walking (s : List ℕ) (o : ℕ) (at end : List ℕ) (n p : ℕ) : Type 0 where
@@ -95,7 +57,7 @@ module _ {s : List ℕ} {o : ℕ} {at end : List ℕ} {n p : ℕ} (f : Walking s
   number = number-is fields s q raw-name numbered
 
   next-ends : Ended s at′ end′
-  next-ends = rw (put, put-end) (note-by (f .ends) (f .places) (f .stops) k v w few (m .row .ends .is ∙ ap (behind s) (sym (m .row .begins .is))) (eqb k 0))
+  next-ends = rw (put, put-end) (note-ended (f .ends) (f .places) (f .stops) k v w few (m .row .ends .is ∙ ap (behind s) (sym (m .row .begins .is))) (eqb k 0))
 
   next-places : length at′ ≡ 27
   next-places = ap length put ∙ length-note (eqb k 0) at k v (f .places)

@@ -1,16 +1,25 @@
--- An object of Via by its own bytes v: where the values of its host and of its destination stand in it, and what they are (01 Reading, 'Rules';
--- 01 Writing). The contracts of `src/hops.rt` cite them. Assumes nothing.
+-- An object of Via: the places of its three members' values as a list by number; and by its own bytes v where the values of its host and of its
+-- destination stand, and what they are (01 Reading, 'Rules'; 01 Writing). The contracts of `src/hops.rt` and, above, of `writing` cite
+-- them. Assumes nothing.
 use Prim.Native.Nat.{ℕ}
 use Rattle.json.specs.Places.{members}
 use Rattle.message.specs.Known.{empty, repeated}
-use Rattle.message.specs.Message.{textAt}
+use Rattle.message.specs.Spans.{textAt}
 use Rattle.message.specs.Via.{hopPlaces}
 use Rattle.message.specs.declared.hops.Hop.{Hop}
+use Rattle.message.specs.declared.hops.Members.{Members}
 use Rattle.rules.specs.Names.{hopMembers}
 use lib.Dec.{eqb}
-use lib.ListN.{getD}
+use lib.ListN.{getD, replicate}
 use mathlib.Core.Bool.{Bool, true, false}
-use mathlib.Core.List.{List}
+use mathlib.Core.List.{List, _∷_}
+
+-- the places of host, destination and organization by number, as `noted` lists them: where the values begin, and where they end
+abbrev pub placesIn : Members → List ℕ
+placesIn m = 0 ∷ (m .host .at ∷ (m .destination .at ∷ (m .organization .at ∷ replicate 23 0)))
+
+abbrev pub endsIn : Members → List ℕ
+endsIn m = 0 ∷ (m .host .end ∷ (m .destination .end ∷ (m .organization .end ∷ replicate 23 0)))
 
 abbrev pub either : Bool → Hop → Hop → Hop
 either true a b = a

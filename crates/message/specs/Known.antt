@@ -2,11 +2,10 @@
 -- fields, and an object of Via, with its three members: ns are the known names, numbered from 1. Assumes nothing.
 use Prim.Native.Nat.{ℕ, _<_}
 use Rattle.json.specs.Places.{pickN, pickL, raw, behind, valueOf, members}
-use Rattle.rules.specs.Names.{fields, hopMembers}
 use Rattle.rules.specs.Pieces.{placeOf}
 use lib.Dec.{eqb, ltb}
 use lib.ListN.{getD, set, replicate}
-use mathlib.Core.Bool.{Bool, true, false, _&&_}
+use mathlib.Core.Bool.{Bool, _&&_}
 use mathlib.Core.List.{List, [], _∷_}
 use mathlib.Core.Path.{_≡_}
 
@@ -35,11 +34,6 @@ noted ns s t (q ∷ qs) = noted ns s (note ns s t q) qs
 unfoldable pub repeated : List (List ℕ) → List ℕ → List ℕ → List ℕ → ℕ
 repeated ns s t [] = 0
 repeated ns s t (q ∷ qs) = pickN (has ns s t q) q (repeated ns s (note ns s t q) qs)
-
--- the names that are known: those of an object of Via, or the fields
-abbrev pub namesOf : Bool → List (List ℕ)
-namesOf true = hopMembers
-namesOf false = fields
 
 -- what is gathered of the object that opens at o: its first repeat, and if there is none the places of its known members
 pub record Gathered (ns : List (List ℕ)) (s : List ℕ) (o twice : ℕ) (at : List ℕ) : Type 0 where

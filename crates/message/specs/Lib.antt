@@ -1,6 +1,8 @@
 pub mod Value
 pub mod Known
+pub mod Spans
 pub mod Via
+pub mod Route
 pub mod Field
 pub mod Checks
 pub mod Shape

@@ -2,7 +2,8 @@
 -- fields disagree. Assumes nothing.
 use Prim.Native.Nat.{ℕ, _+_, _<_}
 use Rattle.json.specs.Places.{pickN, bytes}
-use Rattle.message.specs.Value.{textOf}
+use Rattle.message.specs.Route.{noRoute, routeIn, moved}
+use Rattle.message.specs.Spans.{textAt, spanIn, nowhere, textSpan}
 use Rattle.message.specs.declared.facts.Message.{Message}
 use Rattle.message.specs.declared.facts.Span.{Span}
 use Rattle.message.specs.declared.fields.Setting.{Setting}
@@ -17,16 +18,13 @@ use Rattle.rules.specs.declared.sequences.Sequence.the-variants as sequences
 use Rattle.rules.specs.declared.sequences.Sequence.{Sequence}
 use Rattle.rules.specs.declared.statuses.Status.the-variants as statuses
 use Rattle.rules.specs.declared.statuses.Status.{Status}
-use lib.Dec.{eqb, ltb}
-use lib.ListN.{length, getD}
+use lib.Dec.{eqb}
+use lib.ListN.{getD}
 use mathlib.Core.Bool.{Bool, true, false, not, _&&_, _||_}
 use mathlib.Core.List.{List}
 use mathlib.Core.Path.{_≡_}
 
--- the text of the value at v, and of field n
-unfoldable pub textAt : List ℕ → ℕ → List ℕ
-textAt s v = textOf (bytes s v)
-
+-- the text of field n
 abbrev pub fieldText : List ℕ → List ℕ → ℕ → List ℕ
 fieldText s t n = textAt s (getD t n 0)
 
@@ -124,20 +122,7 @@ pub record Taken (s : List ℕ) (k : Setting) (t : List ℕ) (number code : ℕ)
   pub sent : from ≡ addressOf (fieldText s t 3)
   pub meant : to ≡ addressOf (fieldText s t 2)
 
--- Where texts stand in s. The text of a value at v begins behind its quote; its bytes from a up to e stand there.
-unfoldable pub spanIn : ℕ → ℕ → ℕ → Span
-spanIn v a e = record { start = v + 1 + a; end = v + 1 + e }
-
-abbrev pub nowhere : Span
-nowhere = record { start = 0; end = 0 }
-
-abbrev pub pickS : Bool → Span → Span → Span
-pickS true a b = a
-pickS false a b = b
-
--- the whole text of the value at v
-unfoldable pub textSpan : List ℕ → ℕ → Span
-textSpan s v = pickS (ltb v (length s)) (record { start = v + 1; end = v + 1 + length (textAt s v) }) nowhere
+-- Where the texts stand that name the parties.
 
 -- the user, the caller's Fire-ID and the callee's in the address at v; nowhere in an address of the other side
 abbrev pub userSpan : ℕ → Address → Span
@@ -178,8 +163,8 @@ callerAt from t = pickN from (getD t 3 0) (getD t 2 0)
 unfoldable pub calleeAt : Bool → List ℕ → ℕ
 calleeAt from t = pickN from (getD t 2 0) (getD t 3 0)
 
--- The message: the facts that the keeper and the writer go by, the places of the five values that a reply copies, and where the texts
--- stand that name the call and its parties.
+-- The message: the facts that the keeper and the writer go by, the places of the five values that a reply copies, where the texts stand
+-- that name the call and its parties, and the route, by places of the message.
 
 unfoldable pub messageOf : List ℕ → Setting → List ℕ → Message
 messageOf s k t =
@@ -199,6 +184,7 @@ messageOf s k t =
       user = userSpan (callerAt (fromCaller s t) t) (addressOf (textAt s (callerAt (fromCaller s t) t)));
       callerfire = callerSpan (callerAt (fromCaller s t) t) (addressOf (textAt s (callerAt (fromCaller s t) t)));
       calleefire = calleeSpan (calleeAt (fromCaller s t) t) (addressOf (textAt s (calleeAt (fromCaller s t) t)));
+      route = moved (getD t 6 0) (routeIn (bytes s (getD t 6 0)));
     }
 
 -- a ping or a pong
@@ -220,4 +206,5 @@ probeOf tag =
       user = nowhere;
       callerfire = nowhere;
       calleefire = nowhere;
+      route = noRoute;
     }

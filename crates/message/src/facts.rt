@@ -6,25 +6,37 @@ use octets::and;
 use octets::or;
 ghost use mathlib.Core.Bool.{_&&_};
 ghost use mathlib.Core.Path.{_≡_};
-ghost use Prim.Native.Nat.{_<_, _+_};
+ghost use Prim.Native.Nat.{_<_, _+_, _-_};
 ghost use lib.Dec.{eqb};
 ghost use lib.ListN.{getD};
-ghost use Rattle.json.specs.Places.{behind, pickN};
+ghost use Rattle.json.specs.Places.{behind, bytes, pickN};
 ghost use Rattle.message.specs.Known.{Ended};
-ghost use Rattle.message.specs.Message.{Held, PartiesOf, Taken, calleeSpan, callerSpan, callbackTraining, callerIn, codeIn, codeOf, disagrees, contentAt, textAt, textSpan, messageOf, pickA, methodIn, methodOf, numberIn, probeOf, requestDisagrees, responseDisagrees, sameSide, secureOf, sidesDisagree, settingOf, userSpan, wrongNumber, wrongSide};
+ghost use Rattle.message.specs.Message.{Held, PartiesOf, Taken, calleeSpan, callerSpan, callbackTraining, callerIn, codeIn, codeOf, disagrees, contentAt, messageOf, pickA, methodIn, methodOf, numberIn, probeOf, requestDisagrees, responseDisagrees, sameSide, secureOf, sidesDisagree, settingOf, userSpan, wrongNumber, wrongSide};
+ghost use Rattle.message.specs.Spans.{textAt, textSpan};
+ghost use Rattle.message.specs.Route.{Within, moved, noRoute, routeIn};
 ghost use Rattle.rules.specs.Address.{addressOf};
 ghost use Rattle.rules.specs.Sequence.{sequenceOf};
 ghost use Rattle.rules.specs.Status.{statusOf};
 
-// Where a text stands in the message: from `start` up to `end`.
+// Where a text stands, in the message or in the bytes of a value: from `start` up to `end`.
 pub struct Span {
     pub start: usize,
     pub end: usize,
 }
 
+// What the writer goes by in Via: how many objects it has, where the last begins, where the last and the last but one end, and where the
+// host of the last but one stands. With one object alone the seam and the host are at Via's first byte; of a ping or a pong all is 0.
+pub struct Route {
+    pub count: usize,
+    pub last: usize,
+    pub end: usize,
+    pub seam: usize,
+    pub host: Span,
+}
+
 // The facts that the keeper and the writer go by: the tag (1 request, 2 response, 3 ping, 4 pong), the method's code, CSeq's number, a
-// response's status code, whether it is from a caller, Secure-Call of an INVITE, where the five values stand that a reply copies, and where
-// the texts stand that name the call and its parties.
+// response's status code, whether it is from a caller, Secure-Call of an INVITE, where the five values stand that a reply copies, where
+// the texts stand that name the call and its parties, and the route.
 pub struct Message {
     pub tag: u8,
     pub method: u8,
@@ -41,6 +53,7 @@ pub struct Message {
     pub user: Span,
     pub callerfire: Span,
     pub calleefire: Span,
+    pub route: Route,
 }
 
 // From and To on the same side.
@@ -231,7 +244,7 @@ pub fn disagree(
 }
 
 // The whole text of the value at v.
-fn text_span(s: &[u8], v: usize, e: usize) -> Span
+pub fn text_span(s: &[u8], v: usize, e: usize) -> Span
     requires { ⌜ (0 < e → e ≡ behind (now s) v) ⌝ }
     ensures { λ r. ⌜ r ≡ textSpan (now (s .entry)) v ⌝ }
 {
@@ -320,6 +333,37 @@ fn sorted(from: rules::Address, to: rules::Address, v: usize, w: usize) -> Parti
     parties_of(w, to, v, from)
 }
 
+// No route.
+pub fn no_route() -> Route
+    ensures { λ r. ⌜ r ≡ noRoute ⌝ }
+{
+    Route {
+        count: 0,
+        last: 0,
+        end: 0,
+        seam: 0,
+        host: Span { start: 0, end: 0 },
+    }
+}
+
+// The route by the places of the message, in which Via begins at a.
+fn moved(a: usize, r: Route) -> Route
+    requires { ⌜ Within r (18446744073709551615 - a) ⌝ }
+    ensures { λ m. ⌜ m ≡ moved a r ⌝ }
+{
+    let host = r.host;
+    Route {
+        count: r.count,
+        last: a + r.last,
+        end: a + r.end,
+        seam: a + r.seam,
+        host: Span {
+            start: a + host.start,
+            end: a + host.end,
+        },
+    }
+}
+
 // The message.
 pub fn message_of(
     s: &[u8],
@@ -330,8 +374,9 @@ pub fn message_of(
     to: rules::Address,
     at: &[usize; 27],
     end: &[usize; 27],
+    route: Route,
 ) -> Message
-    requires { ⌜ Taken (now s) k (now at) number code from to × Ended (now s) (now at) (now end) ⌝ }
+    requires { ⌜ Taken (now s) k (now at) number code from to × (Ended (now s) (now at) (now end) × (route ≡ routeIn (bytes (now s) (getD (now at) 6 0)))) ⌝ }
     ensures { λ r. ⌜ r ≡ messageOf (now (s .entry)) k (now (at .entry)) ⌝ }
 {
     let tag = k.tag;
@@ -343,6 +388,7 @@ pub fn message_of(
     let user = p.user;
     let callerfire = p.callerfire;
     let calleefire = p.calleefire;
+    let there = moved(at[6], route);
     Message {
         tag,
         method,
@@ -359,6 +405,7 @@ pub fn message_of(
         user,
         callerfire,
         calleefire,
+        route: there,
     }
 }
 
@@ -383,5 +430,6 @@ pub fn probe_of(tag: u8) -> Message
         user: nowhere,
         callerfire: nowhere,
         calleefire: nowhere,
+        route: no_route(),
     }
 }

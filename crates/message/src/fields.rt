@@ -4,7 +4,6 @@ use crate::values::is_object;
 use crate::values::is_string;
 use crate::values::own_text;
 use crate::values::under;
-use crate::vias::is_via;
 use json::element_at;
 use json::skip;
 use octets::and;
@@ -13,6 +12,7 @@ use octets::or;
 ghost use mathlib.Core.Path.{_≡_};
 ghost use Rattle.message.specs.Value.{Own};
 ghost use Rattle.message.specs.Field.{addressRule, bodyField, byKind, contentField, keeps, kindRule, laterRule, statusField, stringsField, textRule};
+ghost use Rattle.message.specs.Via.{viaRule};
 ghost use Rattle.rules.specs.Sequence.{sequenceRule};
 ghost use Rattle.rules.specs.Status.{statusRule};
 
@@ -198,16 +198,16 @@ fn keeps_body(content: u8, v: &[u8]) -> bool
     and(is_string(v), is_status(t))
 }
 
-// Whether a value keeps the rule of field n.
-pub fn keeps_rule(k: Setting, n: usize, v: &[u8]) -> bool
-    requires { ⌜ Own (now v) ⌝ }
+// Whether a value keeps the rule of field n; `kept` says whether it keeps Via's, if that is the field.
+pub fn keeps_rule(k: Setting, n: usize, v: &[u8], kept: bool) -> bool
+    requires { ⌜ Own (now v) × (n ≡ 6 → kept ≡ viaRule (now v)) ⌝ }
     ensures { λ r. ⌜ r ≡ keeps k n (now (v .entry)) ⌝ }
 {
     let tag = k.tag;
     let method = k.method;
     let content = k.content;
     if n == 6 {
-        return is_via(v);
+        return kept;
     }
     if n == 7 {
         return keeps_status(tag, v);

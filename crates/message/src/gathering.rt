@@ -1,5 +1,4 @@
-// Gathering the known members of an object in one walk over its members (01 Reading, rows 7 and 8): the message's own fields, or the three
-// members of an object of Via.
+// Gathering the fields of the message's object in one walk over its members (01 Reading, rows 7 and 8).
 use json::member_at;
 use json::part;
 use json::skip;
@@ -9,24 +8,14 @@ ghost use mathlib.Core.Path.{_≡_};
 ghost use Prim.Native.Nat.{_<_};
 ghost use lib.Dec.{eqb, ltb};
 ghost use lib.ListN.{getD, length, set};
-ghost use Rattle.json.specs.Places.{members, pickL};
-ghost use Rattle.message.specs.Known.{Gathered, namesOf};
-ghost use Rattle.rules.specs.Pieces.{placeOf};
+ghost use Rattle.json.specs.Places.{pickL};
+ghost use Rattle.message.specs.Known.{Gathered};
+ghost use Rattle.rules.specs.Names.{fields};
 
 // The place of each value by its member's number, 0 where there is none; and the opening quote of the first repeat, 0 where there is none.
 pub struct Places {
     pub twice: usize,
     pub at: [usize; 27],
-}
-
-// The number of a name, among Via's members or among the fields.
-fn number_of(hop: bool, name: &[u8]) -> usize
-    ensures { λ r. ⌜ (r ≡ placeOf (namesOf hop) (now (name .entry))) × (r < 27) ⌝ }
-{
-    if hop {
-        return rules::hop_member(name) as usize;
-    }
-    rules::field(name)
 }
 
 // Whether number k has a place already.
@@ -50,10 +39,10 @@ pub fn note(at: &mut [usize; 27], k: usize, v: usize)
     }
 }
 
-// The known members of the object that opens at o.
-pub fn gather(s: &[u8], o: usize, hop: bool) -> Places
+// The fields of the object that opens at o.
+pub fn gather(s: &[u8], o: usize) -> Places
     requires { ⌜ o < length (now s) ⌝ }
-    ensures { λ r. ⌜ Gathered (namesOf hop) (now (s .entry)) o (r .twice) (r .at) ⌝ }
+    ensures { λ r. ⌜ Gathered fields (now (s .entry)) o (r .twice) (r .at) ⌝ }
 {
     let mut at = [0usize; 27];
     let mut p = o + 1;
@@ -65,7 +54,7 @@ pub fn gather(s: &[u8], o: usize, hop: bool) -> Places
         }
         let m = member_at(s, q);
         let name = m.name;
-        let k = number_of(hop, part(s, q + 1, name - 1));
+        let k = rules::field(part(s, q + 1, name - 1));
         if is_noted(&at, k) {
             return Places { twice: q, at: at };
         }

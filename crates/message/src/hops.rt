@@ -1,9 +1,143 @@
-// An object of Via by its own bytes: where its host and its destination stand in it, and what they are.
-use crate::gathering::gather;
-use crate::values::text_of;
-use json::value_part;
+// An object of Via: its three members, gathered in one walk; and by its own bytes where its host and its destination stand in it.
+use json::member_at;
+use json::part;
+use json::skip;
+use octets::byte;
+ghost use mathlib.Core.Bool.{_&&_};
 ghost use mathlib.Core.Path.{_≡_};
-ghost use Rattle.message.specs.Hop.{destinationOf, hopOf, hostOf};
+ghost use Prim.Native.Nat.{_<_};
+ghost use lib.Dec.{eqb, ltb};
+ghost use lib.ListN.{getD, length, set};
+ghost use Rattle.json.specs.Places.{pickL};
+ghost use Rattle.message.specs.Hop.{endsIn, hopOf, placesIn};
+ghost use Rattle.message.specs.Known.{Ended, Gathered, empty};
+ghost use Rattle.rules.specs.Names.{hopMembers};
+
+// Where a value begins, and where it ends; 0 and 0 for one that is missing.
+pub struct Value {
+    pub at: usize,
+    pub end: usize,
+}
+
+// The values of the three members of an object of Via; and the opening quote of the first repeat, 0 where there is none.
+pub struct Members {
+    pub twice: usize,
+    pub host: Value,
+    pub destination: Value,
+    pub organization: Value,
+}
+
+fn no_members() -> Members
+    ensures { λ r. ⌜ (r .twice ≡ 0) × ((placesIn r ≡ empty) × (endsIn r ≡ empty)) ⌝ }
+{
+    let none = Value { at: 0, end: 0 };
+    Members {
+        twice: 0,
+        host: none,
+        destination: none,
+        organization: none,
+    }
+}
+
+// Whether member k has a place already.
+fn has_member(m: Members, k: u8) -> bool
+    requires { ⌜ k < 4 ⌝ }
+    ensures { λ r. ⌜ r ≡ (ltb 0 k && ltb 0 (getD (placesIn m) k 0)) ⌝ }
+{
+    let host = m.host;
+    let destination = m.destination;
+    let organization = m.organization;
+    match k {
+        1 => 0 < host.at,
+        2 => 0 < destination.at,
+        3 => 0 < organization.at,
+        _ => false,
+    }
+}
+
+// The members with x for member k; 0 is no member.
+fn with_member(m: Members, k: u8, x: Value) -> Members
+    requires { ⌜ k < 4 ⌝ }
+    ensures { λ r. ⌜ (r .twice ≡ m .twice) × ((placesIn r ≡ pickL (eqb k 0) (placesIn m) (set (placesIn m) k (x .at))) × (endsIn r ≡ pickL (eqb k 0) (endsIn m) (set (endsIn m) k (x .end)))) ⌝ }
+{
+    let twice = m.twice;
+    let host = m.host;
+    let destination = m.destination;
+    let organization = m.organization;
+    match k {
+        1 => Members {
+            twice,
+            host: x,
+            destination,
+            organization,
+        },
+        2 => Members {
+            twice,
+            host,
+            destination: x,
+            organization,
+        },
+        3 => Members {
+            twice,
+            host,
+            destination,
+            organization: x,
+        },
+        _ => m,
+    }
+}
+
+// The same members, with a repeat at q.
+fn repeating(m: Members, q: usize) -> Members
+    ensures { λ r. ⌜ (r .twice ≡ q) × ((placesIn r ≡ placesIn m) × (endsIn r ≡ endsIn m)) ⌝ }
+{
+    let host = m.host;
+    let destination = m.destination;
+    let organization = m.organization;
+    Members {
+        twice: q,
+        host,
+        destination,
+        organization,
+    }
+}
+
+// The three members of the object that opens at o.
+pub fn hop_members(v: &[u8], o: usize) -> Members
+    requires { ⌜ o < length (now v) ⌝ }
+    ensures { λ r. ⌜ Gathered hopMembers (now (v .entry)) o (r .twice) (placesIn r) × Ended (now (v .entry)) (placesIn r) (endsIn r) ⌝ }
+{
+    let mut m = no_members();
+    let mut p = o + 1;
+    let mut n = v.len();
+    while 0 < n {
+        let q = skip(v, p);
+        if byte(v, q) != 34 {
+            return m;
+        }
+        let x = member_at(v, q);
+        let name = x.name;
+        let k = rules::hop_member(part(v, q + 1, name - 1));
+        if has_member(m, k) {
+            return repeating(m, q);
+        }
+        m = with_member(
+            m,
+            k,
+            Value {
+                at: x.value,
+                end: x.end,
+            },
+        );
+        let then = x.then;
+        if byte(v, then) != 44 {
+            return m;
+        }
+        p = then + 1;
+        n -= 1;
+    }
+    m
+}
 
 // The first bytes of the values of host and destination; 0 for one that is missing, and for both where one of the three members of an
 // object of Via stands twice. In a message that is read neither is so.
@@ -22,35 +156,18 @@ pub fn hop_of(v: &[u8]) -> Hop
             destination: 0,
         };
     }
-    let g = gather(v, 0, true);
-    let twice = g.twice;
+    let m = hop_members(v, 0);
+    let twice = m.twice;
+    let host = m.host;
+    let destination = m.destination;
     if twice != 0 {
         return Hop {
             host: 0,
             destination: 0,
         };
     }
-    let at = g.at;
     Hop {
-        host: at[1],
-        destination: at[2],
+        host: host.at,
+        destination: destination.at,
     }
-}
-
-// The host of the object v, as a part of it.
-pub fn host_of(v: &[u8]) -> &[u8]
-    ensures { λ r. ⌜ now r ≡ hostOf (now (v .entry)) ⌝ }
-{
-    let h = hop_of(v);
-    let p = h.host;
-    text_of(value_part(v, p))
-}
-
-// Its destination, as a part of it.
-pub fn destination_of(v: &[u8]) -> &[u8]
-    ensures { λ r. ⌜ now r ≡ destinationOf (now (v .entry)) ⌝ }
-{
-    let h = hop_of(v);
-    let p = h.destination;
-    text_of(value_part(v, p))
 }

@@ -14,11 +14,10 @@ mod vias;
 mod walking;
 
 pub use facts::Message;
+pub use facts::Route;
 pub use facts::Span;
 pub use hops::Hop;
-pub use hops::destination_of;
 pub use hops::hop_of;
-pub use hops::host_of;
 pub use parties::call_id;
 pub use parties::callee_fire;
 pub use parties::caller_fire;
@@ -26,4 +25,3 @@ pub use parties::user;
 pub use reading::Reading;
 pub use reading::read;
 pub use values::text_of;
-pub use vias::is_via;

@@ -2,6 +2,7 @@
 use crate::checking::Check;
 use crate::checking::check_run;
 use crate::facts::Message;
+use crate::facts::Route;
 use crate::facts::address_at;
 use crate::facts::code_of;
 use crate::facts::disagree;
@@ -12,14 +13,21 @@ use crate::facts::setting_of;
 use crate::fields::Setting;
 use crate::gathering::gather;
 use crate::shapes::shape_of;
+use crate::values::value_at;
+use crate::vias::Via;
+use crate::vias::walk_via;
 use crate::walking::walk_text;
 use json::Walked;
 use utf8::Verdict;
 ghost use mathlib.Core.Path.{_≡_};
 ghost use Prim.Native.Nat.{_<_};
+ghost use lib.ListN.{getD};
 ghost use Rattle.json.specs.Machine.{answer};
+ghost use Rattle.json.specs.Places.{bytes};
 ghost use Rattle.message.specs.Known.{Ended};
 ghost use Rattle.message.specs.Message.{numberOf};
+ghost use Rattle.message.specs.Route.{routeIn};
+ghost use Rattle.message.specs.Via.{viaRule};
 ghost use Rattle.message.specs.Reading.{agreed, judged, onJson, reading, settled, shaped};
 
 // What is read of any bytes: a refusal with its number and place, or the message.
@@ -29,8 +37,15 @@ pub enum Reading {
 }
 
 // Row 10, and what is read.
-fn agree(s: &[u8], k: Setting, number: u32, at: &[usize; 27], end: &[usize; 27]) -> Reading
-    requires { ⌜ (number ≡ numberOf (now s) (now at)) × Ended (now s) (now at) (now end) ⌝ }
+fn agree(
+    s: &[u8],
+    k: Setting,
+    number: u32,
+    at: &[usize; 27],
+    end: &[usize; 27],
+    route: Route,
+) -> Reading
+    requires { ⌜ (number ≡ numberOf (now s) (now at)) × (Ended (now s) (now at) (now end) × (route ≡ routeIn (bytes (now s) (getD (now at) 6 0)))) ⌝ }
     ensures { λ r. ⌜ r ≡ agreed (now (s .entry)) k (now (at .entry)) ⌝ }
 {
     let tag = k.tag;
@@ -40,25 +55,34 @@ fn agree(s: &[u8], k: Setting, number: u32, at: &[usize; 27], end: &[usize; 27])
     if disagree(s, k, number, code, from, to, at, end) {
         return Reading::Refused(10, 0);
     }
-    Reading::Read(message_of(s, k, number, code, from, to, at, end))
+    Reading::Read(message_of(s, k, number, code, from, to, at, end, route))
 }
 
 // The second run of rows 8 and 9, on the fields of a request's method, and on.
-fn settle(s: &[u8], k: Setting, number: u32, at: &[usize; 27], end: &[usize; 27]) -> Reading
-    requires { ⌜ (k .tag < 5) × ((k .method < 9) × ((number ≡ numberOf (now s) (now at)) × Ended (now s) (now at) (now end))) ⌝ }
+fn settle(
+    s: &[u8],
+    k: Setting,
+    number: u32,
+    at: &[usize; 27],
+    end: &[usize; 27],
+    via: Via,
+) -> Reading
+    requires { ⌜ (k .tag < 5) × ((k .method < 9) × ((number ≡ numberOf (now s) (now at)) × (Ended (now s) (now at) (now end) × ((via .good ≡ viaRule (bytes (now s) (getD (now at) 6 0))) × (via .route ≡ routeIn (bytes (now s) (getD (now at) 6 0))))))) ⌝ }
     ensures { λ r. ⌜ r ≡ settled (now (s .entry)) k (now (at .entry)) ⌝ }
 {
     let tag = k.tag;
+    let good = via.good;
+    let route = via.route;
     if tag == 1 {
-        return match check_run(s, false, k, at, end) {
-            Check::Good => agree(s, k, number, at, end),
+        return match check_run(s, false, k, at, end, good) {
+            Check::Good => agree(s, k, number, at, end, route),
             Check::Fault(n, p) => Reading::Refused(n, p),
         };
     }
-    agree(s, k, number, at, end)
+    agree(s, k, number, at, end, route)
 }
 
-// The first run of rows 8 and 9, on the fields of the tag, and on.
+// The first run of rows 8 and 9, on the fields of the tag, and on. Via is walked before it, once for its rule and its route.
 fn judge(s: &[u8], tag: u8, at: &[usize; 27], end: &[usize; 27]) -> Reading
     requires { ⌜ (tag < 5) × Ended (now s) (now at) (now end) ⌝ }
     ensures { λ r. ⌜ r ≡ judged (now (s .entry)) tag (now (at .entry)) ⌝ }
@@ -68,7 +92,8 @@ fn judge(s: &[u8], tag: u8, at: &[usize; 27], end: &[usize; 27]) -> Reading
         method: 0,
         content: 0,
     };
-    match check_run(s, true, first, at, end) {
+    let via = walk_via(value_at(s, at[6], end[6]));
+    match check_run(s, true, first, at, end, via.good) {
         Check::Fault(n, p) => Reading::Refused(n, p),
         Check::Good => {
             if 2 < tag {
@@ -77,7 +102,7 @@ fn judge(s: &[u8], tag: u8, at: &[usize; 27], end: &[usize; 27]) -> Reading
             let q = sequence_at(s, at[1], end[1]);
             let number = q.number;
             let method = q.method;
-            settle(s, setting_of(s, tag, method, at, end), number, at, end)
+            settle(s, setting_of(s, tag, method, at, end), number, at, end, via)
         }
     }
 }
@@ -92,7 +117,7 @@ fn shape(s: &[u8]) -> Reading
     if tag == 0 {
         return Reading::Refused(6, 0);
     }
-    let g = gather(s, object, false);
+    let g = gather(s, object);
     let twice = g.twice;
     if 0 < twice {
         return Reading::Refused(7, twice);

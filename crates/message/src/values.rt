@@ -10,7 +10,7 @@ ghost use Prim.Native.Nat.{_<_};
 ghost use Rattle.json.specs.Places.{behind, bytes};
 ghost use Rattle.octets.specs.Class.{all};
 ghost use Rattle.rules.specs.Texts.{unescaped};
-ghost use Rattle.message.specs.Message.{textAt};
+ghost use Rattle.message.specs.Spans.{textAt};
 ghost use Rattle.message.specs.Value.{Own, isArray, isObject, isString, textOf};
 
 // Whether a value is a string.

@@ -1,14 +1,24 @@
-// The rule of Via (01 Reading): 1 to 16 objects, each with host, destination and organization once, within their rules.
-use crate::gathering::gather;
+// The rule of Via (01 Reading): 1 to 16 objects, each with host, destination and organization once, within their rules. The walk that judges
+// it finds the route on its way.
+use crate::facts::Route;
+use crate::facts::Span;
+use crate::facts::no_route;
+use crate::facts::text_span;
+use crate::hops::Value;
+use crate::hops::hop_members;
 use crate::values::is_array;
 use crate::values::own_text;
 use crate::values::under;
+use crate::values::value_at;
 use json::element_at;
 use json::skip;
-use json::value_part;
 use octets::and;
 use octets::byte;
+ghost use mathlib.Core.Bool.{false, true};
 ghost use mathlib.Core.Path.{_≡_};
+ghost use Prim.Native.Nat.{_+_, _<_};
+ghost use Rattle.json.specs.Places.{behind};
+ghost use Rattle.message.specs.Route.{hostSpan, noRoute, routeIn};
 ghost use Rattle.message.specs.Via.{hopKeeps, hopRule, isHop, viaRule};
 
 // The rule of member n: 1 host, 2 destination, any other organization.
@@ -24,65 +34,131 @@ fn is_hop_text(n: u8, t: &[u8]) -> bool
     rules::is_organization(t)
 }
 
-// Whether the value at p is there and under the rule of member n.
-fn keeps_member(v: &[u8], p: usize, n: u8) -> bool
-    ensures { λ r. ⌜ r ≡ hopKeeps (now (v .entry)) p n ⌝ }
+// Whether the value x is there and keeps the rule of member n.
+fn keeps_member(v: &[u8], x: Value, n: u8) -> bool
+    requires { ⌜ (0 < x .end → x .end ≡ behind (now v) (x .at)) ⌝ }
+    ensures { λ r. ⌜ r ≡ hopKeeps (now (v .entry)) (x .at) n ⌝ }
 {
+    let p = x.at;
     if p == 0 {
         return false;
     }
-    let x = value_part(v, p);
-    let t = own_text(x);
-    under(x, t, is_hop_text(n, t))
+    let w = value_at(v, p, x.end);
+    let t = own_text(w);
+    under(w, t, is_hop_text(n, t))
 }
 
-// Whether an object of Via opens at o.
-fn is_hop(v: &[u8], o: usize) -> bool
-    ensures { λ r. ⌜ r ≡ isHop (now (v .entry)) o ⌝ }
+// Whether an object keeps the rule, and then where its host stands.
+struct Object {
+    good: bool,
+    host: Span,
+}
+
+fn no_object() -> Object
+    ensures { λ r. ⌜ r .good ≡ false ⌝ }
+{
+    Object {
+        good: false,
+        host: Span { start: 0, end: 0 },
+    }
+}
+
+// The object of Via that opens at o, if one does.
+fn object_at(v: &[u8], o: usize) -> Object
+    ensures { λ r. ⌜ (r .good ≡ isHop (now (v .entry)) o) × (r .good ≡ true → r .host ≡ hostSpan (now (v .entry)) o) ⌝ }
 {
     if byte(v, o) != 123 {
-        return false;
+        return no_object();
     }
-    let g = gather(v, o, true);
-    let twice = g.twice;
+    let m = hop_members(v, o);
+    let twice = m.twice;
+    let host = m.host;
+    let destination = m.destination;
+    let organization = m.organization;
     if twice != 0 {
-        return false;
+        return no_object();
     }
-    let at = g.at;
-    and(
-        keeps_member(v, at[1], 1),
-        and(keeps_member(v, at[2], 2), keeps_member(v, at[3], 3)),
-    )
+    Object {
+        good: and(
+            keeps_member(v, host, 1),
+            and(
+                keeps_member(v, destination, 2),
+                keeps_member(v, organization, 3),
+            ),
+        ),
+        host: text_span(v, host.at, host.end),
+    }
 }
 
-// Whether a value keeps the rule of Via.
-pub fn is_via(v: &[u8]) -> bool
-    ensures { λ r. ⌜ r ≡ viaRule (now (v .entry)) ⌝ }
+// What is found of a value: whether it keeps the rule of Via, and its route, none where it does not.
+pub struct Via {
+    pub good: bool,
+    pub route: Route,
+}
+
+fn no_via() -> Via
+    ensures { λ r. ⌜ (r .good ≡ false) × (r .route ≡ noRoute) ⌝ }
+{
+    Via {
+        good: false,
+        route: no_route(),
+    }
+}
+
+// r with one object more, which begins at q and ends at e; h is where the host of r's last object stands, now the last but one.
+fn onward(r: Route, h: Span, q: usize, e: usize) -> Route
+    requires { ⌜ r .count + 1 < 18446744073709551616 ⌝ }
+    ensures { λ n. ⌜ (n .count ≡ r .count + 1) × ((n .last ≡ q) × ((n .end ≡ e) × ((n .seam ≡ r .end) × (n .host ≡ h)))) ⌝ }
+{
+    Route {
+        count: r.count + 1,
+        last: q,
+        end: e,
+        seam: r.end,
+        host: h,
+    }
+}
+
+// Whether a value keeps the rule of Via, and its route, in one walk over its objects; a seventeenth object ends it.
+pub fn walk_via(v: &[u8]) -> Via
+    ensures { λ r. ⌜ (r .good ≡ viaRule (now (v .entry))) × (r .route ≡ routeIn (now (v .entry))) ⌝ }
 {
     if !is_array(v) {
-        return false;
+        return no_via();
     }
     if byte(v, skip(v, 1)) == 93 {
-        return false;
+        return no_via();
     }
+    let mut r = no_route();
+    let mut h = Span { start: 0, end: 0 };
     let mut p: usize = 1;
-    let mut k: usize = 0;
     let mut n = v.len();
     while 0 < n {
         let q = skip(v, p);
-        if k == 16 {
-            return false;
+        if r.count == 16 {
+            return no_via();
         }
-        if !is_hop(v, q) {
-            return false;
+        let x = object_at(v, q);
+        let good = x.good;
+        let host = x.host;
+        if !good {
+            return no_via();
         }
-        let then = element_at(v, q).then;
+        let e = element_at(v, q);
+        let then = e.then;
+        r = onward(r, h, q, e.end);
+        h = host;
         if byte(v, then) != 44 {
-            return true;
+            return Via {
+                good: true,
+                route: r,
+            };
         }
         p = then + 1;
-        k += 1;
         n -= 1;
     }
-    true
+    Via {
+        good: true,
+        route: r,
+    }
 }

@@ -20,7 +20,7 @@ ghost use Rattle.table.specs.Blank.{blankAfter, blankAnswer, madeNumber};
 ghost use Rattle.table.specs.WellFormed.{wellFormed};
 ghost use Rattle.writing.specs.Adding.{adding};
 ghost use Rattle.writing.specs.Outcome.{answered, left};
-ghost use Rattle.writing.specs.Removing.{removing, shown, viaIn};
+ghost use Rattle.writing.specs.Removing.{hostIn, removing, shown};
 ghost use Rattle.writing.specs.Reply.{replying};
 
 // Reads a message.
@@ -103,7 +103,7 @@ pub extern "C" fn net119_remove(
     destination: &[u8],
     organization: &[u8],
 ) -> RemoveAnswer
-    ensures { λ r. ⌜ (r ≡ flatRemoved (shown (now (message .entry)) (viaIn (reading (now (message .entry)))) (answered (length (now (out .entry))) (removing (now (message .entry)) (now (host .entry)) (now (destination .entry)) (now (organization .entry))))))
+    ensures { λ r. ⌜ (r ≡ flatRemoved (shown (hostIn (reading (now (message .entry)))) (answered (length (now (out .entry))) (removing (now (message .entry)) (now (host .entry)) (now (destination .entry)) (now (organization .entry))))))
         × (now (out .exit) ≡ left (now (out .entry)) (removing (now (message .entry)) (now (host .entry)) (now (destination .entry)) (now (organization .entry)))) ⌝ }
 {
     flat_removed(writing::remove(out, message, host, destination, organization))

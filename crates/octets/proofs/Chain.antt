@@ -1,7 +1,7 @@
 -- Parts written one after the other: `At` makes a chain of puts cheap, one `more` for each. Assumes nothing.
 use Prim.Native.Nat.{ℕ, _+_, _-_, _≤_}
 use Rattle.octets.specs.Splice.{splice, written}
-use lib.ListN.{length, length-append, length-drop}
+use lib.ListN.{length, take, drop, length-append, length-drop}
 use lib.Seq.{paste, take-length, take-append-seam, drop-append-add, drop-drop, length-take-le}
 use mathlib.Core.List.{List, [], _++_, append-assoc}
 use mathlib.Core.Path.{_≡_, refl, _∙_}
@@ -20,6 +20,14 @@ length-splice o at p h = simp (length-append, length-drop, length-take-le at o (
 pub length-written : (o w : List ℕ) → length w ≤ length o → length (written o w) ≡ length o
 unfolding written
 length-written o w h = simp (length-append, length-drop) (add-sub-of-le h)
+
+-- two parts written one behind the other are one
+pub splice-two : (o : List ℕ) (at : ℕ) (a b : List ℕ) → at + length a ≤ length o → splice (splice o at a) (at + length a) b ≡ splice o at (a ++ b)
+unfolding splice
+splice-two o at a b h =
+    let l : length (take at o ++ a) ≡ at + length a = length-append (take at o) a ∙ rw (length-take-le at o (omega arith)) in
+    let k : at + length a + length b ≡ at + (length a + length b) = omega arith in
+    rw (← append-assoc (take at o) a (drop (at + length a) o), ← l, take-append-seam, drop-append-add, l, drop-drop, length-append, k) (simp append-assoc)
 
 -- one more part behind w
 put-on : (o w p : List ℕ) → splice (written o w) (length w) p ≡ written o (w ++ p)

@@ -76,6 +76,19 @@ module _ (b : ℕ) (s : List ℕ) (i : ℕ) where
   unfolding before
   before-ends h = rw (drop-of-length-le s h) (omega arith)
 
+-- a byte is found at the length at the latest
+pub before-within : (b : ℕ) (s : List ℕ) → before b s ≤ length s
+unfolding before
+before-within b [] = omega arith
+before-within b (x ∷ s) = go (eqb x b) refl (before-within b s)
+  where
+    go : (t : Bool) → eqb x b ≡ t → before b s ≤ length s → before b (x ∷ s) ≤ length (x ∷ s)
+    go true e h = rw e (omega arith)
+    go false e h = rw e (omega arith)
+
+pub found-within : (b : ℕ) (s : List ℕ) (i : ℕ) → i ≤ length s → i + before b (drop i s) ≤ length s
+found-within b s i h = omega (arith, before-within b (drop i s), length-drop i s)
+
 -- a text stands nowhere behind the end, but for the empty one
 pub stands-behind : (s w : List ℕ) (at : ℕ) → length s < at → standsAt s at w ≡ eqb (length w) 0
 unfolding standsAt same

@@ -1,91 +1,86 @@
-// One line.
+// One line: what it shows, and what it does to the held table.
 use crate::events::happen;
-use crate::events::read;
-use crate::shown::say;
+use crate::tables::Answered;
 use crate::tables::blank;
 use crate::tables::dump;
 use crate::tables::hold;
-use crate::writers::edit;
-use crate::writers::reply;
-use octets::find;
 use octets::same;
+use showing::ask;
+use showing::first;
+use showing::has_space;
+use showing::put_unknown;
+use showing::rest;
 ghost use Prim.Native.Nat.{_≤_};
+ghost use lib.ListN.{length, take};
+ghost use Rattle.probe.specs.Commands.{commandDone, lineDone};
+ghost use Rattle.probe.specs.Turn.{Turned};
 
-// A command on messages alone.
-fn asks_writer(bytes: &mut [u8; 85000], room: &mut [u8; 40000], name: &[u8], words: &[u8]) {
-    if same(name, b"read") {
-        read(bytes, words);
-        return;
-    }
-    if same(name, b"reply") {
-        reply(bytes, room, words);
-        return;
-    }
-    if same(name, b"add") {
-        edit(bytes, room, true, words);
-        return;
-    }
-    if same(name, b"remove") {
-        edit(bytes, room, false, words);
-        return;
-    }
-    say(b"?\n");
-}
-
-// A command and its words; answers the size of the held table.
+// A command and its words.
 fn obey(
+    out: &mut [u8; 160100],
     held: &mut [u8; 65536],
     size: usize,
     bytes: &mut [u8; 85000],
     room: &mut [u8; 40000],
     name: &[u8],
     words: &[u8],
-) -> usize
-    requires { ⌜ size ≤ 65536 ⌝ }
-    ensures { λ r. ⌜ r ≤ 65536 ⌝ }
+) -> Answered
+    requires { ⌜ (size ≤ 65536) × (length (now words) ≤ 170000) ⌝ }
+    ensures { λ r. ⌜ Turned (commandDone (take size (now (held .entry))) (now (name .entry)) (now (words .entry))) (now (out .entry)) (r .len) (now (out .exit)) (r .size) (now (held .exit)) ⌝ }
 {
     if same(name, b"msg") {
-        happen(held, size, bytes, words, false);
-        return size;
+        return Answered {
+            len: happen(out, held, size, bytes, words, false),
+            size: size,
+        };
     }
     if same(name, b"tick") {
-        happen(held, size, bytes, words, true);
-        return size;
+        return Answered {
+            len: happen(out, held, size, bytes, words, true),
+            size: size,
+        };
     }
     if same(name, b"blank") {
-        return blank(held, size, words);
+        return blank(out, held, size, words);
     }
     if same(name, b"table") {
-        return hold(held, size, words);
+        return hold(out, held, size, words);
     }
-    asks_writer(bytes, room, name, words);
-    size
+    Answered {
+        len: ask(out, bytes, room, name, words),
+        size: size,
+    }
 }
 
-// Answers a line, and with the size of the held table after it. A line of more than 170,000 bytes is answered `?`.
+// Answers a line. One of more than 170,000 bytes is answered `?`.
 pub fn answer(
+    out: &mut [u8; 160100],
     held: &mut [u8; 65536],
     size: usize,
     bytes: &mut [u8; 85000],
     room: &mut [u8; 40000],
     line: &[u8],
-) -> usize
+) -> Answered
     requires { ⌜ size ≤ 65536 ⌝ }
-    ensures { λ r. ⌜ r ≤ 65536 ⌝ }
+    ensures { λ r. ⌜ Turned (lineDone (take size (now (held .entry))) (now (line .entry))) (now (out .entry)) (r .len) (now (out .exit)) (r .size) (now (held .exit)) ⌝ }
 {
     if 170000 < line.len() {
-        say(b"?\n");
-        return size;
+        return Answered {
+            len: put_unknown(out),
+            size: size,
+        };
     }
     if same(line, b"dump") {
-        dump(held, size);
-        return size;
+        return Answered {
+            len: dump(out, held, size),
+            size: size,
+        };
     }
-    let gap = find(line, 0, 32);
-    if line.len() <= gap {
-        say(b"?\n");
-        return size;
+    if !has_space(line) {
+        return Answered {
+            len: put_unknown(out),
+            size: size,
+        };
     }
-    let next = gap + 1;
-    obey(held, size, bytes, room, &line[0..gap], &line[next..])
+    obey(out, held, size, bytes, room, first(line), rest(line))
 }

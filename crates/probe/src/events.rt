@@ -1,118 +1,122 @@
-// `read`, `msg` and `tick`.
-use crate::shown::say;
-use crate::shown::say_number;
-use crate::words::number;
-use crate::words::take_bytes;
+// `msg` and `tick`.
 use call::Answer;
+use call::Refusal;
 use lines::Wrote;
-use message::Reading;
 use octets::Spelt;
-use octets::find;
+use octets::put;
+use showing::first;
+use showing::has_space;
+use showing::number;
+use showing::put_number;
+use showing::put_unknown;
+use showing::rest;
+use showing::take_bytes;
+ghost use mathlib.Core.Path.{_≡_};
 ghost use Prim.Native.Nat.{_≤_};
-ghost use lib.ListN.{length};
-
-// Reads the first n bytes as a message.
-fn judge(bytes: &[u8; 85000], n: usize)
-    requires { ⌜ n ≤ 85000 ⌝ }
-{
-    let s: &[u8] = bytes;
-    match message::read(&s[0..n]) {
-        Reading::Read(_) => say(b"ok\n"),
-        Reading::Refused(number, place) => {
-            say(b"no ");
-            say_number(number as u64, b" ");
-            say_number(place as u64, b"\n");
-        }
-    }
-}
-
-// `read HEX`.
-pub fn read(bytes: &mut [u8; 85000], word: &[u8]) {
-    let n = take_bytes(bytes, 0, word);
-    if 85000 < n {
-        say(b"?\n");
-        return;
-    }
-    judge(bytes, n);
-}
+ghost use lib.ListN.{length, take};
+ghost use Rattle.call.specs.declared.answers.Answer.the-variants.{Refused};
+ghost use Rattle.keeper.specs.Keeping.{onMessage, onTick};
+ghost use Rattle.probe.specs.Events.{acceptedText, eventDone, eventOn, eventText, turnOf};
+ghost use Rattle.probe.specs.Turn.{Turned};
+ghost use Rattle.showing.specs.Shown.{Puts};
 
 // An acceptance's word and state, as in the program's lines.
-fn say_accepted(a: Answer) {
-    let mut text = [0u8; 64];
-    say(b"ok");
-    match lines::write_answer(&mut text, 0, b"", a) {
-        Wrote::End(n) => say_front(&text, n),
-        Wrote::NoRoom => say(b"\n"),
+fn put_accepted(out: &mut [u8; 160100], a: Answer) -> usize
+    ensures { λ r. ⌜ Puts (now (out .entry)) (acceptedText a) r (now (out .exit)) ⌝ }
+{
+    let behind = put(out, 0, b"ok");
+    match lines::write_answer(out, behind, b"", a) {
+        Wrote::End(n) => n,
+        Wrote::NoRoom => behind,
     }
 }
 
-fn say_front(text: &[u8; 64], n: usize) {
-    let s: &[u8] = text;
-    if n <= s.len() {
-        say(&s[0..n]);
-    }
+// A refusal's number, place and reply.
+fn put_refused(out: &mut [u8; 160100], f: Refusal) -> usize
+    ensures { λ r. ⌜ Puts (now (out .entry)) (eventText (Refused f)) r (now (out .exit)) ⌝ }
+{
+    let before_number = put(out, 0, b"no ");
+    let before_place = put_number(out, before_number, call::number(f) as u64, b" ");
+    let before_reply = put_number(out, before_place, call::place(f) as u64, b" ");
+    put_number(out, before_reply, call::reply(f) as u64, b"\n")
 }
 
-fn say_event(a: Answer) {
+// What an event is answered.
+fn put_event(out: &mut [u8; 160100], a: Answer) -> usize
+    ensures { λ r. ⌜ Puts (now (out .entry)) (eventText a) r (now (out .exit)) ⌝ }
+{
     match a {
-        Answer::Accepted(_, _) => say_accepted(a),
-        Answer::Refused(f) => {
-            say(b"no ");
-            say_number(call::number(f) as u64, b" ");
-            say_number(call::place(f) as u64, b" ");
-            say_number(call::reply(f) as u64, b"\n");
-        }
+        Answer::Accepted(_, _) => put_accepted(out, a),
+        Answer::Refused(f) => put_refused(out, f),
     }
 }
 
-// A tick, or a message, on the held table of so many bytes.
+// A tick on the held table of so many bytes.
+fn tick_on(held: &mut [u8], size: usize, s: &[u8], time: u64) -> Answer
+    requires { ⌜ size ≤ length (now held) ⌝ }
+    ensures { λ r. ⌜ (r ≡ onTick (take size (now (held .entry))) time (now (s .entry)) .answer) × (take size (now (held .exit)) ≡ onTick (take size (now (held .entry))) time (now (s .entry)) .table) ⌝ }
+{
+    keeper::tick(&mut held[0..size], time, s)
+}
+
+// A message on it.
+fn message_on(held: &mut [u8], size: usize, s: &[u8], time: u64) -> Answer
+    requires { ⌜ size ≤ length (now held) ⌝ }
+    ensures { λ r. ⌜ (r ≡ onMessage (take size (now (held .entry))) time (now (s .entry)) .answer) × (take size (now (held .exit)) ≡ onMessage (take size (now (held .entry))) time (now (s .entry)) .table) ⌝ }
+{
+    keeper::message(&mut held[0..size], time, s)
+}
+
+// The one or the other.
 fn event(held: &mut [u8], size: usize, s: &[u8], time: u64, tick: bool) -> Answer
     requires { ⌜ size ≤ length (now held) ⌝ }
+    ensures { λ r. ⌜ (r ≡ eventOn (take size (now (held .entry))) tick time (now (s .entry)) .answer) × (take size (now (held .exit)) ≡ eventOn (take size (now (held .entry))) tick time (now (s .entry)) .table) ⌝ }
 {
     if tick {
-        keeper::tick(&mut held[0..size], time, s)
+        tick_on(held, size, s, time)
     } else {
-        keeper::message(&mut held[0..size], time, s)
+        message_on(held, size, s, time)
     }
 }
 
+// An event with the first n bytes of `bytes`, and writes its answer.
 fn happens(
+    out: &mut [u8; 160100],
     held: &mut [u8; 65536],
     size: usize,
     bytes: &[u8; 85000],
     n: usize,
     time: u64,
     tick: bool,
-)
+) -> usize
     requires { ⌜ (size ≤ 65536) × (n ≤ 85000) ⌝ }
+    ensures { λ r. ⌜ Turned (turnOf (eventOn (take size (now (held .entry))) tick time (take n (now (bytes .entry))))) (now (out .entry)) r (now (out .exit)) size (now (held .exit)) ⌝ }
 {
     let s: &[u8] = bytes;
-    say_event(event(held, size, &s[0..n], time, tick));
+    put_event(out, event(held, size, &s[0..n], time, tick))
 }
 
 // `msg TIME HEX` and `tick TIME HEX`.
 pub fn happen(
+    out: &mut [u8; 160100],
     held: &mut [u8; 65536],
     size: usize,
     bytes: &mut [u8; 85000],
     words: &[u8],
     tick: bool,
-)
-    requires { ⌜ size ≤ 65536 ⌝ }
+) -> usize
+    requires { ⌜ (size ≤ 65536) × (length (now words) ≤ 170000) ⌝ }
+    ensures { λ r. ⌜ Turned (eventDone (take size (now (held .entry))) tick (now (words .entry))) (now (out .entry)) r (now (out .exit)) size (now (held .exit)) ⌝ }
 {
-    let gap = find(words, 0, 32);
-    if words.len() <= gap {
-        say(b"?\n");
-        return;
+    if !has_space(words) {
+        return put_unknown(out);
     }
-    let next = gap + 1;
-    let n = take_bytes(bytes, 0, &words[next..]);
+    let n = take_bytes(bytes, 0, rest(words));
     if 85000 < n {
-        say(b"?\n");
-        return;
+        return put_unknown(out);
     }
-    match number(&words[0..gap]) {
-        Spelt::Value(time) => happens(held, size, bytes, n, time, tick),
-        Spelt::Other => say(b"?\n"),
+    match number(first(words)) {
+        Spelt::Value(time) => happens(out, held, size, bytes, n, time, tick),
+        Spelt::Other => put_unknown(out),
     }
 }

@@ -1,40 +1,62 @@
 // `blank`, `table` and `dump`.
-use crate::shown::say;
-use crate::shown::say_hex;
-use crate::words::number_to;
-use octets::find;
-use octets::same;
+use octets::put;
+use showing::first;
+use showing::has_space;
+use showing::is_hex_to;
+use showing::number_to;
+use showing::put_hex;
+use showing::put_unknown;
+use showing::rest;
+ghost use mathlib.Core.Path.{_≡_};
 ghost use Prim.Native.Nat.{_≤_};
-ghost use lib.ListN.{length};
+ghost use lib.ListN.{drop, length, take};
+ghost use Rattle.probe.specs.Tables.{blankDone, blankMade, dumpText, tableDone, verdictText};
+ghost use Rattle.probe.specs.Turn.{Turned};
+ghost use Rattle.showing.specs.Shown.{Puts};
+ghost use Rattle.showing.specs.Words.{bytesOf};
+ghost use Rattle.table.specs.Blank.{blankAfter, blankFits};
+ghost use Rattle.table.specs.WellFormed.{wellFormed};
 
-// Writes the held table.
-pub fn dump(held: &[u8; 65536], size: usize)
-    requires { ⌜ size ≤ 65536 ⌝ }
-{
-    let s: &[u8] = held;
-    say_hex(&s[0..size]);
-    say(b"\n");
+// The length of an answer, and the size of the held table after it.
+pub struct Answered {
+    pub len: usize,
+    pub size: usize,
 }
 
-fn verdict(good: bool) {
+// Writes the held table.
+pub fn dump(out: &mut [u8; 160100], held: &[u8; 65536], size: usize) -> usize
+    requires { ⌜ size ≤ 65536 ⌝ }
+    ensures { λ r. ⌜ Puts (now (out .entry)) (dumpText (take size (now (held .entry)))) r (now (out .exit)) ⌝ }
+{
+    let s: &[u8] = held;
+    let behind = put_hex(out, 0, &s[0..size]);
+    put(out, behind, b"\n")
+}
+
+// `ok`, or `no 1`.
+fn verdict(out: &mut [u8; 160100], good: bool) -> usize
+    ensures { λ r. ⌜ Puts (now (out .entry)) (verdictText good) r (now (out .exit)) ⌝ }
+{
     if good {
-        say(b"ok\n");
+        put(out, 0, b"ok\n")
     } else {
-        say(b"no 1\n");
+        put(out, 0, b"no 1\n")
     }
 }
 
-// Whether the held table is well-formed.
-fn judge(held: &[u8; 65536], size: usize)
+// Writes whether the held table is well-formed.
+fn judge(out: &mut [u8; 160100], held: &[u8; 65536], size: usize) -> usize
     requires { ⌜ size ≤ 65536 ⌝ }
+    ensures { λ r. ⌜ Puts (now (out .entry)) (verdictText (wellFormed (take size (now (held .entry))))) r (now (out .exit)) ⌝ }
 {
     let s: &[u8] = held;
-    verdict(table::well_formed(&s[0..size]));
+    verdict(out, table::well_formed(&s[0..size]))
 }
 
-// Makes a blank table of the first n bytes, or refuses to.
-pub fn is_made(held: &mut [u8], n: usize, count: usize) -> bool
+// Makes a blank table of the first n bytes, and answers whether they fit it; else they stay.
+pub fn make_blank(held: &mut [u8], n: usize, count: usize) -> bool
     requires { ⌜ n ≤ length (now held) ⌝ }
+    ensures { λ r. ⌜ (r ≡ blankFits count n) × (take n (now (held .exit)) ≡ blankAfter (take n (now (held .entry))) count) × (drop n (now (held .exit)) ≡ drop n (now (held .entry))) ⌝ }
 {
     match table::blank(&mut held[0..n], count) {
         table::Made::Done => true,
@@ -42,66 +64,80 @@ pub fn is_made(held: &mut [u8], n: usize, count: usize) -> bool
     }
 }
 
-fn make(held: &mut [u8; 65536], size: usize, count: u64, length: u64) -> usize
+// Makes a blank table and holds it. Where that is refused, and where a number is over its limit, the held one stays.
+fn make(
+    out: &mut [u8; 160100],
+    held: &mut [u8; 65536],
+    size: usize,
+    count: u64,
+    length: u64,
+) -> Answered
     requires { ⌜ size ≤ 65536 ⌝ }
-    ensures { λ r. ⌜ r ≤ 65536 ⌝ }
+    ensures { λ r. ⌜ Turned (blankMade (take size (now (held .entry))) count length) (now (out .entry)) (r .len) (now (out .exit)) (r .size) (now (held .exit)) ⌝ }
 {
     if 65535 < count {
-        say(b"?\n");
-        return size;
+        return Answered {
+            len: put_unknown(out),
+            size: size,
+        };
     }
     if 65536 < length {
-        say(b"?\n");
-        return size;
+        return Answered {
+            len: put_unknown(out),
+            size: size,
+        };
     }
     let n = length as usize;
-    if is_made(held, n, count as usize) {
-        say(b"ok\n");
-        return n;
+    if make_blank(held, n, count as usize) {
+        return Answered {
+            len: verdict(out, true),
+            size: n,
+        };
     }
-    say(b"no 1\n");
-    size
+    Answered {
+        len: verdict(out, false),
+        size: size,
+    }
 }
 
-// `blank COUNT LENGTH`; answers the size of the held table.
-pub fn blank(held: &mut [u8; 65536], size: usize, words: &[u8]) -> usize
+// `blank COUNT LENGTH`.
+pub fn blank(out: &mut [u8; 160100], held: &mut [u8; 65536], size: usize, words: &[u8]) -> Answered
     requires { ⌜ size ≤ 65536 ⌝ }
-    ensures { λ r. ⌜ r ≤ 65536 ⌝ }
+    ensures { λ r. ⌜ Turned (blankDone (take size (now (held .entry))) (now (words .entry))) (now (out .entry)) (r .len) (now (out .exit)) (r .size) (now (held .exit)) ⌝ }
 {
-    let gap = find(words, 0, 32);
-    if words.len() <= gap {
-        say(b"?\n");
-        return size;
+    if !has_space(words) {
+        return Answered {
+            len: put_unknown(out),
+            size: size,
+        };
     }
-    let next = gap + 1;
-    let count = number_to(&words[0..gap], 65535);
-    let length = number_to(&words[next..], 65536);
-    make(held, size, count, length)
+    let count = number_to(first(words), 65535);
+    let length = number_to(rest(words), 65536);
+    make(out, held, size, count, length)
 }
 
-// `table HEX`: the image is held as it is; answers its size.
-pub fn hold(held: &mut [u8; 65536], size: usize, word: &[u8]) -> usize
-    requires { ⌜ size ≤ 65536 ⌝ }
-    ensures { λ r. ⌜ r ≤ 65536 ⌝ }
+// Puts the image that a word stands for at the held buffer's front, and answers its size.
+fn take_image(held: &mut [u8; 65536], word: &[u8]) -> usize
+    requires { ⌜ length (now word) ≤ 131072 ⌝ }
+    ensures { λ r. ⌜ Puts (now (held .entry)) (bytesOf (now (word .entry))) r (now (held .exit)) ⌝ }
 {
-    if same(word, b"-") {
-        judge(held, 0);
-        return 0;
+    hex::decode(held, word)
+}
+
+// `table HEX`: the image is held as it is.
+pub fn hold(out: &mut [u8; 160100], held: &mut [u8; 65536], size: usize, word: &[u8]) -> Answered
+    requires { ⌜ size ≤ 65536 ⌝ }
+    ensures { λ r. ⌜ Turned (tableDone (take size (now (held .entry))) (now (word .entry))) (now (out .entry)) (r .len) (now (out .exit)) (r .size) (now (held .exit)) ⌝ }
+{
+    if !is_hex_to(word, 131072) {
+        return Answered {
+            len: put_unknown(out),
+            size: size,
+        };
     }
-    if word.len() == 0 {
-        say(b"?\n");
-        return size;
+    let n = take_image(held, word);
+    Answered {
+        len: judge(out, held, n),
+        size: n,
     }
-    if 131072 < word.len() {
-        say(b"?\n");
-        return size;
-    }
-    if !hex::is_hex(word) {
-        say(b"?\n");
-        return size;
-    }
-    hex::decode(held, word);
-    let n = word.len() / 2;
-    judge(held, n);
-    n
 }

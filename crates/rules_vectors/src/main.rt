@@ -268,46 +268,17 @@ fn answer(name: &[u8], v: &[u8]) {
     write(b"?");
 }
 
-// What a hex digit stands for, and 16 for any other byte.
-fn nibble(b: u8) -> u8
-    ensures { λ r. ⌜ r ≤ 16 ⌝ }
-{
-    if b < 48 {
-        return 16;
-    }
-    if b <= 57 {
-        return b - 48;
-    }
-    if b < 97 {
-        return 16;
-    }
-    if b <= 102 {
-        return b - 87;
-    }
-    16
-}
-
-// The bytes that a text of hex digits spells, as many as the room takes; 1025 where it spells none.
-fn decode(hex: &[u8], room: &mut [u8; 1024]) -> usize
+// Puts the bytes that a word of hex stands for into the room, and answers how many; 1,025 where it stands for none, or for more.
+fn decode(word: &[u8], room: &mut [u8; 1024]) -> usize
     ensures { λ r. ⌜ r ≤ 1025 ⌝ }
 {
-    if 2048 < hex.len() {
+    if 2048 < word.len() {
         return 1025;
     }
-    let mut i: usize = 0;
-    while i < hex.len() / 2 {
-        let high = nibble(hex[i * 2]);
-        let low = nibble(hex[i * 2 + 1]);
-        if 15 < high {
-            return 1025;
-        }
-        if 15 < low {
-            return 1025;
-        }
-        room[i] = high * 16 + low;
-        i += 1;
+    if !hex::is_hex(word) {
+        return 1025;
     }
-    i
+    hex::decode(room, word)
 }
 
 // Answers for the first bytes of the room.

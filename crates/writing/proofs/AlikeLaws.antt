@@ -7,7 +7,8 @@ use Rattle.json.specs.declared.Walked.the-variants as walked
 use Rattle.message.specs.Checks.{asks, lacks, breaks}
 use Rattle.message.specs.Field.{keeps}
 use Rattle.message.specs.Known.{empty, noted, repeated}
-use Rattle.message.specs.Message.{textAt, methodOf, numberOf, fromCaller, toCaller, contentAt, codeIn, codeOf, secureOf, settingOf, sidesDisagree, callbackTraining, requestDisagrees, responseDisagrees, disagrees, messageOf}
+use Rattle.message.specs.Message.{methodOf, numberOf, fromCaller, toCaller, contentAt, codeIn, codeOf, secureOf, settingOf, sidesDisagree, callbackTraining, requestDisagrees, responseDisagrees, disagrees, messageOf}
+use Rattle.message.specs.Spans.{textAt}
 use Rattle.message.specs.Shape.{tagOf, objectOf}
 use Rattle.message.specs.Via.{viaRule}
 use Rattle.message.specs.declared.checking.Check.the-variants.{Good}
@@ -118,7 +119,7 @@ field-there {s} {t} {tag} a n h g = is-there (good-sound s true (first tag) t (a
 pub status-there : {s t : List ℕ} {tag : ℕ} → Accepted s tag t → tag ≡ 2 → 0 < getD t 7 0
 status-there {s} {t} {tag} a e = is-there (good-sound s true (first tag) t (a .fits)) 7 (omega arith) (omega arith) (status-asked tag e)
 
--- the facts of two messages are the same
+-- the facts of two messages are the same, places and route aside
 pub record SameFacts (m m′ : Message) : Type 0 where
   pub tag : m′ .tag ≡ m .tag
   pub method : m′ .method ≡ m .method

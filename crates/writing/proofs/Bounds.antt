@@ -1,26 +1,20 @@
--- What an accepted text bounds: the length of a text under a rule, the places of a message's values, and those of an object of Via.
--- Assumes nothing.
+-- What an accepted text bounds: the length of a text under a rule, and the places of a message's values. Assumes nothing.
 use Prim.Native.Nat.{ℕ, zero, suc, _+_, _-_, _≤_, _<_}
-use Rattle.json.proofs.PlaceLaws.{past-inner, behind-inner, next-inner}
-use Rattle.json.specs.Places.{pickL, part, bytes, closing, raw, past, behind, valueOf, follows, more, memberAt, membersFrom, members}
+use Rattle.json.specs.Places.{part, bytes, behind}
 use Rattle.message.proofs.GatherLaws.{there}
 use Rattle.message.specs.Field.{keeps}
-use Rattle.message.specs.Hop.{either, hopOf, hostOf}
-use Rattle.message.specs.Known.{numberAt, empty, note, noted, repeated}
-use Rattle.message.specs.Message.{textAt, messageOf, settingOf}
+use Rattle.message.specs.Message.{messageOf, settingOf}
 use Rattle.message.specs.Reading.{reading}
-use Rattle.message.specs.Value.{textOf, isArray}
-use Rattle.message.specs.Via.{hopPlaces, viaRule}
+use Rattle.message.specs.Value.{isArray}
+use Rattle.message.specs.Via.{viaRule}
 use Rattle.message.specs.declared.facts.Message.{Message}
 use Rattle.message.specs.declared.fields.Setting.{Setting}
-use Rattle.message.specs.declared.hops.Hop.{Hop}
 use Rattle.message.specs.declared.reading.Reading.the-variants.{Read}
 use Rattle.octets.proofs.ClassLaws.{among-in}
 use Rattle.octets.proofs.TextLaws.{and-parts}
 use Rattle.octets.specs.Class.{among}
 use Rattle.rules.specs.Date.{date, daysIn, dateRule}
 use Rattle.rules.specs.Fields.{tagAsks, isIn}
-use Rattle.rules.specs.Names.{hopMembers}
 use Rattle.rules.specs.Pieces as pieces
 use Rattle.rules.specs.Pieces.{Piece, run, span, value, within, reads}
 use Rattle.rules.specs.Texts.{hostRule, destinationRule, organizationRule}
@@ -30,8 +24,8 @@ use Rattle.writing.proofs.AcceptedLaws.{read-short, read-taken, good-so
 use Rattle.writing.specs.Adding.{pathRule}
 use borrow.Author.Tests.{eqb-true}
 use lib.Dec.{eqb}
-use lib.ListN.{length, getD, set, take, drop, replicate, length-take, length-drop}
-use mathlib.Core.Bool.{Bool, true, false, _&&_}
+use lib.ListN.{length, getD, take, drop, length-take, length-drop}
+use mathlib.Core.Bool.{true, _&&_}
 use mathlib.Core.List.{List, [], _∷_}
 use mathlib.Core.Path.{_≡_, refl, sym, ap, _∙_}
 use native.Mathlib.Omega.{arith}
@@ -78,68 +72,6 @@ pub date-long : (s : List ℕ) → dateRule s ≡ true → length s ≡ 24
 unfolding dateRule
 date-long s e = sym (reads-end (date (daysIn (value 4 s 0) (value 2 s 5))) s 0 e) ∙ date-ends (daysIn (value 4 s 0) (value 2 s 5)) s
 
--- The members of an object stand inside the text, and so do their values.
-abbrev Inside : List ℕ → List ℕ → Type 0
-Inside s [] = Unit
-Inside s (q ∷ qs) = (q < length s) × Inside s qs
-
-more-inside : (s : List ℕ) (f : ℕ → List ℕ) (v : ℕ) (b : Bool) → ((p : ℕ) → Inside s (f p)) → Inside s (pickL b (f (follows s v + 1)) [])
-more-inside s f v true h = h (follows s v + 1)
-more-inside s f v false h = tt
-
-member-inside : (s : List ℕ) (f : ℕ → List ℕ) (q : ℕ) (b : Bool) → eqb (getD s q 0) 34 ≡ b → ((p : ℕ) → Inside s (f p)) → Inside s (pickL b (q ∷ more s f (valueOf s q)) [])
-unfolding more
-member-inside s f q true e h = (there s q 33 (eqb-true (getD s q 0) 34 e), more-inside s f (valueOf s q) (eqb (getD s (follows s (valueOf s q)) 0) 44) h)
-member-inside s f q false e h = tt
-
-members-inside : (n : ℕ) (s : List ℕ) (a : ℕ) → Inside s (membersFrom n s a)
-unfolding membersFrom memberAt
-members-inside zero s a = tt
-members-inside (suc n) s a = member-inside s (membersFrom n s) (past s a) (eqb (getD s (past s a) 0) 34) refl (λ p. members-inside n s p)
-
-value-inside : (s : List ℕ) (q : ℕ) → q < length s → valueOf s q ≤ length s
-unfolding valueOf
-value-inside s q h = past-inner s _ (next-inner s _ (past-inner s _ (behind-inner s q (omega arith))))
-
-abbrev Bounded : ℕ → List ℕ → Type 0
-Bounded n t = (k : ℕ) → getD t k 0 ≤ n
-
-set-bounded : (n : ℕ) (t : List ℕ) (i x : ℕ) → Bounded n t → x ≤ n → Bounded n (set t i x)
-set-bounded n [] i x h g k = h k
-set-bounded n (y ∷ t) zero x h g zero = g
-set-bounded n (y ∷ t) zero x h g (suc k) = h (suc k)
-set-bounded n (y ∷ t) (suc i) x h g zero = h zero
-set-bounded n (y ∷ t) (suc i) x h g (suc k) = set-bounded n t i x (λ j. h (suc j)) g k
-
-pick-bounded : (n : ℕ) (b : Bool) (t u : List ℕ) → Bounded n t → Bounded n u → Bounded n (pickL b t u)
-pick-bounded n true t u h g = h
-pick-bounded n false t u h g = g
-
-noted-bounded : (ns : List (List ℕ)) (s t qs : List ℕ) → Inside s qs → Bounded (length s) t → Bounded (length s) (noted ns s t qs)
-unfolding noted note
-noted-bounded ns s t [] i h = h
-noted-bounded ns s t (q ∷ qs) i h = noted-bounded ns s _ qs (i .1) (pick-bounded (length s) (eqb (numberAt ns s q) 0) t _ h (set-bounded (length s) t (numberAt ns s q) (valueOf s q) h (value-inside s q (i .0))))
-
-empty-bounded : (m n : ℕ) → Bounded n (replicate m 0)
-empty-bounded zero n k = omega arith
-empty-bounded (suc m) n zero = omega arith
-empty-bounded (suc m) n (suc k) = empty-bounded m n k
-
-either-inside : (n : ℕ) (b : Bool) (x y : ℕ) → x ≤ n → either b (record { host = x; destination = y }) (record { host = 0; destination = 0 }) .host ≤ n
-either-inside n true x y h = h
-either-inside n false x y h = omega arith
-
--- the host's value stands inside the object
-pub host-inside : (v : List ℕ) → hopOf v .host ≤ length v
-unfolding hopOf hopPlaces members
-host-inside v = either-inside (length v) (eqb (repeated hopMembers v empty (membersFrom (length v) v (0 + 1))) 0) _ _ (noted-bounded hopMembers v empty _ (members-inside (length v) v (0 + 1)) (empty-bounded 27 (length v)) 1)
-
-pub host-fits : (v : List ℕ) → length (hostOf v) ≤ length v
-unfolding hostOf textAt textOf raw
-host-fits v =
-    let x = bytes v (hopOf v .host) in
-    omega (arith, part-short x (0 + 1) (closing x 0), part-short v (hopOf v .host) (behind v (hopOf v .host)))
-
 -- Via of an accepted request or response.
 pub via-keeps : (k : Setting) (v : List ℕ) → keeps k 6 v ≡ viaRule v
 unfolding keeps
@@ -178,14 +110,6 @@ starts-inside s v e h =
 
 pub via-inside : (s : List ℕ) (m : Message) → reading s ≡ Read m → m .tag ≤ 2 → m .via < length s
 via-inside s m e l = starts-inside s (m .via) (behind s (m .via)) (array-byte (bytes s (m .via)) (via-kept s m e l))
-
--- an object that begins inside a text, and its host
-pub object-short : (s : List ℕ) (o : ℕ) {x : List ℕ} {h : Hop} → x ≡ bytes s o → h ≡ hopOf x → h .host ≤ length s
-object-short s o {x} {h} e f =
-    omega (arith, ap (λ (k : Hop). k .host) f, host-inside x, ap length e, part-short s o (behind s o))
-
-pub host-short-in : (s : List ℕ) (o : ℕ) {x t : List ℕ} → x ≡ bytes s o → t ≡ hostOf x → length t ≤ length s
-host-short-in s o {x} {t} e f = omega (arith, ap length f, host-fits x, ap length e, part-short s o (behind s o))
 
 -- a value of what is read is no longer than a message may be
 pub value-short : (s : List ℕ) (m : Message) (v : ℕ) {x : List ℕ} → reading s ≡ Read m → x ≡ bytes s v → length x ≤ 32768

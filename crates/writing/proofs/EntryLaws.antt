@@ -6,7 +6,7 @@ use Rattle.frame.proofs.Standing.{Piece}
 use Rattle.frame.proofs.Written.{plainly, inQuotes, text-piece, plain-name}
 use Rattle.json.proofs.Listing.{name-is}
 use Rattle.json.specs.Places.{bytes, members, spell}
-use Rattle.message.proofs.GatherLaws.{hop-few}
+use Rattle.message.proofs.GatherLaws.{hop-few as hop-three}
 use Rattle.message.specs.Known.{empty, noted, repeated}
 use Rattle.message.specs.Value.{isString, textOf, freely, ruled}
 use Rattle.message.specs.Via.{hopPlaces, hopRule, hopKeeps, isHop}
@@ -14,7 +14,7 @@ use Rattle.octets.proofs.TextLaws.{and-parts}
 use Rattle.octets.specs.Ascii.{ascii}
 use Rattle.octets.specs.Text.{same}
 use Rattle.rules.specs.Names.{hopMembers}
-use Rattle.rules.specs.Pieces.{placeFrom}
+use Rattle.rules.specs.Pieces.{placeOf, placeFrom}
 use Rattle.rules.specs.Texts.{hostRule, destinationRule, organizationRule}
 use Rattle.writing.proofs.PairLaws.{found, valueIn, doubled, late-members, by-once, once-by, noted-none, noted-by}
 use Rattle.writing.proofs.PlainLaws.{Plain, plain-plainly, plain-unescaped, host-plain, destination-plain, organization-plain}
@@ -32,6 +32,9 @@ pub record HopBy (ms : List (List ℕ × List ℕ)) : Type 0 where
   pub once : doubled hopMembers ms ≡ false
   pub there : (n : ℕ) → 1 ≤ n → n ≤ 3 → found hopMembers n ms ≡ true
   pub kept : (n : ℕ) → 1 ≤ n → n ≤ 3 → ruled (hopRule n) (valueIn hopMembers n ms) ≡ true
+
+pub hop-few : (x : List ℕ) → placeOf hopMembers x < 27
+hop-few x = omega (arith, hop-three x)
 
 three : (P : ℕ → Type 0) → P 1 → P 2 → P 3 → (n : ℕ) → 1 ≤ n → n ≤ 3 → P n
 three P a b c zero h g = absurd (omega arith)

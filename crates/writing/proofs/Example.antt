@@ -4,7 +4,8 @@ use Rattle.json.specs.Places.{part, spaces, past, isOpen, isShut, left, size, b
 use Rattle.message.specs.Checks.{lacks, breaks, lowest, checked}
 use Rattle.message.specs.Field.{addressRule, textRule, byKind, keeps}
 use Rattle.message.specs.Known.{numberAt, has, note, noted, repeated}
-use Rattle.message.specs.Message.{textAt, numberOf, methodOf, fromCaller, toCaller, settingOf, sameSide, wrongSide, wrongNumber, sidesDisagree, requestDisagrees, disagrees, messageOf}
+use Rattle.message.specs.Message.{numberOf, methodOf, fromCaller, toCaller, settingOf, sameSide, wrongSide, wrongNumber, sidesDisagree, requestDisagrees, disagrees, messageOf}
+use Rattle.message.specs.Spans.{textAt}
 use Rattle.message.specs.Reading.{agreed, settled, judged, known, shaped, reading}
 use Rattle.message.specs.Shape.{tagAt, tagOf, objectOf}
 use Rattle.message.specs.Value.{isString, isArray, textOf, freely, ruled}

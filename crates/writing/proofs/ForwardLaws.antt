@@ -45,17 +45,17 @@ module _ {s : List ℕ} {tag : ℕ} {t : List ℕ} (a : Accepted s tag t) where
   pub opens : getD s (getD t 6 0) 0 ≡ 91
   opens = first-byte s (getD t 6 0) (behind s (getD t 6 0)) 90 (via-is (bytes s (getD t 6 0)) kept-via .array)
 
-  via-piece : Piece 6 (bytes s (getD t 6 0))
+  pub via-piece : Piece 6 (bytes s (getD t 6 0))
   via-piece = value-piece s (shape a .x) (shape a .y) (via-where a .n) (getD t 6 0) (via-member a) (inr (inl opens))
 
-  unfoldable via-array : ViaItems (bytes s (getD t 6 0))
+  unfoldable pub via-array : ViaItems (bytes s (getD t 6 0))
   via-array = via-solid (bytes s (getD t 6 0)) via-piece kept-via
 
   -- before Via, and behind it
   abbrev ahead : List ℕ
   ahead = take (getD t 6 0) s
 
-  abbrev rest : List ℕ
+  abbrev pub rest : List ℕ
   rest = drop (behind s (getD t 6 0)) s
 
   ahead-long : length ahead ≡ getD t 6 0
@@ -66,14 +66,17 @@ module _ {s : List ℕ} {tag : ℕ} {t : List ℕ} (a : Accepted s tag t) where
       value-apart s (shape a .x) (shape a .y) (via-where a .n) (getD t 6 0) (via-member a)
       ∙ ap (λ (v : List ℕ). ahead ++ (v ++ rest)) (via-array .eq) ∙ ap (λ (l : List ℕ). ahead ++ (91 ∷ l)) (items-append (via-array .i) (via-array .is) rest)
 
-  drop-is : drop (getD t 6 0) s ≡ 91 ∷ items (via-array .i) (via-array .is) rest
+  pub drop-is : drop (getD t 6 0) s ≡ 91 ∷ items (via-array .i) (via-array .is) rest
   drop-is = ap (λ (n : ℕ). drop n s) (sym ahead-long) ∙ ap (drop (length ahead)) text-is ∙ drop-append-seam ahead (91 ∷ items (via-array .i) (via-array .is) rest)
 
-  objects-are : map (bytes s) (elements s (getD t 6 0)) ≡ values (via-array .i ∷ via-array .is)
+  pub objects-are : map (bytes s) (elements s (getD t 6 0)) ≡ values (via-array .i ∷ via-array .is)
   objects-are =
       ap (λ (l : List ℕ). map (bytes l) (elements l (getD t 6 0))) text-is
       ∙ ap (λ (n : ℕ). map (bytes (ahead ++ (91 ∷ items (via-array .i) (via-array .is) rest))) (elements (ahead ++ (91 ∷ items (via-array .i) (via-array .is) rest)) n)) (sym ahead-long)
       ∙ array-elements 5 ahead (via-array .i) (via-array .is) rest (via-array .solid)
+
+  pub items-are : map (bytes (bytes s (getD t 6 0))) (elements (bytes s (getD t 6 0)) 0) ≡ values (via-array .i ∷ via-array .is)
+  items-are = ap (λ (v : List ℕ). map (bytes v) (elements v 0)) (via-array .eq) ∙ array-elements 5 [] (via-array .i) (via-array .is) [] (via-array .solid)
 
   many-are : length (elements s (getD t 6 0)) ≡ length (values (via-array .i ∷ via-array .is))
   many-are = sym (length-map (elements s (getD t 6 0)) (bytes s)) ∙ ap length objects-are

@@ -4,12 +4,14 @@
 use Prim.Native.Nat.{ℕ, suc, _≤_}
 use Rattle.frame.proofs.ArrayEdits.{butLast}
 use Rattle.frame.proofs.Forwarding.{Changed}
-use Rattle.frame.specs.Edit.{prevOf, stopsOf, lastOf, added, removed}
+use Rattle.frame.specs.Edit.{added, removed}
+use Rattle.json.specs.Ends.{prevOf, stopsOf, lastOf}
 use Rattle.json.specs.Places.{bytes, behind, elements, part}
 use Rattle.message.specs.Hop.{hostOf}
 use Rattle.message.specs.Message.{settingOf, messageOf}
 use Rattle.message.specs.Reading.{reading}
 use Rattle.message.specs.declared.facts.Message.{Message}
+use Rattle.message.specs.declared.facts.Span.{Span}
 use Rattle.message.specs.declared.reading.Reading.the-variants.{Read}
 use Rattle.writing.proofs.AcceptedLaws.{Accepted, accepted-read, read-taken}
 use Rattle.writing.proofs.AlikeLaws.{SameFacts, same-bytes, alike-facts}
@@ -17,12 +19,14 @@ use Rattle.writing.proofs.ChangeLaws.{Again}
 use Rattle.writing.proofs.ForwardLaws.{forward-all, added-again, reduce-all, removed-again}
 use Rattle.writing.proofs.MemberLaws.{shape, via-where}
 use Rattle.writing.proofs.OutcomeLaws.{stood, Added, was-added, Taken, was-taken}
-use Rattle.writing.proofs.PartLaws.{host-there, lastIn, prior-last}
+use Rattle.writing.proofs.PartLaws.{lastIn, prior-last}
 use Rattle.writing.proofs.PutLaws.{halves}
+use Rattle.writing.proofs.RouteLaws.{route-passed}
+use Rattle.writing.proofs.WayLaws.{host-of}
 use Rattle.writing.specs.Adding.{entry, pathRule, adding}
 use Rattle.writing.specs.Outcome.{Outcome, answered, Wrote}
-use Rattle.writing.specs.Removing.{removing, hostStart, hostEnd, viaIn, shown, Took, nextHop}
-use Rattle.writing.specs.Route.{objects}
+use Rattle.writing.specs.Removing.{removing, hostIn, shown, Took, nextHop}
+use Rattle.writing.specs.Objects.{objects}
 use Rattle.writing.specs.declared.answers.Refusal.{Refusal}
 use Rattle.writing.specs.declared.answers.Removed.the-variants as removals
 use Rattle.writing.specs.declared.answers.Removed.{Removed}
@@ -136,26 +140,23 @@ returned-by s h d o w e l =
     subst (λ (x : List ℕ). Returned s (e .m) x) (sym q) (subst (λ (m : Message). Returned s m (removed s (getD t 6 0))) (a .is) f)
 
 -- what `remove` answers, and what it writes
-done-of : (s : List ℕ) (v : ℕ) (w : Written) (n a e : ℕ) → removals.Done n a e ≡ shown s v w → (w ≡ Done n) × ((a ≡ hostStart s (prevOf (elements s v))) × (e ≡ hostEnd s (prevOf (elements s v))))
-done-of s v (Done k) n a e q = (let z : k ≡ n = cc in ap Done z, ((let z : a ≡ hostStart s (prevOf (elements s v)) = cc in z), (let z : e ≡ hostEnd s (prevOf (elements s v)) = cc in z)))
-done-of s v (Refused r) n a e q = absurd (let z : _≡_ {A = ℕ} 0 1 = cc in omega arith)
+done-of : (h : Span) (w : Written) (n a e : ℕ) → removals.Done n a e ≡ shown h w → (w ≡ Done n) × ((a ≡ h .start) × (e ≡ h .end))
+done-of h (Done k) n a e q = (let z : k ≡ n = cc in ap Done z, ((let z : a ≡ h .start = cc in z), (let z : e ≡ h .end = cc in z)))
+done-of h (Refused r) n a e q = absurd (let z : _≡_ {A = ℕ} 0 1 = cc in omega arith)
 
-via-read : (s : List ℕ) (m : Message) → reading s ≡ Read m → viaIn (reading s) ≡ m .via
-via-read s m e = rw e
-
-pub took-wrote : {s : List ℕ} {v : ℕ} {o : List ℕ} {x : Outcome} {n a e : ℕ} {o′ : List ℕ} → Took o s v x (removals.Done n a e) o′ → Wrote o x (Done n) o′
-took-wrote {s} {v} {o} {x} {n} {a} {e} w = record { answer = sym (done-of s v (answered (length o) x) n a e (w .answer) .0); output = w .output }
+pub took-wrote : {h : Span} {o : List ℕ} {x : Outcome} {n a e : ℕ} {o′ : List ℕ} → Took o h x (removals.Done n a e) o′ → Wrote o x (Done n) o′
+took-wrote {h} {o} {x} {n} {a} {e} w = record { answer = sym (done-of h (answered (length o) x) n a e (w .answer) .0); output = w .output }
 
 -- THEOREM: what `remove` writes is the response less its last Via object, and the next host is that of the last one left
-pub remove-returns : (s h d g : List ℕ) {o : List ℕ} {n a e : ℕ} {o′ : List ℕ} → Took o s (viaIn (reading s)) (removing s h d g) (removals.Done n a e) o′ → (m : Message) × ((reading s ≡ Read m) × (Returned s m (take n o′) × (nextHop s (removals.Done n a e) ≡ hostOf (lastIn (objects (take n o′) (m .via))))))
+pub remove-returns : (s h d g : List ℕ) {o : List ℕ} {n a e : ℕ} {o′ : List ℕ} → Took o (hostIn (reading s)) (removing s h d g) (removals.Done n a e) o′ → (m : Message) × ((reading s ≡ Read m) × (Returned s m (take n o′) × (nextHop s (removals.Done n a e) ≡ hostOf (lastIn (objects (take n o′) (m .via))))))
 remove-returns s h d g {o} {n} {a} {e} {o′} w =
-    let q = done-of s (viaIn (reading s)) (answered (length o) (removing s h d g)) n a e (w .answer) in
+    let q = done-of (hostIn (reading s)) (answered (length o) (removing s h d g)) n a e (w .answer) in
     let x = stood (took-wrote w) in
     let k = was-taken s h d g (x .w) (x .is) in
     let r = subst (λ (z : List ℕ). Returned s (k .m) z) (sym (x .front)) (returned-by s h d g (x .w) k (x .short)) in
-    let v = via-read s (k .m) (k .read) in
-    let p = prevOf (elements s (k .m .via)) in
-    let f : part s a e ≡ hostOf (bytes s p) = ap (λ (i : ℕ). part s i e) (q .1 .0 ∙ ap (λ (j : ℕ). hostStart s (prevOf (elements s j))) v) ∙ ap (λ (i : ℕ). part s (hostStart s p) i) (q .1 .1 ∙ ap (λ (j : ℕ). hostEnd s (prevOf (elements s j))) v) ∙ host-there s p in
+    let v = host-of s (k .m) (k .read) in
+    let p = route-passed s (k .m) (k .read) (omega (arith, k .response)) in
+    let f : part s a e ≡ hostOf (bytes s (prevOf (elements s (k .m .via)))) = ap (λ (i : ℕ). part s i e) (q .1 .0 ∙ ap (λ (j : Span). j .start) v) ∙ ap (part s (k .m .route .host .start)) (q .1 .1 ∙ ap (λ (j : Span). j .end) v) ∙ p .host (omega (arith, k .two, p .count)) in
     (k .m, (k .read, (r, f ∙ ap hostOf (sym (ap lastIn (r .objects) ∙ prior-last (bytes s) (elements s (k .m .via)) (k .two))))))
 
 -- THEOREM: on refusal the part is empty
@@ -166,7 +167,7 @@ refused-empty s r = refl
 pub wrote-determined : {o : List ℕ} {x : Outcome} {r₁ r₂ : Written} {o₁ o₂ : List ℕ} → Wrote o x r₁ o₁ → Wrote o x r₂ o₂ → (r₁ ≡ r₂) × (o₁ ≡ o₂)
 wrote-determined a b = (a .answer ∙ sym (b .answer), a .output ∙ sym (b .output))
 
-pub took-determined : {o s : List ℕ} {v : ℕ} {x : Outcome} {r₁ r₂ : Removed} {o₁ o₂ : List ℕ} → Took o s v x r₁ o₁ → Took o s v x r₂ o₂ → (r₁ ≡ r₂) × (o₁ ≡ o₂)
+pub took-determined : {o : List ℕ} {h : Span} {x : Outcome} {r₁ r₂ : Removed} {o₁ o₂ : List ℕ} → Took o h x r₁ o₁ → Took o h x r₂ o₂ → (r₁ ≡ r₂) × (o₁ ≡ o₂)
 took-determined a b = (a .answer ∙ sym (b .answer), a .output ∙ sym (b .output))
 
 pub next-hop-determined : (s : List ℕ) (r : Removed) {p₁ p₂ : List ℕ} → p₁ ≡ nextHop s r → p₂ ≡ nextHop s r → p₁ ≡ p₂

@@ -9,15 +9,19 @@ use Rattle.frame.proofs.Standing.{Val, Piece, piece-bytes}
 use Rattle.frame.proofs.Written.{Named, body-append}
 use Rattle.json.proofs.Listing.{Item, items, values, readAll, at-byte, at-next, ws-44, ws-93, more-on, more-off, item-read, elements-at, array-long, object-read}
 use Rattle.json.proofs.ScanLaws.{Opener, Opened}
-use Rattle.json.specs.Places.{bytes, past, follows, members, elementsFrom, elements, spell}
-use Rattle.message.specs.Value.{isArray}
-use Rattle.message.specs.Via.{isHop, viaRule}
+use Rattle.json.specs.Places.{behind, bytes, past, follows, members, elementsFrom, elements, spell}
+use Rattle.message.proofs.GatherLaws.{there}
+use Rattle.message.specs.Hop.{hopOf, hostOf}
+use Rattle.message.specs.Spans.{textAt}
+use Rattle.message.specs.Value.{isArray, isString, textOf, freely, ruled}
+use Rattle.message.specs.Via.{hopPlaces, hopRule, isHop, viaRule}
 use Rattle.octets.proofs.ClassLaws.{among-in, in-among}
 use Rattle.octets.proofs.TextLaws.{and-parts}
 use Rattle.octets.specs.Class.{among, all}
 use Rattle.rules.specs.Names.{hopMembers}
-use Rattle.writing.proofs.EntryLaws.{HopBy, hop-pairs, pairs-hop}
-use Rattle.writing.proofs.PairLaws.{found}
+use Rattle.writing.proofs.ChangeLaws.{first-byte}
+use Rattle.writing.proofs.EntryLaws.{HopBy, hop-few, hop-pairs, pairs-hop}
+use Rattle.writing.proofs.PairLaws.{found, valueIn, late-members, by-once, noted-by}
 use borrow.Author.Tests.{eq-eqb, eqb-true}
 use lib.Dec.{eqb}
 use lib.ListN.{length, getD, drop, length-map}
@@ -113,6 +117,38 @@ module _ (d : ℕ) (s : List ℕ) (q : ℕ) (w : Stands d s q) where
       let g : isHop (w .v) 0 ≡ true = rw own-bytes at h in
       let b = braced (w .v) (hop-pairs (w .v) 0 g .0) in
       as-hop d (b .0) (w .t) s q (subst (Piece d) (b .1) (w .piece)) (w .is ∙ ap (λ (v : List ℕ). v ++ w .t) (b .1)) (subst (λ (v : List ℕ). isHop v 0 ≡ true) (b .1) g)
+
+-- The host's value, found in a text and in the object by itself.
+host-value : (s : List ℕ) (q : ℕ) → HopBy (map (spell s) (members s q)) → bytes s (getD (hopPlaces s q) 1 0) ≡ valueIn hopMembers 1 (map (spell s) (members s q))
+unfolding hopPlaces
+host-value s q b = noted-by hopMembers hop-few s (members s q) 1 (late-members s q) (omega arith) (b .once) (b .there 1 (omega arith) (omega arith)) .1
+
+host-as : (v : List ℕ) → HopBy (map (spell v) (members v 0)) → hostOf v ≡ textOf (valueIn hopMembers 1 (map (spell v) (members v 0)))
+unfolding hostOf hopOf textAt
+host-as v b = rw (by-once hopMembers hop-few v (members v 0) (b .once)) (ap textOf (host-value v 0 b))
+
+string-there : (s : List ℕ) (p : ℕ) (n : ℕ) → ruled (hopRule n) (bytes s p) ≡ true → p < length s
+unfolding ruled freely isString
+string-there s p n e = there s p 33 (first-byte s p (behind s p) 33 (eqb-true _ 34 (and-parts (eqb (getD (bytes s p) 0 0) 34) _ e .0)))
+
+module _ (d : ℕ) (s : List ℕ) (q : ℕ) (w : Stands d s q) (h : isHop s q ≡ true) where
+  host-by : (r : List ℕ) → w .v ≡ 123 ∷ r → textAt s (getD (hopPlaces s q) 1 0) ≡ hostOf (w .v)
+  unfolding textAt
+  host-by r e =
+      let b = hop-pairs s q h .1 in
+      let i : drop q s ≡ (123 ∷ r) ++ w .t = w .is ∙ ap (λ (v : List ℕ). v ++ w .t) e in
+      let n = full s r (w .t) q i (not-none s q 0 (some-there s (members s q) (b .there 1 (omega arith) (omega arith)))) in
+      let o = own-read d r (subst (Piece d) e (w .piece)) n s (w .t) q i in
+      ap textOf (host-value s q b ∙ ap (valueIn hopMembers 1) o) ∙ sym (ap hostOf e ∙ host-as (123 ∷ r) (subst HopBy o b))
+
+  -- the host, wherever the object stands
+  pub host-own : textAt s (getD (hopPlaces s q) 1 0) ≡ hostOf (bytes s q)
+  host-own =
+      let b = braced (w .v) (front-byte (w .v) (w .t) s q (w .piece .opened) (w .is) ∙ hop-pairs s q h .0) in
+      rw (own-bytes d s q w) (host-by (b .0) (b .1))
+
+  pub host-there : getD (hopPlaces s q) 1 0 < length s
+  host-there = let b = hop-pairs s q h .1 in string-there s (getD (hopPlaces s q) 1 0) 1 (rw (host-value s q b) (b .kept 1 (omega arith) (omega arith)))
 
 -- Objects of Via, each by its own bytes.
 abbrev pub AllHops : List (List ℕ) → Type 0

@@ -1,6 +1,7 @@
 -- What a writing that is done tells: it was not refused, and its result stands at the front of the output. Assumes nothing.
 use Prim.Native.Nat.{ℕ, _≤_}
-use Rattle.frame.specs.Edit.{lastOf, added, removed}
+use Rattle.frame.specs.Edit.{added, removed}
+use Rattle.json.specs.Ends.{lastOf}
 use Rattle.json.specs.Places.{bytes, elements}
 use Rattle.message.specs.Reading.{reading}
 use Rattle.message.specs.declared.facts.Message.{Message}
@@ -13,7 +14,7 @@ use Rattle.writing.specs.Adding.{entry, pathRule, addTo, adding}
 use Rattle.writing.specs.Outcome.{Outcome, refuse, write, choose, either, onRead, fitted, answered, put, left, Wrote}
 use Rattle.writing.specs.Removing.{removeFrom, removing}
 use Rattle.writing.specs.Reply.{replyOf, unanswered, wrongCode, replyTo, replying}
-use Rattle.writing.specs.Route.{isOurs, some, objects}
+use Rattle.writing.specs.Objects.{isOurs, some, objects}
 use Rattle.writing.specs.declared.answers.Refusal.the-variants.{Path, Kind, Code, Date, Loop, Full, Few, Foreign, Long, Room}
 use Rattle.writing.specs.declared.answers.Refusal.{Refusal}
 use Rattle.writing.specs.declared.answers.Written.the-variants.{Done, Refused}

@@ -1,16 +1,12 @@
--- Parts of parts: the host of an object of Via stands in the message where `remove` says. Assumes nothing.
+-- Parts of parts: a part of a value stands in the message where the value does; and the last but one of a list. Assumes nothing.
 use Prim.Native.Nat.{ℕ, zero, suc, _+_, _-_, _≤_}
 use Rattle.frame.proofs.ArrayEdits.{butLast}
-use Rattle.frame.specs.Edit.{prevOf}
-use Rattle.json.specs.Places.{part, bytes, raw, closing, behind}
-use Rattle.message.specs.Hop.{hopOf, hostOf}
-use Rattle.message.specs.Message.{textAt}
-use Rattle.message.specs.Value.{textOf}
-use Rattle.writing.specs.Removing.{hostStart, hostEnd}
+use Rattle.json.specs.Ends.{prevOf}
+use Rattle.json.specs.Places.{part, bytes, behind}
 use borrow.Author.Tests.{leb-true, leb-false}
 use lib.Dec.{leb}
-use lib.ListN.{length, take, drop, length-take}
-use lib.Seq.{drop-drop, take-all, take-take}
+use lib.ListN.{length, take, drop, length-take, length-drop}
+use lib.Seq.{drop-drop, take-all, take-take, length-take-le}
 use mathlib.Core.Bool.{Bool, true, false}
 use mathlib.Core.List.{List, [], _∷_, map}
 use mathlib.Core.Path.{_≡_, refl, sym, ap, _∙_}
@@ -63,17 +59,15 @@ bytes-front : (s : List ℕ) (q : ℕ) → Front (bytes s q) (drop q s)
 unfolding part
 bytes-front s q = record { k = behind s q - q; is = refl }
 
--- where the host stands in the message is where it stands in its object
-pub host-there : (s : List ℕ) (q : ℕ) → part s (hostStart s q) (hostEnd s q) ≡ hostOf (bytes s q)
-unfolding part hostStart hostEnd hostOf textAt textOf raw
-host-there s q =
-    let x = bytes s q in
-    let h = hopOf x .host in
-    let y = bytes x h in
-    let f : Front (part y (0 + 1) (closing y 0)) (drop (q + h + (0 + 1)) s) = part-front (q + h) (closing y 0) (0 + 1) y s (part-front q (behind x h) h x s (bytes-front s q)) in
-    let u = part y (0 + 1) (closing y 0) in
-    let z : q + h + 1 + length u - (q + h + 1) ≡ length u = omega arith in
-    ap (λ (n : ℕ). take n (drop (q + h + 1) s)) z ∙ front-own u (drop (q + h + (0 + 1)) s) f
+-- a part of a value is a part of the message
+pub part-within : (s : List ℕ) (v a e : ℕ) → e ≤ length (bytes s v) → part s (v + a) (v + e) ≡ part (bytes s v) a e
+unfolding part
+part-within s v a e h =
+    let x = bytes s v in
+    let f = part-front v e a x s (bytes-front s v) in
+    let l : length (take (e - a) (drop a x)) ≡ e - a = length-take-le (e - a) (drop a x) (omega (arith, length-drop a x)) in
+    let z : v + e - (v + a) ≡ length (take (e - a) (drop a x)) = omega arith in
+    ap (λ (n : ℕ). take n (drop (v + a) s)) z ∙ front-own (take (e - a) (drop a x)) (drop (v + a) s) f
 
 -- the last of these, and the last of all but the last
 unfoldable pub lastIn : List (List ℕ) → List ℕ

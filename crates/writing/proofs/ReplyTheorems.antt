@@ -11,7 +11,8 @@ use Rattle.json.specs.Places.{bytes, valueOf, members, elements}
 use Rattle.message.specs.Checks.{lacks, breaks}
 use Rattle.message.specs.Field.{byKind, statusField, keeps, textRule}
 use Rattle.message.specs.Known.{empty, noted}
-use Rattle.message.specs.Message.{textAt, methodOf, numberOf, fromCaller, toCaller, codeOf, settingOf, sidesDisagree, responseDisagrees, disagrees, messageOf}
+use Rattle.message.specs.Message.{methodOf, numberOf, fromCaller, toCaller, codeOf, settingOf, sidesDisagree, responseDisagrees, disagrees, messageOf}
+use Rattle.message.specs.Spans.{textAt}
 use Rattle.message.specs.Reading.{reading}
 use Rattle.message.specs.Shape.{objectOf}
 use Rattle.message.specs.Value.{isString, textOf, freely, ruled}
@@ -43,9 +44,9 @@ use Rattle.writing.proofs.ReplyLaws.{status₇, rest₇, Shown, reply-s
 use Rattle.writing.proofs.WordLaws.{date-plain, status-plain, status-kept, status-code}
 use Rattle.writing.specs.Adding.{entry, adding}
 use Rattle.writing.specs.Outcome.{write, Wrote}
-use Rattle.writing.specs.Removing.{removing, viaIn, Took}
+use Rattle.writing.specs.Removing.{removing, hostIn, Took}
 use Rattle.writing.specs.Reply.{replyText, replyOf, wrongCode, replying}
-use Rattle.writing.specs.Route.{objects}
+use Rattle.writing.specs.Objects.{objects}
 use Rattle.writing.specs.declared.answers.Removed.the-variants as removals
 use Rattle.writing.specs.declared.answers.Written.the-variants.{Done}
 use borrow.Author.Tests.{ne-eqb, ltb-true, ltb-false, not-false}
@@ -422,7 +423,7 @@ reply-less-ours s h d g code date s′ w′ w w₀ e₁ l₁ e₂ l₂ e₃ e₄
     ∙ reply-split (statusText code) (bytes s (m .cseq)) (bytes s (m .to)) (bytes s (m .from)) (bytes s (m .call)) date (bytes s (m .via)) ∙ sym (k .is ∙ ap (λ (j : Message). replyOf s j code date) v)
 
 -- the same of what the functions write
-pub returned-reply : (s h d g : List ℕ) (code : ℕ) (date : List ℕ) {o₁ o₂ o₃ o₄ : List ℕ} {n₁ n₂ n₃ n₄ a e : ℕ} {p₁ p₂ p₃ p₄ : List ℕ} → Wrote o₁ (adding s h d g) (Done n₁) p₁ → Wrote o₂ (replying (take n₁ p₁) code date) (Done n₂) p₂ → Took o₃ (take n₂ p₂) (viaIn (reading (take n₂ p₂))) (removing (take n₂ p₂) h d g) (removals.Done n₃ a e) p₃ → Wrote o₄ (replying s code date) (Done n₄) p₄ → take n₃ p₃ ≡ take n₄ p₄
+pub returned-reply : (s h d g : List ℕ) (code : ℕ) (date : List ℕ) {o₁ o₂ o₃ o₄ : List ℕ} {n₁ n₂ n₃ n₄ a e : ℕ} {p₁ p₂ p₃ p₄ : List ℕ} → Wrote o₁ (adding s h d g) (Done n₁) p₁ → Wrote o₂ (replying (take n₁ p₁) code date) (Done n₂) p₂ → Took o₃ (hostIn (reading (take n₂ p₂))) (removing (take n₂ p₂) h d g) (removals.Done n₃ a e) p₃ → Wrote o₄ (replying s code date) (Done n₄) p₄ → take n₃ p₃ ≡ take n₄ p₄
 returned-reply s h d g code date {o₁} {o₂} {o₃} {o₄} {n₁} {n₂} {n₃} {n₄} {a} {e} {p₁} {p₂} {p₃} {p₄} w₁ w₂ w₃ w₄ =
     let x₁ = written-front w₁ in
     let x₂ = written-front w₂ in

@@ -1,95 +1,185 @@
--- The walk over the objects of Via, one object at a time: what is found so far, and that the rest decides the rest. Assumes nothing.
+-- The route of an accepted message is that of its Via where it stands (`route-passed`); and the walk that asks whether one of its objects is ours.
+-- Assumes nothing.
 use Prim.Native.Nat.{ℕ, _+_, _≤_}
-use Rattle.frame.specs.Edit.{lastOf, prevOf, stopsOf}
-use Rattle.json.specs.Places.{bytes, behind, elements}
-use Rattle.writing.specs.Route.{isOurs, some, Routed}
-use Rattle.writing.specs.declared.routes.Route.{Route}
-use lib.ListN.{length}
-use mathlib.Core.Bool.{Bool, true, false, _||_}
+use Rattle.frame.proofs.ArrayEdits.{butLast, solid-goods}
+use Rattle.frame.proofs.Standing.{Val}
+use Rattle.json.proofs.Listing.{Item, startsAt, stopsAt, array-starts, array-stops}
+use Rattle.json.specs.Ends.{lastOf, prevOf, stopsOf}
+use Rattle.json.specs.Places.{part, bytes, behind, elements}
+use Rattle.message.proofs.RouteLaws.{host-within}
+use Rattle.message.proofs.TextLaws.{there-cut}
+use Rattle.message.specs.Hop.{hostOf}
+use Rattle.message.specs.Message.{settingOf, messageOf}
+use Rattle.message.specs.Parties.{cut}
+use Rattle.message.specs.Reading.{reading}
+use Rattle.message.specs.Route.{hostSpan, hostStart, hostEnd, routeOf, routeIn, moved}
+use Rattle.message.specs.Via.{hopPlaces, isHop}
+use Rattle.message.specs.declared.facts.Message.{Message}
+use Rattle.message.specs.declared.facts.Route.{Route}
+use Rattle.message.specs.declared.reading.Reading.the-variants.{Read}
+use Rattle.octets.proofs.TextLaws.{and-parts}
+use Rattle.octets.specs.Class.{all}
+use Rattle.writing.proofs.AcceptedLaws.{Accepted, read-taken}
+use Rattle.writing.proofs.ForwardLaws.{kept-via, via-array, rest, drop-is, objects-are, items-are}
+use Rattle.writing.proofs.ObjectLaws.{Stands, AllStand, array-stand, host-own, host-there, via-is}
+use Rattle.writing.proofs.PartLaws.{lastIn, prior-last, part-within}
+use Rattle.writing.specs.Objects.{some}
+use lib.ListN.{length, getD, length-map}
+use mathlib.Core.Bool.{Bool, true, false}
 use mathlib.Core.List.{List, [], _∷_, map}
-use mathlib.Core.Path.{_≡_, refl, sym, _∙_}
+use mathlib.Core.Path.{_≡_, refl, sym, ap, _∙_}
 use native.Mathlib.Omega.{arith}
 
--- what is found, with the objects qs still to come
-pub record Sofar (s : List ℕ) (v : ℕ) (host destination : List ℕ) (r : Route) (qs : List ℕ) : Type 0 where
-  pub count : length (elements s v) ≡ r .count + length qs
-  pub last : lastOf (elements s v) ≡ lastOf (r .last ∷ qs)
-  pub prior : prevOf (elements s v) ≡ prevOf (r .prior ∷ (r .last ∷ qs))
-  pub end : lastOf (stopsOf s v) ≡ lastOf (r .end ∷ map (behind s) qs)
-  pub seam : prevOf (stopsOf s v) ≡ prevOf (r .seam ∷ (r .end ∷ map (behind s) qs))
-  pub met : some (isOurs host destination) (map (bytes s) (elements s v)) ≡ (r .met || some (isOurs host destination) (map (bytes s) qs))
-  pub inside : (r .last ≤ length s) × (r .prior ≤ length s)
+-- The last of a list, and the last but one.
 
--- no object yet
-abbrev pub Fresh : Route → Type 0
-Fresh r = (r .count ≡ 0) × ((r .last ≡ 0) × ((r .prior ≡ 0) × ((r .end ≡ 0) × ((r .seam ≡ 0) × (r .met ≡ false)))))
-
-last-from : (x : ℕ) (qs : List ℕ) → x ≡ 0 → lastOf qs ≡ lastOf (x ∷ qs)
+last-map : (f : ℕ → ℕ) (xs : List ℕ) → 1 ≤ length xs → lastOf (map f xs) ≡ f (lastOf xs)
 unfolding lastOf
-last-from x [] e = sym e
-last-from x (q ∷ qs) e = refl
+last-map f [] h = absurd (omega arith)
+last-map f (x ∷ []) h = refl
+last-map f (x ∷ (y ∷ ys)) h = last-map f (y ∷ ys) (omega arith)
 
-prev-from : (x y : ℕ) (qs : List ℕ) → x ≡ 0 → y ≡ 0 → prevOf qs ≡ prevOf (x ∷ (y ∷ qs))
+prev-map : (f : ℕ → ℕ) (xs : List ℕ) → 2 ≤ length xs → prevOf (map f xs) ≡ f (prevOf xs)
 unfolding prevOf
-prev-from x y [] e f = sym e
-prev-from x y (q ∷ []) e f = sym f
-prev-from x y (q ∷ (p ∷ qs)) e f = refl
+prev-map f [] h = absurd (omega arith)
+prev-map f (x ∷ []) h = absurd (omega arith)
+prev-map f (x ∷ (y ∷ [])) h = refl
+prev-map f (x ∷ (y ∷ (z ∷ zs))) h = prev-map f (y ∷ (z ∷ zs)) (omega arith)
 
-module _ (s : List ℕ) (v : ℕ) (host destination : List ℕ) where
-  pub begun : (r : Route) (qs : List ℕ) → Fresh r → elements s v ≡ qs → Sofar s v host destination r qs
-  unfolding stopsOf
-  begun r qs f e = record {
-    count = rw (f .0, e) (omega arith);
-    last = rw e (last-from (r .last) qs (f .1 .0));
-    prior = rw e (prev-from (r .prior) (r .last) qs (f .1 .1 .0) (f .1 .0));
-    end = rw e (last-from (r .end) (map (behind s) qs) (f .1 .1 .1 .0));
-    seam = rw e (prev-from (r .seam) (r .end) (map (behind s) qs) (f .1 .1 .1 .1 .0) (f .1 .1 .1 .0));
-    met = rw (f .1 .1 .1 .1 .1, e);
-    inside = (omega (arith, f .1 .0), omega (arith, f .1 .1 .0));
+stands-prev : (d : ℕ) (s qs : List ℕ) → 2 ≤ length qs → AllStand d s qs → Stands d s (prevOf qs)
+unfolding prevOf
+stands-prev d s [] h a = absurd (omega arith)
+stands-prev d s (x ∷ []) h a = absurd (omega arith)
+stands-prev d s (x ∷ (y ∷ [])) h a = a .0
+stands-prev d s (x ∷ (y ∷ (z ∷ zs))) h a = stands-prev d s (y ∷ (z ∷ zs)) (omega arith) (a .1)
+
+all-prev : (f : ℕ → Bool) (qs : List ℕ) → 2 ≤ length qs → all f qs ≡ true → f (prevOf qs) ≡ true
+unfolding prevOf all
+all-prev f [] h a = absurd (omega arith)
+all-prev f (x ∷ []) h a = absurd (omega arith)
+all-prev f (x ∷ (y ∷ [])) h a = and-parts (f x) _ a .0
+all-prev f (x ∷ (y ∷ (z ∷ zs))) h a = all-prev f (y ∷ (z ∷ zs)) (omega arith) (and-parts (f x) _ a .1)
+
+-- The items of an array, v places further on.
+
+starts-moved : (v a b : ℕ) (i : Item) (is : List Item) → b ≡ v + a → startsAt b i is ≡ map (λ (n : ℕ). v + n) (startsAt a i is)
+unfolding startsAt
+starts-moved v a b i [] e = ap (λ (n : ℕ). n ∷ []) (let z : b + length (i .w) ≡ v + (a + length (i .w)) = omega (arith, e) in z)
+starts-moved v a b i (j ∷ js) e =
+    let x : b + length (i .w) ≡ v + (a + length (i .w)) = omega (arith, e) in
+    let y : b + length (i .w) + length (i .v) + length (i .u) + 1 ≡ v + (a + length (i .w) + length (i .v) + length (i .u) + 1) = omega (arith, e) in
+    ap (λ (n : ℕ). n ∷ startsAt (b + length (i .w) + length (i .v) + length (i .u) + 1) j js) x ∙ ap (λ (l : List ℕ). (v + (a + length (i .w))) ∷ l) (starts-moved v (a + length (i .w) + length (i .v) + length (i .u) + 1) _ j js y)
+
+stops-moved : (v a b : ℕ) (i : Item) (is : List Item) → b ≡ v + a → stopsAt b i is ≡ map (λ (n : ℕ). v + n) (stopsAt a i is)
+unfolding stopsAt
+stops-moved v a b i [] e = ap (λ (n : ℕ). n ∷ []) (let z : b + length (i .w) + length (i .v) ≡ v + (a + length (i .w) + length (i .v)) = omega (arith, e) in z)
+stops-moved v a b i (j ∷ js) e =
+    let x : b + length (i .w) + length (i .v) ≡ v + (a + length (i .w) + length (i .v)) = omega (arith, e) in
+    let y : b + length (i .w) + length (i .v) + length (i .u) + 1 ≡ v + (a + length (i .w) + length (i .v) + length (i .u) + 1) = omega (arith, e) in
+    ap (λ (n : ℕ). n ∷ stopsAt (b + length (i .w) + length (i .v) + length (i .u) + 1) j js) x ∙ ap (λ (l : List ℕ). (v + (a + length (i .w) + length (i .v))) ∷ l) (stops-moved v (a + length (i .w) + length (i .v) + length (i .u) + 1) _ j js y)
+
+-- r is the route of the Via that opens at v in s
+pub record Passed (s : List ℕ) (v : ℕ) (r : Route) : Type 0 where
+  pub count : r .count ≡ length (elements s v)
+  pub last : r .last ≡ lastOf (elements s v)
+  pub end : r .end ≡ lastOf (stopsOf s v)
+  pub seam : 2 ≤ r .count → r .seam ≡ prevOf (stopsOf s v)
+  pub host : 2 ≤ r .count → part s (r .host .start) (r .host .end) ≡ hostOf (bytes s (prevOf (elements s v)))
+
+module _ {s : List ℕ} {tag : ℕ} {t : List ℕ} (a : Accepted s tag t) where
+  abbrev at : ℕ
+  at = getD t 6 0
+
+  abbrev via : List ℕ
+  via = bytes s at
+
+  abbrev onward : ℕ → ℕ
+  onward n = at + n
+
+  -- the objects of Via by itself, and where they stand in the message
+  elements-moved : elements s at ≡ map onward (elements via 0)
+  elements-moved =
+      let w = via-array a in
+      let g = solid-goods 5 (w .i) (w .is) (w .solid) in
+      array-starts (Val 5) (λ v q x. x .sized) s at (w .i) (w .is) (rest a) g (drop-is a)
+      ∙ starts-moved at 1 (at + 1) (w .i) (w .is) refl
+      ∙ ap (map onward) (sym (array-starts (Val 5) (λ v q x. x .sized) via 0 (w .i) (w .is) [] g (w .eq)))
+
+  ends-moved : map (behind s) (elements s at) ≡ map onward (map (behind via) (elements via 0))
+  ends-moved =
+      let w = via-array a in
+      let g = solid-goods 5 (w .i) (w .is) (w .solid) in
+      array-stops (Val 5) (λ v q x. x .sized) s at (w .i) (w .is) (rest a) g (drop-is a)
+      ∙ stops-moved at 1 (at + 1) (w .i) (w .is) refl
+      ∙ ap (map onward) (sym (array-stops (Val 5) (λ v q x. x .sized) via 0 (w .i) (w .is) [] g (w .eq)))
+
+  objects-same : map (bytes s) (elements s at) ≡ map (bytes via) (elements via 0)
+  objects-same = objects-are a ∙ sym (items-are a)
+
+  many : length (elements s at) ≡ length (elements via 0)
+  many = ap length elements-moved ∙ length-map (elements via 0) onward
+
+  some-here : 1 ≤ length (elements via 0)
+  some-here = via-is via (kept-via a) .many .0
+
+  -- the host of the last but one
+  module _ (two : 2 ≤ length (elements via 0)) where
+    abbrev q : ℕ
+    q = prevOf (elements via 0)
+
+    hop : isHop via q ≡ true
+    hop = all-prev (isHop via) (elements via 0) two (via-is via (kept-via a) .hops)
+
+    stands : Stands 5 via q
+    stands = let w = via-array a in stands-prev 5 via (elements via 0) two (array-stand 5 via 0 (w .i) (w .is) [] (w .solid) (w .eq))
+
+    object-same : bytes via q ≡ bytes s (prevOf (elements s at))
+    object-same = sym (prior-last (bytes via) (elements via 0) two) ∙ ap (λ (l : List (List ℕ)). lastIn (butLast l)) (sym objects-same) ∙ prior-last (bytes s) (elements s at) (omega (arith, many, two))
+
+    host-cut : part via (hostStart via q) (hostEnd via q) ≡ hostOf (bytes via q)
+    unfolding hostSpan cut
+    host-cut = there-cut via (getD (hopPlaces via q) 1 0) (host-there 5 via q stands hop) ∙ host-own 5 via q stands hop
+
+    host-part : part s (at + prevOf (map (hostStart via) (elements via 0))) (at + prevOf (map (hostEnd via) (elements via 0))) ≡ hostOf (bytes s (prevOf (elements s at)))
+    host-part =
+        rw (prev-map (hostStart via) (elements via 0) two, prev-map (hostEnd via) (elements via 0) two)
+        (part-within s at (hostStart via q) (hostEnd via q) (host-within via q .1) ∙ host-cut ∙ ap hostOf object-same)
+
+  route-here : Passed s at (moved at (routeOf via (elements via 0)))
+  unfolding moved routeOf stopsOf
+  route-here = record {
+    count = sym many;
+    last = sym (ap lastOf elements-moved ∙ last-map onward (elements via 0) some-here);
+    end = sym (ap lastOf ends-moved ∙ last-map onward (map (behind via) (elements via 0)) (omega (arith, some-here, length-map (elements via 0) (behind via))));
+    seam = λ two. sym (ap prevOf ends-moved ∙ prev-map onward (map (behind via) (elements via 0)) (omega (arith, two, length-map (elements via 0) (behind via))));
+    host = λ two. host-part two;
   }
 
--- one object more, as `onward` answers
-abbrev pub Onward : Route → ℕ → ℕ → Bool → Route → Type 0
-Onward r q e ours n = (n .count ≡ r .count + 1) × ((n .last ≡ q) × ((n .prior ≡ r .last) × ((n .end ≡ e) × ((n .seam ≡ r .end) × (n .met ≡ (r .met || ours))))))
+  route-found : Passed s at (moved at (routeIn via))
+  unfolding routeIn
+  route-found = rw (kept-via a) route-here
 
-or-assoc : (a b c : Bool) → (a || (b || c)) ≡ ((a || b) || c)
-or-assoc true b c = refl
-or-assoc false b c = refl
+  route-read : Passed s (messageOf s (settingOf s tag t) t .via) (messageOf s (settingOf s tag t) t .route)
+  unfolding messageOf
+  route-read = route-found
 
-last-skip : (x y : ℕ) (qs : List ℕ) → lastOf (x ∷ (y ∷ qs)) ≡ lastOf (y ∷ qs)
-unfolding lastOf
-last-skip x y qs = refl
+-- what the reading says of a request's or a response's Via
+pub route-passed : (s : List ℕ) (m : Message) → reading s ≡ Read m → m .tag ≤ 2 → Passed s (m .via) (m .route)
+route-passed s m e l = let a = read-taken s m e l in rw (← (a .is)) (route-read (a .accepted))
 
-prev-skip : (x y z : ℕ) (qs : List ℕ) → prevOf (x ∷ (y ∷ (z ∷ qs))) ≡ prevOf (y ∷ (z ∷ qs))
-unfolding prevOf
-prev-skip x y z qs = refl
+-- Whether one object of those is ours: the objects qs of s are still to come.
 
-module _ {s : List ℕ} {v : ℕ} {host destination : List ℕ} {r : Route} {qs : List ℕ} (f : Sofar s v host destination r qs) where
-  pub one-on : (q : ℕ) (rest : List ℕ) {e : ℕ} {x : List ℕ} {ours : Bool} {n : Route} → qs ≡ q ∷ rest → q ≤ length s → e ≡ behind s q → x ≡ bytes s q → ours ≡ isOurs host destination x → Onward r q e ours n → Sofar s v host destination n rest
+pub own-part : (s : List ℕ) (q : ℕ) {e : ℕ} {x : List ℕ} → e ≡ behind s q → x ≡ part s q e → x ≡ bytes s q
+own-part s q f g = g ∙ rw f
+
+pub some-none : (f : List ℕ → Bool) (s : List ℕ) {qs : List ℕ} → qs ≡ [] → false ≡ some f (map (bytes s) qs)
+unfolding some
+some-none f s e = rw e
+
+module _ (f : List ℕ → Bool) (s : List ℕ) (q : ℕ) (more : List ℕ) {qs : List ℕ} (e : qs ≡ q ∷ more) {x : List ℕ} (g : x ≡ bytes s q) {b : Bool} (h : b ≡ f x) where
+  pub some-now : b ≡ true → true ≡ some f (map (bytes s) qs)
   unfolding some
-  one-on q rest {e} {x} {ours} {n} g l h i j o = record {
-    count = f .count ∙ rw (g, o .0) (omega arith);
-    last = f .last ∙ rw (g, o .1 .0) (last-skip (r .last) q rest);
-    prior = f .prior ∙ rw (g, o .1 .0, o .1 .1 .0) (prev-skip (r .prior) (r .last) q rest);
-    end = f .end ∙ rw (g, o .1 .1 .1 .0, h) (last-skip (r .end) (behind s q) (map (behind s) rest));
-    seam = f .seam ∙ rw (g, o .1 .1 .1 .1 .0, o .1 .1 .1 .0, h) (prev-skip (r .seam) (r .end) (behind s q) (map (behind s) rest));
-    met = f .met ∙ rw (g, o .1 .1 .1 .1 .1, j, i) (or-assoc (r .met) (isOurs host destination (bytes s q)) (some (isOurs host destination) (map (bytes s) rest)));
-    inside = (omega (arith, o .1 .0), omega (arith, o .1 .1 .0, f .inside .0));
-  }
+  some-now k = let z : f (bytes s q) ≡ true = ap f (sym g) ∙ sym h ∙ k in rw (e, z)
 
-  or-none : (b : Bool) → b ≡ (b || false)
-  or-none true = refl
-  or-none false = refl
-
-  -- no object is left
-  pub over : qs ≡ [] → Routed s v host destination r
-  unfolding lastOf prevOf some
-  over g = record {
-    count = sym (f .count ∙ rw g (omega arith));
-    last = sym (f .last ∙ rw g);
-    prior = sym (f .prior ∙ rw g);
-    end = sym (f .end ∙ rw g);
-    seam = sym (f .seam ∙ rw g);
-    met = sym (f .met ∙ rw g (sym (or-none (r .met))));
-    inside = f .inside .1;
-  }
+  pub some-later : b ≡ false → some f (map (bytes s) qs) ≡ some f (map (bytes s) more)
+  unfolding some
+  some-later k = let z : f (bytes s q) ≡ false = ap f (sym g) ∙ sym h ∙ k in rw (e, z)

@@ -4,24 +4,25 @@ use Rattle.frame.specs.Edit.{added, removed}
 use Rattle.json.specs.Places.{bytes}
 use Rattle.message.specs.Reading.{reading}
 use Rattle.message.specs.declared.facts.Message.{Message}
+use Rattle.message.specs.declared.facts.Span.{Span}
 use Rattle.message.specs.declared.reading.Reading.the-variants as readings
 use Rattle.rules.specs.Date.{dateRule}
 use Rattle.rules.specs.Status.{statusText}
+use Rattle.writing.proofs.RouteLaws.{Passed}
 use Rattle.writing.specs.Adding.{entry, pathRule, addTo, adding}
 use Rattle.writing.specs.Outcome.{Outcome, refuse, write, Wrote}
-use Rattle.writing.specs.Removing.{removeFrom, removing, hostStart, hostEnd, viaIn, Took}
+use Rattle.writing.specs.Removing.{removeFrom, removing, hostIn, Took}
 use Rattle.writing.specs.Reply.{replyOf, replyText, unanswered, wrongCode, replyTo, replying}
-use Rattle.writing.specs.Route.{isOurs, Routed}
+use Rattle.writing.specs.Objects.{objects, isOurs, some}
 use Rattle.writing.specs.declared.answers.Refusal.the-variants.{Path, Kind, Code, Date, Loop, Full, Few, Foreign}
 use Rattle.writing.specs.declared.answers.Refusal.{Refusal}
 use Rattle.writing.specs.declared.answers.Removed.the-variants as removals
 use Rattle.writing.specs.declared.answers.Removed.{Removed}
 use Rattle.writing.specs.declared.answers.Written.the-variants as writings
 use Rattle.writing.specs.declared.answers.Written.{Written}
-use Rattle.writing.specs.declared.routes.Route.{Route}
 use borrow.Author.Tests.{eq-eqb, ne-eqb, lt-ltb, le-ltb}
 use lib.ListN.{take, drop}
-use mathlib.Core.Bool.{true, false}
+use mathlib.Core.Bool.{Bool, true, false}
 use mathlib.Core.List.{List, _∷_, _++_}
 use mathlib.Core.Path.{_≡_, _∙_}
 
@@ -66,19 +67,19 @@ module _ (s : List ℕ) (m : Message) (host destination organization : List ℕ)
   unfolding addTo
   no-adding ne = rw (ne-eqb (m .tag) 1 ne)
 
-  module _ (a : m .tag ≡ 1) {r : Route} (w : Routed s (m .via) host destination r) where
-    pub on-route : r .met ≡ true → addTo s m host destination organization ≡ refuse Loop
+  module _ (a : m .tag ≡ 1) {met : Bool} (f : met ≡ some (isOurs host destination) (objects s (m .via))) where
+    pub on-route : met ≡ true → addTo s m host destination organization ≡ refuse Loop
     unfolding addTo
-    on-route e = rw (eq-eqb (m .tag) 1 a, ← (w .met), e)
+    on-route e = rw (eq-eqb (m .tag) 1 a, ← f, e)
 
-    module _ (b : r .met ≡ false) where
-      pub sixteen : r .count ≡ 16 → addTo s m host destination organization ≡ refuse Full
+    module _ (b : met ≡ false) (w : Passed s (m .via) (m .route)) where
+      pub sixteen : m .route .count ≡ 16 → addTo s m host destination organization ≡ refuse Full
       unfolding addTo
-      sixteen e = rw (eq-eqb (m .tag) 1 a, ← (w .met), b, ← (w .count), eq-eqb (r .count) 16 e)
+      sixteen e = rw (eq-eqb (m .tag) 1 a, ← f, b, ← (w .count), eq-eqb (m .route .count) 16 e)
 
-      pub an-adding : (r .count ≡ 16 → ⊥) → addTo s m host destination organization ≡ write (take (r .end) s ++ ((44 ∷ entry host destination organization) ++ drop (r .end) s))
+      pub an-adding : (m .route .count ≡ 16 → ⊥) → addTo s m host destination organization ≡ write (take (m .route .end) s ++ ((44 ∷ entry host destination organization) ++ drop (m .route .end) s))
       unfolding addTo added
-      an-adding ne = rw (eq-eqb (m .tag) 1 a, ← (w .met), b, ← (w .count), ne-eqb (r .count) 16 ne, ← (w .end))
+      an-adding ne = rw (eq-eqb (m .tag) 1 a, ← f, b, ← (w .count), ne-eqb (m .route .count) 16 ne, ← (w .end))
 
 module _ (s host destination organization : List ℕ) where
   pub bad-path : pathRule host destination organization ≡ false → adding s host destination organization ≡ refuse Path
@@ -95,10 +96,10 @@ module _ (s host destination organization : List ℕ) where
     add-of m e = rw (k, e)
 
 -- removing
-pub took-refused : (o s : List ℕ) (v : ℕ) (r : Refusal) {x : Outcome} → x ≡ refuse r → Took o s v x (removals.Refused r) o
-took-refused o s v r e = record { answer = rw e; output = rw e }
+pub took-refused : (o : List ℕ) (h : Span) (r : Refusal) {x : Outcome} → x ≡ refuse r → Took o h x (removals.Refused r) o
+took-refused o h r e = record { answer = rw e; output = rw e }
 
-pub took-as : {o s : List ℕ} {v v′ : ℕ} {x y : Outcome} {r : Removed} {o′ : List ℕ} → v ≡ v′ → x ≡ y → Took o s v′ y r o′ → Took o s v x r o′
+pub took-as : {o : List ℕ} {h h′ : Span} {x y : Outcome} {r : Removed} {o′ : List ℕ} → h ≡ h′ → x ≡ y → Took o h′ y r o′ → Took o h x r o′
 took-as e f w = record { answer = w .answer ∙ rw (e, f); output = w .output ∙ rw f }
 
 module _ (s : List ℕ) (m : Message) (host destination : List ℕ) where
@@ -106,25 +107,25 @@ module _ (s : List ℕ) (m : Message) (host destination : List ℕ) where
   unfolding removeFrom
   no-removing ne = rw (ne-eqb (m .tag) 2 ne)
 
-  module _ (a : m .tag ≡ 2) {r : Route} (w : Routed s (m .via) host destination r) where
-    pub too-few : r .count < 2 → removeFrom s m host destination ≡ refuse Few
+  module _ (a : m .tag ≡ 2) (w : Passed s (m .via) (m .route)) where
+    pub too-few : m .route .count < 2 → removeFrom s m host destination ≡ refuse Few
     unfolding removeFrom
-    too-few h = rw (eq-eqb (m .tag) 2 a, ← (w .count), lt-ltb (r .count) 2 h)
+    too-few h = rw (eq-eqb (m .tag) 2 a, ← (w .count), lt-ltb (m .route .count) 2 h)
 
-    module _ (b : 2 ≤ r .count) {x : List ℕ} (f : x ≡ bytes s (r .last)) where
+    module _ (b : 2 ≤ m .route .count) {x : List ℕ} (f : x ≡ bytes s (m .route .last)) where
       pub not-ours : isOurs host destination x ≡ false → removeFrom s m host destination ≡ refuse Foreign
       unfolding removeFrom
-      not-ours e = rw (eq-eqb (m .tag) 2 a, ← (w .count), le-ltb (r .count) 2 b, ← (w .last), ← f, e)
+      not-ours e = rw (eq-eqb (m .tag) 2 a, ← (w .count), le-ltb (m .route .count) 2 b, ← (w .last), ← f, e)
 
       module _ (e : isOurs host destination x ≡ true) where
-        a-removing : removeFrom s m host destination ≡ write (take (r .seam) s ++ drop (r .end) s)
+        a-removing : removeFrom s m host destination ≡ write (take (m .route .seam) s ++ drop (m .route .end) s)
         unfolding removeFrom removed
-        a-removing = rw (eq-eqb (m .tag) 2 a, ← (w .count), le-ltb (r .count) 2 b, ← (w .last), ← f, e, ← (w .seam), ← (w .end))
+        a-removing = rw (eq-eqb (m .tag) 2 a, ← (w .count), le-ltb (m .route .count) 2 b, ← (w .last), ← f, e, ← (w .seam b), ← (w .end))
 
-        pub took-done : {o : List ℕ} {n : ℕ} {start stop : ℕ} {z : Written} {o′ : List ℕ} → z ≡ writings.Done n → start ≡ hostStart s (r .prior) → stop ≡ hostEnd s (r .prior) → Wrote o (write (take (r .seam) s ++ drop (r .end) s)) z o′ → Took o s (m .via) (removeFrom s m host destination) (removals.Done n start stop) o′
-        took-done i p q g = record { answer = rw (a-removing, ← (g .answer), i, p, q, w .prior); output = g .output ∙ rw a-removing }
+        pub took-done : {o : List ℕ} {n : ℕ} {z : Written} {o′ : List ℕ} → z ≡ writings.Done n → Wrote o (write (take (m .route .seam) s ++ drop (m .route .end) s)) z o′ → Took o (m .route .host) (removeFrom s m host destination) (removals.Done n (m .route .host .start) (m .route .host .end)) o′
+        took-done i g = record { answer = rw (a-removing, ← (g .answer), i); output = g .output ∙ rw a-removing }
 
-        pub took-not : {o : List ℕ} {y : Refusal} {z : Written} {o′ : List ℕ} → z ≡ writings.Refused y → Wrote o (write (take (r .seam) s ++ drop (r .end) s)) z o′ → Took o s (m .via) (removeFrom s m host destination) (removals.Refused y) o′
+        pub took-not : {o : List ℕ} {y : Refusal} {z : Written} {o′ : List ℕ} → z ≡ writings.Refused y → Wrote o (write (take (m .route .seam) s ++ drop (m .route .end) s)) z o′ → Took o (m .route .host) (removeFrom s m host destination) (removals.Refused y) o′
         took-not i g = record { answer = rw (a-removing, ← (g .answer), i); output = g .output ∙ rw a-removing }
 
 module _ (s host destination organization : List ℕ) where
@@ -141,5 +142,5 @@ module _ (s host destination organization : List ℕ) where
     unfolding removing
     remove-of m e = rw (k, e)
 
-pub via-of : (s : List ℕ) (m : Message) → reading s ≡ readings.Read m → viaIn (reading s) ≡ m .via
-via-of s m e = rw e
+pub host-of : (s : List ℕ) (m : Message) → reading s ≡ readings.Read m → hostIn (reading s) ≡ m .route .host
+host-of s m e = rw e

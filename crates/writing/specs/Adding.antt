@@ -7,7 +7,7 @@ use Rattle.message.specs.declared.facts.Message.{Message}
 use Rattle.octets.specs.Ascii.{ascii}
 use Rattle.rules.specs.Texts.{hostRule, destinationRule, organizationRule}
 use Rattle.writing.specs.Outcome.{Outcome, refuse, write, choose, onRead}
-use Rattle.writing.specs.Route.{objects, isOurs, some}
+use Rattle.writing.specs.Objects.{objects, isOurs, some}
 use Rattle.writing.specs.declared.answers.Refusal.the-variants.{Path, Kind, Loop, Full}
 use lib.Dec.{eqb}
 use lib.ListN.{length}

@@ -1,5 +1,5 @@
 pub mod Outcome
-pub mod Route
+pub mod Objects
 pub mod Reply
 pub mod Adding
 pub mod Removing

@@ -1,16 +1,18 @@
--- 01 Writing, taking our Via entry off a response, and the next host. The contracts of `remove` and `next_hop` cite `removing` and `nextHop`.
--- Assumes nothing.
-use Prim.Native.Nat.{ℕ, _+_}
-use Rattle.frame.specs.Edit.{lastOf, prevOf, removed}
+-- 01 Writing, taking our Via entry off a response, and the next host. The contract of `remove` cites `Took`, `hostIn` and `removing`, that of
+-- `next_hop` `nextHop`. Assumes nothing.
+use Prim.Native.Nat.{ℕ}
+use Rattle.frame.specs.Edit.{removed}
+use Rattle.json.specs.Ends.{lastOf}
 use Rattle.json.specs.Places.{bytes, elements, part}
-use Rattle.message.specs.Hop.{hopOf, hostOf}
 use Rattle.message.specs.Reading.{reading}
+use Rattle.message.specs.Spans.{nowhere}
 use Rattle.message.specs.declared.facts.Message.{Message}
+use Rattle.message.specs.declared.facts.Span.{Span}
 use Rattle.message.specs.declared.reading.Reading.the-variants as readings
 use Rattle.message.specs.declared.reading.Reading.{Reading}
 use Rattle.writing.specs.Adding.{pathRule}
 use Rattle.writing.specs.Outcome.{Outcome, refuse, write, choose, onRead, answered, left}
-use Rattle.writing.specs.Route.{isOurs}
+use Rattle.writing.specs.Objects.{isOurs}
 use Rattle.writing.specs.declared.answers.Refusal.the-variants.{Path, Kind, Few, Foreign}
 use Rattle.writing.specs.declared.answers.Removed.the-variants as removals
 use Rattle.writing.specs.declared.answers.Removed.{Removed}
@@ -36,26 +38,19 @@ removing s host destination organization =
     choose (not (pathRule host destination organization)) (refuse Path)
     (onRead (reading s) (λ m. removeFrom s m host destination))
 
--- where the host of the object that begins at o begins and ends in the message
-unfoldable pub hostStart : List ℕ → ℕ → ℕ
-hostStart s o = o + hopOf (bytes s o) .host + 1
+-- where the host of the last but one Via object stands in what is read; `shown` has it only where there are two
+abbrev pub hostIn : Reading → Span
+hostIn (readings.Refused n p) = nowhere
+hostIn (readings.Read m) = m .route .host
 
-unfoldable pub hostEnd : List ℕ → ℕ → ℕ
-hostEnd s o = hostStart s o + length (hostOf (bytes s o))
+-- the answer, where that host stands at h
+abbrev pub shown : Span → Written → Removed
+shown h (writings.Done n) = removals.Done n (h .start) (h .end)
+shown h (writings.Refused r) = removals.Refused r
 
--- where Via opens in what is read
-abbrev pub viaIn : Reading → ℕ
-viaIn (readings.Refused n p) = 0
-viaIn (readings.Read m) = m .via
-
--- the answer, with the places of the host of the last but one object of the Via that opens at v
-abbrev pub shown : List ℕ → ℕ → Written → Removed
-shown s v (writings.Done n) = removals.Done n (hostStart s (prevOf (elements s v))) (hostEnd s (prevOf (elements s v)))
-shown s v (writings.Refused r) = removals.Refused r
-
--- answer and output, where x is what becomes of the response s, whose Via opens at v, on its way into o
-pub record Took (o s : List ℕ) (v : ℕ) (x : Outcome) (r : Removed) (o′ : List ℕ) : Type 0 where
-  pub answer : r ≡ shown s v (answered (length o) x)
+-- answer and output, where x is what becomes of the response on its way into o, and its next host stands at h
+pub record Took (o : List ℕ) (h : Span) (x : Outcome) (r : Removed) (o′ : List ℕ) : Type 0 where
+  pub answer : r ≡ shown h (answered (length o) x)
   pub output : o′ ≡ left o x
 
 -- the next host, as a part of the message itself; on refusal the part is empty

@@ -2,15 +2,13 @@
 use crate::answers::Refusal;
 use crate::answers::Removed;
 use crate::answers::Written;
+use crate::objects::has_ours;
+use crate::objects::is_ours;
 use crate::putting::put_both;
-use crate::routes::is_ours;
-use crate::routes::walk_via;
 use json::part;
 use json::value_part;
 use message::Message;
 use message::Reading;
-use message::hop_of;
-use message::host_of;
 use octets::and;
 use octets::put;
 ghost use mathlib.Core.Bool.{true};
@@ -22,7 +20,7 @@ ghost use Rattle.message.specs.Reading.{reading};
 ghost use Rattle.message.specs.declared.reading.Reading.the-variants as readings;
 ghost use Rattle.writing.specs.Adding.{addTo, adding, entry, pathRule};
 ghost use Rattle.writing.specs.Outcome.{Wrote, write};
-ghost use Rattle.writing.specs.Removing.{Took, hostEnd, hostStart, nextHop, removeFrom, removing, viaIn};
+ghost use Rattle.writing.specs.Removing.{Took, hostIn, nextHop, removeFrom, removing};
 
 // Whether our own path keeps the Via rules.
 fn is_path(host: &[u8], destination: &[u8], organization: &[u8]) -> bool
@@ -80,11 +78,10 @@ fn add_to(
     if tag != 1 {
         return Written::Refused(Refusal::Kind);
     }
-    let r = walk_via(s, via, host, destination);
-    let met = r.met;
+    let r = m.route;
     let count = r.count;
     let end = r.end;
-    if met {
+    if has_ours(s, via, host, destination) {
         return Written::Refused(Refusal::Loop);
     }
     if count == 16 {
@@ -129,48 +126,27 @@ fn put_removed(out: &mut [u8], s: &[u8], seam: usize, end: usize) -> Written
     Written::Done(put_both(out, 0, front, back))
 }
 
-// Where a host begins and ends.
-struct Span {
-    start: usize,
-    end: usize,
-}
-
-// Where the host of the object that begins at o stands in the message.
-fn host_span(s: &[u8], o: usize) -> Span
-    requires { ⌜ (o ≤ length (now s)) × (length (now s) ≤ 32768) ⌝ }
-    ensures { λ r. ⌜ (r .start ≡ hostStart (now (s .entry)) o) × (r .end ≡ hostEnd (now (s .entry)) o) ⌝ }
-{
-    let x = value_part(s, o);
-    let start = o + hop_of(x).host + 1;
-    Span {
-        start,
-        end: start + host_of(x).len(),
-    }
-}
-
 // The last Via object of what is read as m taken off.
 fn remove_from(out: &mut [u8], s: &[u8], m: Message, host: &[u8], destination: &[u8]) -> Removed
     requires { ⌜ reading (now s) ≡ readings.Read m ⌝ }
-    ensures { λ r. ⌜ Took (now (out .entry)) (now (s .entry)) (m .via) (removeFrom (now (s .entry)) m (now (host .entry)) (now (destination .entry))) r (now (out .exit)) ⌝ }
+    ensures { λ r. ⌜ Took (now (out .entry)) (m .route .host) (removeFrom (now (s .entry)) m (now (host .entry)) (now (destination .entry))) r (now (out .exit)) ⌝ }
 {
     let tag = m.tag;
-    let via = m.via;
     if tag != 2 {
         return Removed::Refused(Refusal::Kind);
     }
-    let r = walk_via(s, via, host, destination);
+    let r = m.route;
     let count = r.count;
     let last = r.last;
-    let prior = r.prior;
     let seam = r.seam;
     let end = r.end;
+    let next = r.host;
     if count < 2 {
         return Removed::Refused(Refusal::Few);
     }
     if !is_ours(value_part(s, last), host, destination) {
         return Removed::Refused(Refusal::Foreign);
     }
-    let next = host_span(s, prior);
     match put_removed(out, s, seam, end) {
         Written::Done(n) => Removed::Done(n, next.start, next.end),
         Written::Refused(why) => Removed::Refused(why),
@@ -185,7 +161,7 @@ pub fn remove(
     destination: &[u8],
     organization: &[u8],
 ) -> Removed
-    ensures { λ r. ⌜ Took (now (out .entry)) (now (s .entry)) (viaIn (reading (now (s .entry)))) (removing (now (s .entry)) (now (host .entry)) (now (destination .entry)) (now (organization .entry))) r (now (out .exit)) ⌝ }
+    ensures { λ r. ⌜ Took (now (out .entry)) (hostIn (reading (now (s .entry)))) (removing (now (s .entry)) (now (host .entry)) (now (destination .entry)) (now (organization .entry))) r (now (out .exit)) ⌝ }
 {
     if !is_path(host, destination, organization) {
         return Removed::Refused(Refusal::Path);

@@ -3,9 +3,9 @@
 // A caller may hand over any bytes and any room: on a refusal the output is as it was, and bytes past the result always stay.
 mod answers;
 mod edits;
+mod objects;
 mod putting;
 mod replies;
-mod routes;
 
 pub use answers::Refusal;
 pub use answers::Removed;

@@ -2,7 +2,7 @@
 use Prim.Native.Nat.{_-_}
 use native.Mathlib.Omega.{arith}
 use borrow.Author.Needs.{needs}
-use Rattle.json_vectors.proofs.LineLaws.{found-within}
+use Rattle.octets.proofs.TextLaws.{found-within}
 use Rattle.json_vectors.proofs.lines.Statement.{statement}
 use Rattle.json_vectors.proofs.lines.Tie as tie
 use lib.ListN.{length}

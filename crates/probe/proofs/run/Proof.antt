@@ -6,13 +6,13 @@ use borrow.Author.Needs.{needs}
 use native.Mathlib.Omega.{arith}
 
 abbrev Inv-loop : tie.InvT-loop
-Inv-loop held₀ bytes₀ room₀ line₀ buf₀ size₀ len₀ turns₀ go₀ held bytes room line buf size len turns go = (size ≤ 65536) × (len ≤ 170001)
+Inv-loop out₀ held₀ bytes₀ room₀ line₀ buf₀ size₀ len₀ turns₀ go₀ out held bytes room line buf size len turns go = (size ≤ 65536) × (len ≤ 170001)
 
 abbrev μ-loop : tie.MeasureT-loop
-μ-loop held₀ bytes₀ room₀ line₀ buf₀ size₀ len₀ turns₀ go₀ held bytes room line buf size len turns go = turns
+μ-loop out₀ held₀ bytes₀ room₀ line₀ buf₀ size₀ len₀ turns₀ go₀ out held bytes room line buf size len turns go = turns
 
-is-made-requires : tie.Need-is-made-requires Inv-loop μ-loop
-is-made-requires c κs = search needs
+start-requires : tie.Need-start-requires Inv-loop μ-loop
+start-requires c κs = search needs
 
 loop-holds : tie.Need-loop-holds Inv-loop μ-loop
 loop-holds c = search needs
@@ -29,8 +29,8 @@ loop-less c = omega (arith, sub-turns c)
 loop-again : tie.Need-loop-again Inv-loop μ-loop
 loop-again c = search needs
 
-answer-kept-requires : tie.Need-answer-kept-requires Inv-loop μ-loop
-answer-kept-requires c κs = search needs
+tell-kept-requires : tie.Need-tell-kept-requires Inv-loop μ-loop
+tell-kept-requires c κs = search needs
 
 returns : tie.Need-returns Inv-loop μ-loop
 returns c = search needs
@@ -44,12 +44,12 @@ run-spec =
     (tie.spec
     Inv-loop
     μ-loop
-    is-made-requires
+    start-requires
     loop-holds
     turn-requires
     sub-turns
     loop-less
     loop-again
-    answer-kept-requires
+    tell-kept-requires
     returns
     returns-2)

@@ -1,6 +1,7 @@
 -- Where both parts fit, the two puts are one. Assumes nothing.
 use Prim.Native.Nat.{_+_, _≤_}
-use Rattle.lines.proofs.WritingLaws.{not-wrote, splice-two, wrote}
+use Rattle.lines.proofs.WritingLaws.{not-wrote, wrote}
+use Rattle.octets.proofs.Chain.{splice-two}
 use Rattle.lines.proofs.answering.write_two.Statement.{statement}
 use Rattle.lines.proofs.answering.write_two.Tie as tie
 use Rattle.lines.specs.declared.answering.Wrote.the-variants.{End}

@@ -9,10 +9,10 @@ use mathlib.Core.Path.{_≡_, refl, sym, _∙_}
 use native.Mathlib.Omega.{arith}
 
 abbrev Inv-loop : tie.InvT-loop
-Inv-loop s run k at end n₀ n = (1 ≤ n) × ((n ≤ 27) × (lowest (breaks s run k at) 1 26 ≡ lowest (breaks s run k at) n (27 - n)))
+Inv-loop s run k at end via n₀ n = (1 ≤ n) × ((n ≤ 27) × (lowest (breaks s run k at) 1 26 ≡ lowest (breaks s run k at) n (27 - n)))
 
 abbrev μ-loop : tie.MeasureT-loop
-μ-loop s run k at end n₀ n = 27 - n
+μ-loop s run k at end via n₀ n = 27 - n
 
 loop-holds : tie.Need-loop-holds Inv-loop μ-loop
 loop-holds c = (search needs, (search needs, refl))

@@ -13,11 +13,11 @@ returns c = let a = c .before in let x = a .before .before .args in one-missing 
 breaking-requires : tie.Need-breaking-requires
 breaking-requires c κs = search needs
 
-mul-t9 : tie.Need-mul-t9
-mul-t9 c = search needs
+mul-t10 : tie.Need-mul-t10
+mul-t10 c = search needs
 
-element-copy-out-t12 : tie.Need-element-copy-out-t12
-element-copy-out-t12 c = search needs
+element-copy-out-t13 : tie.Need-element-copy-out-t13
+element-copy-out-t13 c = search needs
 
 returns-2 : tie.Need-returns-2
 returns-2 c = let b = c .before .before in let a = b .before .before in let x = a .before .before .args in one-broken (x .s .now) (x .run) (x .k) (x .at .now) (a .lacking .ensures .0) (b .before .if1 .left) (b .breaking .ensures .0) (c .before .if2 .taken)
@@ -32,7 +32,7 @@ check-run-spec =
     lacking-requires
     returns
     breaking-requires
-    mul-t9
-    element-copy-out-t12
+    mul-t10
+    element-copy-out-t13
     returns-2
     returns-3)

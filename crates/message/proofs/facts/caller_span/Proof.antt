@@ -1,7 +1,8 @@
 -- `message::facts::caller_span` meets its contract. By its definition and what the callees ensure. Assumes nothing.
 use Rattle.message.proofs.facts.caller_span.Statement.{statement}
 use Rattle.message.proofs.facts.caller_span.Tie as tie
-use Rattle.message.specs.Message.{Held, spanIn}
+use Rattle.message.specs.Message.{Held}
+use Rattle.message.specs.Spans.{spanIn}
 use Rattle.rules.specs.declared.addresses.Address.{Address}
 use borrow.Author.Needs.{needs}
 use mathlib.Core.Path.{subst}

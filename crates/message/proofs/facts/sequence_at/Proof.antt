@@ -2,7 +2,7 @@
 use Rattle.message.proofs.FactLaws.{method-few}
 use Rattle.message.proofs.facts.sequence_at.Statement.{statement}
 use Rattle.message.proofs.facts.sequence_at.Tie as tie
-use Rattle.message.specs.Message.{textAt}
+use Rattle.message.specs.Spans.{textAt}
 use Rattle.rules.specs.Sequence.{sequenceOf}
 use borrow.Author.Needs.{needs}
 use mathlib.Core.Path.{sym, ap, _∙_}

@@ -1,7 +1,7 @@
 -- `message::facts::text_span` meets its contract. By its definition and what the callees ensure. Assumes nothing.
 use Rattle.message.proofs.facts.text_span.Statement.{statement}
 use Rattle.message.proofs.facts.text_span.Tie as tie
-use Rattle.message.specs.Message.{textSpan}
+use Rattle.message.specs.Spans.{textSpan}
 use borrow.Author.Needs.{needs}
 use borrow.Author.Tests.{le-ltb, lt-ltb}
 

@@ -7,12 +7,9 @@ use borrow.Author.Needs.{needs}
 use borrow.Author.Tests.{eq-eqb, ne-eqb}
 use mathlib.Core.Path.{sym, _∙_}
 
-is-via-requires : tie.Need-is-via-requires
-is-via-requires c κs = search needs
-
 returns : tie.Need-returns
 unfolding keeps
-returns c = rw (eq-eqb _ _ (c .before .if1 .taken)) (c .is-via .ensures)
+returns c = rw (eq-eqb _ _ (c .if1 .taken)) (c .before .before .pre .1 (c .if1 .taken))
 
 keeps-status-requires : tie.Need-keeps-status-requires
 keeps-status-requires c κs = search needs
@@ -62,7 +59,6 @@ pub keeps-rule-spec : {M : Type 1} → statement M
 keeps-rule-spec =
     tie.close
     (tie.spec
-    is-via-requires
     returns
     keeps-status-requires
     returns-2

@@ -5,23 +5,23 @@ use Rattle.json.specs.Places.{valueOf, membersFrom}
 use Rattle.message.proofs.GatherLaws.{Sofar, started, over, repeats, goes-on, no-more, one-more, spent, no-comma, comma, has-is, note-is, number-is, there}
 use Rattle.message.proofs.gathering.gather.Statement.{statement}
 use Rattle.message.proofs.gathering.gather.Tie as tie
-use Rattle.message.specs.Known.{namesOf}
+use Rattle.rules.specs.Names.{fields}
 use borrow.Author.Needs.{needs}
 use lib.ListN.{length}
 use mathlib.Core.Path.{refl, sym, _∙_}
 use native.Mathlib.Omega.{arith}
 
 abbrev Inv-loop : tie.InvT-loop
-Inv-loop s o hop at₀ p₀ n₀ at p n = (0 < p) × ((p ≤ length s) × ((length s < 18446744073709551616) × Sofar (namesOf hop) s o at (membersFrom n s p)))
+Inv-loop s o at₀ p₀ n₀ at p n = (0 < p) × ((p ≤ length s) × ((length s < 18446744073709551616) × Sofar fields s o at (membersFrom n s p)))
 
 abbrev μ-loop : tie.MeasureT-loop
-μ-loop s o hop at₀ p₀ n₀ at p n = n
+μ-loop s o at₀ p₀ n₀ at p n = n
 
 add-p : tie.Need-add-p Inv-loop μ-loop
 add-p c = search needs
 
 loop-holds : tie.Need-loop-holds Inv-loop μ-loop
-loop-holds c = (search needs, (search needs, (search needs, started (namesOf (c .before .args .hop)) (c .before .args .s .now) (c .before .args .o))))
+loop-holds c = (search needs, (search needs, (search needs, started fields (c .before .args .s .now) (c .before .args .o))))
 
 skip-requires : tie.Need-skip-requires Inv-loop μ-loop
 skip-requires c κs = search needs
@@ -35,7 +35,7 @@ returns c =
     let l = b .before .before .before in
     let x = l .before .before .args in
     let s = x .s .now in
-    let ns = namesOf (x .hop) in
+    let ns = fields in
     let q = b .before .skip .result in
     over (l .loop .inv .1 .1 .1) (no-more s (l .loop .n) (l .loop .p) (b .before .skip .ensures .is) (λ e. c .if1 .taken (b .byte .ensures ∙ e)))
 
@@ -53,8 +53,8 @@ sub-part c = omega (arith, c .member-at .ensures .named .low, c .before .before 
 part-requires : tie.Need-part-requires Inv-loop μ-loop
 part-requires c κs = search needs
 
-number-of-requires : tie.Need-number-of-requires Inv-loop μ-loop
-number-of-requires c κs = search needs
+field-requires : tie.Need-field-requires Inv-loop μ-loop
+field-requires c κs = search needs
 
 is-noted-requires : tie.Need-is-noted-requires Inv-loop μ-loop
 is-noted-requires c κs = search needs
@@ -65,11 +65,11 @@ returns-2 c =
     let l = b .before .before .before in
     let x = l .before .before .args in
     let s = x .s .now in
-    let ns = namesOf (x .hop) in
+    let ns = fields in
     let q = b .before .skip .result in
     let one = one-more s (l .loop .n) (l .loop .p) (omega arith) (b .before .skip .ensures .is) (sym (b .byte .ensures) ∙ c .before .before .before .before .before .before .if1 .left) in
     let m = c .before .before .before .before .before .member-at in
-    let k = number-is ns s q (c .before .before .before .before .part .ensures ∙ raw-is s q (closing-is s q (m .ensures .named))) (c .before .before .before .number-of .ensures .0) in
+    let k = number-is ns s q (c .before .before .before .before .part .ensures ∙ raw-is s q (closing-is s q (m .ensures .named))) (c .before .before .before .field .ensures .0) in
     repeats (l .loop .inv .1 .1 .1) q _ one (λ e. omega (arith, b .before .skip .ensures .low))
     (sym (has-is ns s (l .loop .at) q k (c .before .is-noted .ensures)) ∙ c .if2 .taken)
 
@@ -85,11 +85,11 @@ returns-3 c =
     let l = b .before .before .before in
     let x = l .before .before .args in
     let s = x .s .now in
-    let ns = namesOf (x .hop) in
+    let ns = fields in
     let q = b .before .skip .result in
     let one = one-more s (l .loop .n) (l .loop .p) (omega arith) (b .before .skip .ensures .is) (sym (b .byte .ensures) ∙ c .before .before .before .before .before .before .before .before .before .before .if1 .left) in
     let m = c .before .before .before .before .before .before .before .before .before .member-at in
-    let k = number-is ns s q (c .before .before .before .before .before .before .before .before .part .ensures ∙ raw-is s q (closing-is s q (m .ensures .named))) (c .before .before .before .before .before .before .before .number-of .ensures .0) in
+    let k = number-is ns s q (c .before .before .before .before .before .before .before .before .part .ensures ∙ raw-is s q (closing-is s q (m .ensures .named))) (c .before .before .before .before .before .before .before .field .ensures .0) in
     let new = sym (has-is ns s (l .loop .at) q k (c .before .before .before .before .before .is-noted .ensures)) ∙ c .before .before .before .before .if2 .left in
     let at = note-is ns s (l .loop .at) q k (m .ensures .begins .is) (c .before .before .note .ensures) in
     over (goes-on (l .loop .inv .1 .1 .1) q _ one new at (no-comma s _ (valueOf s q) (m .ensures .goes .is) (λ e. c .if3 .taken (c .before .byte2 .ensures ∙ e)))) refl
@@ -112,11 +112,11 @@ loop-again c =
     let l = b .before .before .before in
     let x = l .before .before .args in
     let s = x .s .now in
-    let ns = namesOf (x .hop) in
+    let ns = fields in
     let q = b .before .skip .result in
     let one = one-more s (l .loop .n) (l .loop .p) (omega arith) (b .before .skip .ensures .is) (sym (b .byte .ensures) ∙ c .before .before .before .before .before .before .before .before .before .before .if1 .left) in
     let m = c .before .before .before .before .before .before .before .before .before .member-at in
-    let k = number-is ns s q (c .before .before .before .before .before .before .before .before .part .ensures ∙ raw-is s q (closing-is s q (m .ensures .named))) (c .before .before .before .before .before .before .before .number-of .ensures .0) in
+    let k = number-is ns s q (c .before .before .before .before .before .before .before .before .part .ensures ∙ raw-is s q (closing-is s q (m .ensures .named))) (c .before .before .before .before .before .before .before .field .ensures .0) in
     let new = sym (has-is ns s (l .loop .at) q k (c .before .before .before .before .before .is-noted .ensures)) ∙ c .before .before .before .before .if2 .left in
     let at = note-is ns s (l .loop .at) q k (m .ensures .begins .is) (c .before .before .note .ensures) in
     let e = sym (c .before .byte2 .ensures) ∙ c .if3 .left in (
@@ -148,7 +148,7 @@ gather-spec =
     add-part
     sub-part
     part-requires
-    number-of-requires
+    field-requires
     is-noted-requires
     returns-2
     note-requires

@@ -7,20 +7,14 @@ use borrow.Author.Needs.{needs}
 returns : tie.Need-returns
 returns c = no-bytes (c .before .before .args .v .now) (c .if1 .taken)
 
-gather-requires : tie.Need-gather-requires
-gather-requires c κs = search needs
+hop-members-requires : tie.Need-hop-members-requires
+hop-members-requires c κs = search needs
 
 returns-2 : tie.Need-returns-2
-returns-2 c = member-twice (c .before .before .before .before .args .v .now) (c .before .gather .ensures) (c .if2 .taken)
-
-array-read-t5 : tie.Need-array-read-t5
-array-read-t5 c = search needs
-
-array-read-t11 : tie.Need-array-read-t11
-array-read-t11 c = search needs
+returns-2 c = member-twice (c .before .before .before .before .before .before .args .v .now) (c .before .before .before .hop-members .ensures .0) (c .if2 .taken)
 
 returns-3 : tie.Need-returns-3
-returns-3 c = members-once (c .before .before .before .before .before .args .v .now) (c .before .before .gather .ensures) (c .before .if2 .left)
+returns-3 c = members-once (c .before .before .before .before .before .before .args .v .now) (c .before .before .before .hop-members .ensures .0) (c .if2 .left)
 
 pub hop-of-spec : {M : Type 1} → statement M
-hop-of-spec = tie.close (tie.spec returns gather-requires returns-2 array-read-t5 array-read-t11 returns-3)
+hop-of-spec = tie.close (tie.spec returns hop-members-requires returns-2 returns-3)

@@ -13,7 +13,7 @@ element-copy-out-address-at-2 : tie.Need-element-copy-out-address-at-2
 element-copy-out-address-at-2 c = search needs
 
 address-at-requires : tie.Need-address-at-requires
-address-at-requires c κs = c .before .before .before .pre .1 .ends 3
+address-at-requires c κs = c .before .before .before .pre .1 .0 .ends 3
 
 element-copy-out-address-at-3 : tie.Need-element-copy-out-address-at-3
 element-copy-out-address-at-3 c = search needs
@@ -22,7 +22,7 @@ element-copy-out-address-at-4 : tie.Need-element-copy-out-address-at-4
 element-copy-out-address-at-4 c = search needs
 
 address-at-requires-2 : tie.Need-address-at-requires-2
-address-at-requires-2 c κs = c .before .before .before .before .before .before .pre .1 .ends 2
+address-at-requires-2 c κs = c .before .before .before .before .before .before .pre .1 .0 .ends 2
 
 element-copy-out-code-of : tie.Need-element-copy-out-code-of
 element-copy-out-code-of c = search needs
@@ -31,7 +31,7 @@ element-copy-out-code-of-2 : tie.Need-element-copy-out-code-of-2
 element-copy-out-code-of-2 c = search needs
 
 code-of-requires : tie.Need-code-of-requires
-code-of-requires c κs = c .before .before .before .before .before .before .before .before .before .pre .1 .ends 7
+code-of-requires c κs = c .before .before .before .before .before .before .before .before .before .pre .1 .0 .ends 7
 
 disagree-requires : tie.Need-disagree-requires
 disagree-requires c κs = search needs

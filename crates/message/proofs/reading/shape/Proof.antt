@@ -1,6 +1,6 @@
 -- `message::reading::shape` meets its contract. By its definition and what the callees ensure. Assumes nothing.
 use Rattle.message.proofs.ReadingLaws.{no-shape, name-twice, each-once}
-use Rattle.message.proofs.WalkLaws.{ended-none}
+use Rattle.message.proofs.GatherLaws.{ended-none}
 use Rattle.message.proofs.reading.shape.Statement.{statement}
 use Rattle.message.proofs.reading.shape.Tie as tie
 use borrow.Author.Needs.{needs}

@@ -3,7 +3,7 @@ use Prim.Native.Nat.{ℕ}
 use Rattle.message.proofs.TextLaws.{own-bytes}
 use Rattle.message.proofs.values.text_at.Statement.{statement}
 use Rattle.message.proofs.values.text_at.Tie as tie
-use Rattle.message.specs.Message.{textAt}
+use Rattle.message.specs.Spans.{textAt}
 use Rattle.message.specs.Value.{Own, textOf}
 use borrow.Author.Needs.{needs}
 use mathlib.Core.List.{List}

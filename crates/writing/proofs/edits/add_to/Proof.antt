@@ -1,6 +1,7 @@
 -- `writing::edits::add_to` meets its contract. One law of `WayLaws` for each way out. Assumes nothing.
 use Rattle.writing.proofs.AcceptedLaws.{read-short}
 use Rattle.writing.proofs.Bounds.{via-inside}
+use Rattle.writing.proofs.RouteLaws.{route-passed}
 use Rattle.writing.proofs.WayLaws.{refused-as, wrote-as, no-adding, on-route, sixteen, an-adding}
 use Rattle.writing.proofs.edits.add_to.Statement.{statement}
 use Rattle.writing.proofs.edits.add_to.Tie as tie
@@ -9,38 +10,34 @@ use borrow.Author.Needs.{needs}
 use native.Mathlib.Omega.{arith}
 
 returns : tie.Need-returns
-returns c =
-    let x = c .before .before .before .before .before .before .args in refused-as (x .out .now) Kind (no-adding (x .s .now) (x .m) (x .host .now) (x .destination .now) (x .organization .now) (c .if1 .taken))
+returns c = let x = c .before .before .before .before .before .before in refused-as (x .args .out .now) Kind (no-adding (x .args .s .now) (x .args .m) (x .args .host .now) (x .args .destination .now) (x .args .organization .now) (c .if1 .taken))
 
-walk-via-requires : tie.Need-walk-via-requires
-walk-via-requires c κs =
-    let x = c .before .before .before .before .before .before .args in via-inside (x .s .now) (x .m) (c .before .before .before .before .before .before .pre .0) (omega (arith, c .if1 .left))
+has-ours-requires : tie.Need-has-ours-requires
+has-ours-requires c κs = let x = c .before .before .before .before .before .before .before in via-inside (x .args .s .now) (x .args .m) (x .pre .0) (omega (arith, c .before .if1 .left))
 
 returns-2 : tie.Need-returns-2
-returns-2 c =
-    let x = c .before .before .before .before .before .before .before .before .args in refused-as (x .out .now) Loop (on-route (x .s .now) (x .m) (x .host .now) (x .destination .now) (x .organization .now) (c .before .before .if1 .left) (c .before .walk-via .ensures) (c .if2 .taken))
+returns-2 c = let x = c .before .before .before .before .before .before .before .before .before in refused-as (x .args .out .now) Loop (on-route (x .args .s .now) (x .args .m) (x .args .host .now) (x .args .destination .now) (x .args .organization .now) (c .before .before .before .if1 .left) (c .before .has-ours .ensures) (c .if2 .taken))
 
 returns-3 : tie.Need-returns-3
-returns-3 c =
-    let x = c .before .before .before .before .before .before .before .before .before .args in refused-as (x .out .now) Full (sixteen (x .s .now) (x .m) (x .host .now) (x .destination .now) (x .organization .now) (c .before .before .before .if1 .left) (c .before .before .walk-via .ensures) (c .before .if2 .left) (c .if3 .taken))
+returns-3 c = let x = c .before .before .before .before .before .before .before .before .before .before in refused-as (x .args .out .now) Full (sixteen (x .args .s .now) (x .args .m) (x .args .host .now) (x .args .destination .now) (x .args .organization .now) (c .before .before .before .before .if1 .left) (c .before .before .has-ours .ensures) (c .before .if2 .left) (route-passed (x .args .s .now) (x .args .m) (x .pre .0) (omega (arith, c .before .before .before .before .if1 .left))) (c .if3 .taken))
 
 put-added-requires : tie.Need-put-added-requires
-put-added-requires c κs =
-    let x = c .before .before .before .before .before .before .before .before .before .before .args in (read-short (x .s .now) (x .m) (c .before .before .before .before .before .before .before .before .before .before .pre .0), c .before .before .before .before .before .before .before .before .before .before .pre .1)
+put-added-requires c κs = let x = c .before .before .before .before .before .before .before .before .before .before .before in (read-short (x .args .s .now) (x .args .m) (x .pre .0), x .pre .1)
 
 same-length : tie.Need-same-length
 same-length c = search needs
 
 returns-4 : tie.Need-returns-4
 returns-4 c =
-    let x = c .before .before .before .before .before .before .before .before .before .before .before .before .before .args in wrote-as (an-adding (x .s .now) (x .m) (x .host .now) (x .destination .now) (x .organization .now) (c .before .before .before .before .before .before .before .if1 .left) (c .before .before .before .before .before .before .walk-via .ensures) (c .before .before .before .before .before .if2 .left) (c .before .before .before .before .if3 .left)) (c .before .before .put-added .ensures)
+    let x = c .before .before .before .before .before .before .before .before .before .before .before .before .before .before in
+    wrote-as (an-adding (x .args .s .now) (x .args .m) (x .args .host .now) (x .args .destination .now) (x .args .organization .now) (c .before .before .before .before .before .before .before .before .if1 .left) (c .before .before .before .before .before .before .has-ours .ensures) (c .before .before .before .before .before .if2 .left) (route-passed (x .args .s .now) (x .args .m) (x .pre .0) (omega (arith, c .before .before .before .before .before .before .before .before .if1 .left))) (c .before .before .before .before .if3 .left)) (c .before .before .put-added .ensures)
 
 pub add-to-spec : {M : Type 1} → statement M
 add-to-spec =
     tie.close
     (tie.spec
     returns
-    walk-via-requires
+    has-ours-requires
     returns-2
     returns-3
     put-added-requires

@@ -1,6 +1,6 @@
 -- `writing::edits::remove_from` meets its contract. One law of `WayLaws` for each way out. Assumes nothing.
 use Rattle.writing.proofs.AcceptedLaws.{read-short}
-use Rattle.writing.proofs.Bounds.{via-inside}
+use Rattle.writing.proofs.RouteLaws.{route-passed}
 use Rattle.writing.proofs.WayLaws.{took-refused, no-removing, too-few, not-ours, took-done, took-not}
 use Rattle.writing.proofs.edits.remove_from.Statement.{statement}
 use Rattle.writing.proofs.edits.remove_from.Tie as tie
@@ -11,16 +11,10 @@ use mathlib.Core.Path.{sym, _∙_}
 use native.Mathlib.Omega.{arith}
 
 returns : tie.Need-returns
-returns c =
-    let x = c .before .before .before .before .before .args in took-refused (x .out .now) (x .s .now) (x .m .via) Kind (no-removing (x .s .now) (x .m) (x .host .now) (x .destination .now) (c .if1 .taken))
-
-walk-via-requires : tie.Need-walk-via-requires
-walk-via-requires c κs =
-    let x = c .before .before .before .before .before .args in via-inside (x .s .now) (x .m) (c .before .before .before .before .before .pre) (omega (arith, c .if1 .left))
+returns c = let x = c .before .before .before .before .before in took-refused (x .args .out .now) (x .args .m .route .host) Kind (no-removing (x .args .s .now) (x .args .m) (x .args .host .now) (x .args .destination .now) (c .if1 .taken))
 
 returns-2 : tie.Need-returns-2
-returns-2 c =
-    let x = c .before .before .before .before .before .before .before .args in took-refused (x .out .now) (x .s .now) (x .m .via) Few (too-few (x .s .now) (x .m) (x .host .now) (x .destination .now) (c .before .before .if1 .left) (c .before .walk-via .ensures) (c .if2 .taken))
+returns-2 c = let x = c .before .before .before .before .before .before .before .before in took-refused (x .args .out .now) (x .args .m .route .host) Few (too-few (x .args .s .now) (x .args .m) (x .args .host .now) (x .args .destination .now) (c .before .before .before .if1 .left) (route-passed (x .args .s .now) (x .args .m) (x .pre) (omega (arith, c .before .before .before .if1 .left))) (c .if2 .taken))
 
 value-part-requires : tie.Need-value-part-requires
 value-part-requires c κs = search needs
@@ -30,15 +24,11 @@ is-ours-requires c κs = search needs
 
 returns-3 : tie.Need-returns-3
 returns-3 c =
-    let x = c .before .before .before .before .before .before .before .before .before .before .args in took-refused (x .out .now) (x .s .now) (x .m .via) Foreign (not-ours (x .s .now) (x .m) (x .host .now) (x .destination .now) (c .before .before .before .before .before .if1 .left) (c .before .before .before .before .walk-via .ensures) (c .before .before .before .if2 .left) (c .before .before .value-part .ensures) (sym (c .before .is-ours .ensures) ∙ not-true _ (c .if3 .taken)))
-
-host-span-requires : tie.Need-host-span-requires
-host-span-requires c κs =
-    let x = c .before .before .before .before .before .before .before .before .before .before .args in (c .before .before .before .before .walk-via .ensures .inside, read-short (x .s .now) (x .m) (c .before .before .before .before .before .before .before .before .before .before .pre))
+    let x = c .before .before .before .before .before .before .before .before .before .before .before in
+    took-refused (x .args .out .now) (x .args .m .route .host) Foreign (not-ours (x .args .s .now) (x .args .m) (x .args .host .now) (x .args .destination .now) (c .before .before .before .before .before .before .if1 .left) (route-passed (x .args .s .now) (x .args .m) (x .pre) (omega (arith, c .before .before .before .before .before .before .if1 .left))) (c .before .before .before .if2 .left) (c .before .before .value-part .ensures) (sym (c .before .is-ours .ensures) ∙ not-true _ (c .if3 .taken)))
 
 put-removed-requires : tie.Need-put-removed-requires
-put-removed-requires c κs =
-    let x = c .before .before .before .before .before .before .before .before .before .before .before .before .args in read-short (x .s .now) (x .m) (c .before .before .before .before .before .before .before .before .before .before .before .before .pre)
+put-removed-requires c κs = let x = c .before .before .before .before .before .before .before .before .before .before .before .before in read-short (x .args .s .now) (x .args .m) (x .pre)
 
 enum-known-n : tie.Need-enum-known-n
 enum-known-n c = search needs
@@ -51,26 +41,26 @@ same-length c = search needs
 
 returns-4 : tie.Need-returns-4
 returns-4 c =
-    let x = c .before .before .before .before .before .before .before .before .before .before .before .before .before .before .before .before .before .before .args in took-done (x .s .now) (x .m) (x .host .now) (x .destination .now) (c .before .before .before .before .before .before .before .before .before .before .before .before .before .if1 .left) (c .before .before .before .before .before .before .before .before .before .before .before .before .walk-via .ensures) (c .before .before .before .before .before .before .before .before .before .before .before .if2 .left) (c .before .before .before .before .before .before .before .before .before .before .value-part .ensures) (sym (c .before .before .before .before .before .before .before .before .before .is-ours .ensures) ∙ not-false _ (c .before .before .before .before .before .before .before .before .if3 .left)) (c .before .n .given .1) (c .before .before .before .before .before .before .before .host-span .ensures .0) (c .before .before .before .before .before .before .before .host-span .ensures .1) (c .before .before .before .before .before .put-removed .ensures)
+    let x = c .before .before .before .before .before .before .before .before .before .before .before .before .before .before .before .before .before .before in
+    took-done (x .args .s .now) (x .args .m) (x .args .host .now) (x .args .destination .now) (c .before .before .before .before .before .before .before .before .before .before .before .before .before .if1 .left) (route-passed (x .args .s .now) (x .args .m) (x .pre) (omega (arith, c .before .before .before .before .before .before .before .before .before .before .before .before .before .if1 .left))) (c .before .before .before .before .before .before .before .before .before .before .if2 .left) (c .before .before .before .before .before .before .before .before .before .value-part .ensures) (sym (c .before .before .before .before .before .before .before .before .is-ours .ensures) ∙ not-false _ (c .before .before .before .before .before .before .before .if3 .left)) (c .before .n .given .1) (c .before .before .before .before .before .put-removed .ensures)
 
 same-length-2 : tie.Need-same-length-2
 same-length-2 c = search needs
 
 returns-5 : tie.Need-returns-5
 returns-5 c =
-    let x = c .before .before .before .before .before .before .before .before .before .before .before .before .before .before .before .before .before .before .args in took-not (x .s .now) (x .m) (x .host .now) (x .destination .now) (c .before .before .before .before .before .before .before .before .before .before .before .before .before .if1 .left) (c .before .before .before .before .before .before .before .before .before .before .before .before .walk-via .ensures) (c .before .before .before .before .before .before .before .before .before .before .before .if2 .left) (c .before .before .before .before .before .before .before .before .before .before .value-part .ensures) (sym (c .before .before .before .before .before .before .before .before .before .is-ours .ensures) ∙ not-false _ (c .before .before .before .before .before .before .before .before .if3 .left)) (c .before .why .given .1) (c .before .before .before .before .before .put-removed .ensures)
+    let x = c .before .before .before .before .before .before .before .before .before .before .before .before .before .before .before .before .before .before in
+    took-not (x .args .s .now) (x .args .m) (x .args .host .now) (x .args .destination .now) (c .before .before .before .before .before .before .before .before .before .before .before .before .before .if1 .left) (route-passed (x .args .s .now) (x .args .m) (x .pre) (omega (arith, c .before .before .before .before .before .before .before .before .before .before .before .before .before .if1 .left))) (c .before .before .before .before .before .before .before .before .before .before .if2 .left) (c .before .before .before .before .before .before .before .before .before .value-part .ensures) (sym (c .before .before .before .before .before .before .before .before .is-ours .ensures) ∙ not-false _ (c .before .before .before .before .before .before .before .if3 .left)) (c .before .why .given .1) (c .before .before .before .before .before .put-removed .ensures)
 
 pub remove-from-spec : {M : Type 1} → statement M
 remove-from-spec =
     tie.close
     (tie.spec
     returns
-    walk-via-requires
     returns-2
     value-part-requires
     is-ours-requires
     returns-3
-    host-span-requires
     put-removed-requires
     enum-known-n
     enum-known-why

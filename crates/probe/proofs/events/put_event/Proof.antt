@@ -1,0 +1,29 @@
+-- By the answer. Assumes nothing.
+use Rattle.probe.proofs.events.put_event.Statement.{statement}
+use Rattle.probe.proofs.events.put_event.Tie as tie
+use Rattle.probe.specs.Events.{eventText}
+use borrow.Author.Needs.{needs}
+
+enum-told : tie.Need-enum-told
+enum-told c = search needs
+
+put-accepted-requires : tie.Need-put-accepted-requires
+put-accepted-requires c κs = search needs
+
+enum-known-a : tie.Need-enum-known-a
+enum-known-a c = search needs
+
+put-refused-requires : tie.Need-put-refused-requires
+put-refused-requires c κs = search needs
+
+returns : tie.Need-returns
+unfolding eventText
+returns c = rw (c .before .before .enum-told .given .1) (rw (c .before .before .enum-told .given .1) at (c .put-accepted .ensures))
+
+returns-2 : tie.Need-returns-2
+returns-2 c = rw (c .before .before .before .a .given .1) (c .put-refused .ensures)
+
+pub put-event-spec : {M : Type 1} → statement M
+put-event-spec =
+    tie.close
+    (tie.spec enum-told put-accepted-requires enum-known-a put-refused-requires returns returns-2)

@@ -1,0 +1,4 @@
+pub mod Turn
+pub mod Tables
+pub mod Events
+pub mod Commands

@@ -1,0 +1,5 @@
+pub mod WordLaws
+pub mod ShownLaws
+pub mod ReadingLaws
+pub mod WriterLaws
+pub mod AskLaws

@@ -1,0 +1,5 @@
+pub mod Words
+pub mod Shown
+pub mod Readings
+pub mod Writers
+pub mod Asked

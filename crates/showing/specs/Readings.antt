@@ -1,0 +1,19 @@
+-- What `read` shows. Cited by the contracts of `src/readings.rt`. Assumes nothing.
+use Prim.Native.Nat.{ℕ}
+use Rattle.message.specs.Reading.{reading}
+use Rattle.message.specs.declared.reading.Reading.the-variants as readings
+use Rattle.message.specs.declared.reading.Reading.{Reading}
+use Rattle.octets.specs.Ascii.{ascii}
+use Rattle.octets.specs.Decimal.{pickList, shown}
+use Rattle.showing.specs.Shown.{unknown}
+use Rattle.showing.specs.Words.{bytesOf, isBytes}
+use mathlib.Core.List.{List, _++_}
+
+-- `ok`, or `no N PLACE`
+unfoldable pub readingText : Reading → List ℕ
+readingText (readings.Read m) = ascii "ok\n"
+readingText (readings.Refused n p) = ascii "no " ++ (shown n ++ (ascii " " ++ (shown p ++ ascii "\n")))
+
+-- `read HEX`
+unfoldable pub readText : List ℕ → List ℕ
+readText w = pickList (isBytes w) (readingText (reading (bytesOf w))) unknown
