@@ -12,10 +12,12 @@
  *  - a buffer that is written (a table, an output) overlaps no other argument of that call. Arguments that are only read may overlap,
  *    so a host may be a part of the message itself;
  *  - while a call writes a buffer, nothing else reads or writes it: one call at a time on one table. Calls on different tables, and calls
- *    that only read, may run at once.
+ *    that only read, may run at once;
+ *  - NET119_STACK bytes of stack are left when a call begins.
  *
- * Contents are never a condition: any bytes may stand in a message, a text or a table, and get their number. On every refusal the table
- * and the output are, byte for byte, what they were.
+ * No alignment is asked: a message, a text, a table or an output may begin at any address. Contents are never a condition: any bytes may
+ * stand in a message, a text or a table, and get their number. On every refusal the table and the output are, byte for byte, what they
+ * were.
  */
 #ifndef NET119_H
 #define NET119_H
@@ -34,6 +36,12 @@ extern "C" {
 /* A table of `count` records, 1 to 255, takes exactly so many bytes. The image is portable: it may be stored and lent again. */
 #define NET119_MOST_RECORDS 255
 #define NET119_TABLE_LENGTH(count) (16 + 160 * (size_t)(count))
+
+/*
+ * No call takes more stack than this, whatever it is handed: the stack grows with the nesting of JSON alone, and that ends at eight. About
+ * half of it is used.
+ */
+#define NET119_STACK 8192
 
 /* Numbers. 0 is accepted, or done; every other number is a refusal. */
 enum {
@@ -122,6 +130,38 @@ typedef struct {
     size_t host_start; /* where done, the next host is message[host_start .. host_end); else both are 0 */
     size_t host_end;
 } net119_remove_answer;
+
+/* The layout of the answers, as the library has it. Compilers from C11 and C++11 on check it; older ones are not asked. */
+#if defined(__cplusplus) && __cplusplus >= 201103L
+#define NET119_LAYOUT(claim) static_assert(claim, #claim);
+#elif !defined(__cplusplus) && defined(__STDC_VERSION__) && __STDC_VERSION__ >= 201112L
+#define NET119_LAYOUT(claim) _Static_assert(claim, #claim);
+#else
+#define NET119_LAYOUT(claim)
+#endif
+
+NET119_LAYOUT(sizeof(net119_read_answer) == 16)
+NET119_LAYOUT(offsetof(net119_read_answer, number) == 0)
+NET119_LAYOUT(offsetof(net119_read_answer, place) == 8)
+
+NET119_LAYOUT(sizeof(net119_event_answer) == 16)
+NET119_LAYOUT(offsetof(net119_event_answer, number) == 0)
+NET119_LAYOUT(offsetof(net119_event_answer, word) == 1)
+NET119_LAYOUT(offsetof(net119_event_answer, state) == 2)
+NET119_LAYOUT(offsetof(net119_event_answer, reply) == 4)
+NET119_LAYOUT(offsetof(net119_event_answer, place) == 8)
+
+NET119_LAYOUT(sizeof(net119_write_answer) == 16)
+NET119_LAYOUT(offsetof(net119_write_answer, number) == 0)
+NET119_LAYOUT(offsetof(net119_write_answer, length) == 8)
+
+NET119_LAYOUT(sizeof(net119_remove_answer) == 32)
+NET119_LAYOUT(offsetof(net119_remove_answer, number) == 0)
+NET119_LAYOUT(offsetof(net119_remove_answer, length) == 8)
+NET119_LAYOUT(offsetof(net119_remove_answer, host_start) == 16)
+NET119_LAYOUT(offsetof(net119_remove_answer, host_end) == 24)
+
+#undef NET119_LAYOUT
 
 /*
  * Reads a message, and answers whether document 01 accepts it: number 0, or 2 to 10 with the place.

@@ -4,4 +4,7 @@ pub mod Agreement
 pub mod Quiet
 pub mod Theorems
 pub mod BothSides
+pub mod Invites
 pub mod WrongKeepers
+pub mod WrongOnTicks
+pub mod WrongOnMessages

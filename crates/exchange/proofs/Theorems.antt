@@ -2,12 +2,11 @@
 -- was and where it was, and the header; two neighbours that do not name the same Call-ID may change places. By `lifting`. Assumes nothing.
 use Prim.Native.Nat.{ℕ, _+_, _-_, _*_, _≤_, _<_}
 use Rattle.call.specs.Answer.{isQuiet}
-use Rattle.call.specs.declared.answers.Answer.the-variants.{Refused}
-use Rattle.call.specs.declared.answers.Refusal.the-variants.{Table}
 use Rattle.exchange.proofs.Agreement.{agrees, look-is}
 use Rattle.exchange.proofs.Parts.{ours}
 use Rattle.exchange.proofs.Quiet.{Quiet, message-quiet, tick-quiet}
 use Rattle.exchange.proofs.Rules.{laws}
+use Rattle.exchange.specs.Paper.{refused, paperOf}
 use Rattle.exchange.specs.Sequence.{Event, message, tick, step, answer, next, run, answers, nameOf, Apart, isNoRoom, Roomy, Exchanged, Bytes}
 use Rattle.keeper.specs.Facts.{Fitting}
 use Rattle.keeper.specs.Keeping.{onMessage, onTick}
@@ -97,16 +96,16 @@ step-good t e g = rw (sym (agrees t e (good-well t g) .tables)) (steps.step ours
 pub stays-well-formed : (t : List ℕ) (e : Event) → Bytes t → wellFormed t ≡ true → wellFormed (next t e) ≡ true
 stays-well-formed t e b w = good-well (next t e) (step-good t e (well-good t b w))
 
-ill-message : (t : List ℕ) (now : ℕ) (s : List ℕ) → wellFormed t ≡ false → (onMessage t now s .answer ≡ Refused Table) × (onMessage t now s .table ≡ t)
+ill-message : (t : List ℕ) (now : ℕ) (s : List ℕ) → wellFormed t ≡ false → (paperOf (onMessage t now s .answer) ≡ refused 1 0 0) × (onMessage t now s .table ≡ t)
 unfolding onMessage
 ill-message t now s w = rw w (refl, refl)
 
-ill-tick : (t : List ℕ) (now : ℕ) (id : List ℕ) → wellFormed t ≡ false → (onTick t now id .answer ≡ Refused Table) × (onTick t now id .table ≡ t)
+ill-tick : (t : List ℕ) (now : ℕ) (id : List ℕ) → wellFormed t ≡ false → (paperOf (onTick t now id .answer) ≡ refused 1 0 0) × (onTick t now id .table ≡ t)
 unfolding onTick
 ill-tick t now id w = rw w (refl, refl)
 
 -- an image that is not well-formed is answered 1, and is left as it was
-pub ill-formed : (t : List ℕ) (e : Event) → wellFormed t ≡ false → (answer t e ≡ Refused Table) × (next t e ≡ t)
+pub ill-formed : (t : List ℕ) (e : Event) → wellFormed t ≡ false → (paperOf (answer t e) ≡ refused 1 0 0) × (next t e ≡ t)
 ill-formed t (message now s) w = ill-message t (now .value) s w
 ill-formed t (tick now id) w = ill-tick t (now .value) id w
 

@@ -1,2 +1,3 @@
+pub mod Paper
 pub mod Sequence
 pub mod Marks

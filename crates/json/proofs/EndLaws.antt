@@ -1,20 +1,17 @@
 -- Where the machine says that a value ends, there the places say it ends: a reader that found a value's end need not look for it again (`ends-at`, and
--- `ends-open` for a string, an array or an object; `string-ends` for a reader of strings alone). A number or a literal goes up to the first mark, and so
--- does the scan. Assumes nothing.
+-- `ends-open` for a string, an array or an object). A number or a literal goes up to the first mark, and so does the scan. Assumes nothing.
 use mathlib.Core.Path.{_≡_, refl, sym, ap, subst, _∙_}
 use mathlib.Core.Logic.{_⊎_, inl, inr}
 use mathlib.Core.Bool.{Bool, true, false, _||_}
 use mathlib.Core.List.{List, [], _∷_, _++_}
-use Prim.Native.Nat.{ℕ, suc, _+_, _≤_, _<_}
-use native.Mathlib.Numerals.{add-one}
+use Prim.Native.Nat.{ℕ, suc, _≤_, _<_}
 use native.Mathlib.Omega.{arith}
 use lib.ListN.{length, drop, getD, length-drop}
-use lib.Seq.{drop-cons}
 use lib.Dec.{eqb}
 use borrow.Author.Tests.{eqb-true, ne-eqb}
 use Rattle.octets.specs.Class.{isDigit}
 use Rattle.octets.proofs.ClassLaws.{digit-in}
-use Rattle.json.specs.Machine.{alone, done, Mode, value, first, name, name₁, colon, after, str, esc, hex, word, minus, nought, int, dot, frac, exp, sign, power, Next, live, dead, deep, isWs, isSign, due, begin, ends, pick, step, over, stops, walk, from, expo, point, one, plain}
+use Rattle.json.specs.Machine.{alone, done, Mode, value, first, name, name₁, colon, after, str, esc, hex, word, minus, nought, int, dot, frac, exp, sign, power, Next, live, dead, deep, isWs, isSign, due, begin, ends, pick, step, over, stops, walk, from, expo, point, one}
 use Rattle.json.specs.Places.{isOpen, isShut, isMark, unmarked, size, behind}
 use Rattle.json.specs.declared.Walked.the-variants.{End}
 use Rattle.json.proofs.Listing.{Ink, at-byte, at-inside, at-skip}
@@ -221,19 +218,3 @@ pub walk-over : (t : List ℕ) (d i : ℕ) → walk t after (alone d) i ≡ End 
 unfolding walk stops step ends
 walk-over [] d i = refl
 walk-over (b ∷ t) d i = refl
-
--- a reader that leaves the machine after a value with nothing around it has come to that value's end
-pub over-alone : (d : ℕ) (s : List ℕ) (e : ℕ) → from s e after (alone d) ≡ End e
-unfolding from
-over-alone d s e = walk-over (drop e s) d e
-
--- a reader of strings that comes to e from behind the quote at q has found the end of the string there, a name's too
-quote-step : (l : List ℕ) (d i : ℕ) → walk (34 ∷ l) value (alone d) i ≡ walk l (str plain) (alone d) (i + 1)
-unfolding walk step begin isWs
-quote-step l d i = refl
-
-pub string-ends : (d : ℕ) (s : List ℕ) (q e : ℕ) → q < length s → getD s q 0 ≡ 34 → from s (q + 1) (str plain) (alone d) ≡ from s e after (alone d) → behind s q ≡ e
-unfolding from
-string-ends d s q e l h g =
-    let c : drop q s ≡ 34 ∷ drop (q + 1) s = drop-cons s q 0 l ∙ ap (λ (b : ℕ). b ∷ drop (suc q) s) h ∙ ap (λ (n : ℕ). 34 ∷ drop n s) (sym (add-one q)) in
-    ends-open d s q e l (inl h) (ap (λ (t : List ℕ). walk t value (alone d) q) c ∙ quote-step (drop (q + 1) s) d q ∙ g ∙ walk-over (drop e s) d e)

@@ -21,4 +21,5 @@ pub mod GrammarScan
 pub mod GrammarCore
 pub mod PlaceTie
 pub mod PlaceSamples
+pub mod AroundLaws
 pub mod PassLaws

@@ -45,7 +45,7 @@ unfolding from walk
 halts s i m k e = rw e (rw drop-length)
 
 -- The bytes stop where more are due.
-stops-short : (m : Mode) (k : Stack) (i : ℕ) → over m ≡ false → stops m k i ≡ Bad i
+pub stops-short : (m : Mode) (k : Stack) (i : ℕ) → over m ≡ false → stops m k i ≡ Bad i
 unfolding stops
 stops-short m (alone d) i e = simp e
 stops-short m (text d) i e = simp e
@@ -116,7 +116,7 @@ done-alone d b = refl
 pub from-alone : (s : List ℕ) (i d : ℕ) → i ≤ length s → from s i after (alone d) ≡ End i
 from-alone s i d l = ⊎-elim (λ (h : i ≡ length s). halts s i after (alone d) h ∙ stops-alone d i) (λ (h : i < length s). moves s i after (alone d) done h (done-alone d _)) (eq-or-lt-of-le l)
 
-onward-alone : (s : List ℕ) (d : ℕ) (r : Walked) → place r ≤ length s → onward s after (alone d) r ≡ r
+pub onward-alone : (s : List ℕ) (d : ℕ) (r : Walked) → place r ≤ length s → onward s after (alone d) r ≡ r
 onward-alone s d (End e) l = from-alone s e d l
 onward-alone s d (Bad p) l = refl
 onward-alone s d (Deep p) l = refl

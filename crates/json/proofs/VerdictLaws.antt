@@ -75,3 +75,7 @@ read-determined s (Deep p) (Deep q) a b = ap Deep (order p q (deep-less s p q a 
 -- so whoever is told the verdict knows the machine's answer
 pub verdict-answer : (s : List ℕ) (r : Walked) → Verdict s r → r ≡ answer s
 verdict-answer s r v = read-determined s r (answer s) v (verdict s)
+
+-- every text has one verdict: there is one, and no other
+pub one-verdict : (s : List ℕ) → (g : Walked) × (Verdict s g × ((g′ : Walked) → Verdict s g′ → g′ ≡ g))
+one-verdict s = (answer s, (verdict s, verdict-answer s))

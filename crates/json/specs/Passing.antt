@@ -1,19 +1,54 @@
--- What a caller learns who walks an array or an object himself, a string or a member at a time: that it is JSON there, whatever stands around, and
--- where it ends. The contracts of `src/passing.rt` cite these. Assumes nothing.
-use mathlib.Core.Path.{_≡_}
-use Prim.Native.Nat.{ℕ, _<_}
+-- What a caller asks who walks an array or an object himself, a string or a member at a time: whether it is JSON there, as the machine says it of a value
+-- by itself, and where its parts stand. Each definition is total, on any bytes and at any place. The contracts of `src/passing.rt` cite these; that the
+-- machine goes the same way whatever stands around is a theorem (proofs/PassLaws.antt). Assumes nothing.
+use Prim.Native.Nat.{ℕ, _+_}
+use Rattle.json.specs.Machine.{one}
+use Rattle.json.specs.Places.{past}
+use Rattle.json.specs.declared.Walked.the-variants.{End, Bad, Deep}
+use Rattle.json.specs.declared.Walked.{Walked}
+use Rattle.json.specs.declared.places.Member.{Member}
+use lib.Dec.{eqb, ltb}
+use lib.ListN.{getD}
+use mathlib.Core.Bool.{Bool, true, false, _&&_, _||_}
 use mathlib.Core.List.{List}
-use lib.ListN.{length}
-use Rattle.json.specs.Machine.{Stack, obj, value, name, after, levels, from}
-use Rattle.json.specs.Places.{behind, Found, Row}
 
--- the string that opens at q ends at e
-pub record PassedString (s : List ℕ) (q e : ℕ) : Type 0 where
-  pub ends : Found s q (behind s q) e
-  pub same : (k : Stack) → from s q value k ≡ from s e after k
+-- whether a reader came to its end
+abbrev pub isEnd : Walked → Bool
+isEnd (End e) = true
+isEnd (Bad p) = false
+isEnd (Deep p) = false
 
--- the member whose name opens at q, with so many levels left in its object: its places, and a comma or a closing brace behind it
-pub record PassedMember (s : List ℕ) (q left e v w t : ℕ) : Type 0 where
-  pub row : Row s q e v w t
-  pub same : (k : Stack) → levels (obj k) ≡ left → from s q name (obj k) ≡ from s t after (obj k)
-  pub inside : t < length s
+-- where it came to its end; 0 where it came to none
+abbrev pub reached : Walked → ℕ
+reached (End e) = e
+reached (Bad p) = 0
+reached (Deep p) = 0
+
+-- behind the value at v, with so many levels left; 0 where none stands there. A string needs no level.
+unfoldable pub passed : ℕ → List ℕ → ℕ → ℕ
+passed left s v = reached (one left s v)
+
+abbrev pub pickM : Bool → Member → Member → Member
+pickM true a b = a
+pickM false a b = b
+
+-- no member
+abbrev pub noMember : Member
+noMember = record { name = 0; value = 0; end = 0; then = 0 }
+
+-- what may follow a member: a comma or the closing brace
+abbrev pub isNext : ℕ → Bool
+isNext b = eqb b 44 || eqb b 125
+
+-- the member with its name up to e and its value from v to w, if there is such a value and it is followed as a member's is
+unfoldable pub followed : List ℕ → ℕ → ℕ → ℕ → Member
+followed s e v w = pickM (ltb 0 w && isNext (getD s (past s w) 0)) (record { name = e; value = v; end = w; then = past s w }) noMember
+
+-- the member with its name up to e, if there is such a name and a colon and a value come behind it
+unfoldable pub labelled : ℕ → List ℕ → ℕ → Member
+labelled left s e =
+    pickM (ltb 0 e && eqb (getD s (past s e) 0) 58) (followed s e (past s (past s e + 1)) (passed left s (past s (past s e + 1)))) noMember
+
+-- the member whose name opens at q, with so many levels left in its object
+unfoldable pub passedMember : ℕ → List ℕ → ℕ → Member
+passedMember left s q = labelled left s (passed 0 s q)

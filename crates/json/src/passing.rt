@@ -6,27 +6,25 @@ use crate::strings::string;
 use crate::values::value;
 use octets::byte;
 use octets::or;
-ghost use mathlib.Core.Bool.{_||_};
 ghost use mathlib.Core.Path.{_≡_};
 ghost use Prim.Native.Nat.{_<_};
-ghost use lib.Dec.{eqb};
 ghost use lib.ListN.{getD, length};
-ghost use Rattle.json.specs.Passing.{PassedMember, PassedString};
+ghost use Rattle.json.specs.Passing.{isNext, noMember, passed, passedMember};
 
 // The place behind the string that opens at q; 0 where none does.
 pub fn pass_string(s: &[u8], q: usize) -> usize
     requires { ⌜ (q < length (now s)) × (getD (now s) q 0 ≡ 34) ⌝ }
-    ensures { λ r. ⌜ (0 < r → PassedString (now (s .entry)) q r) ⌝ }
+    ensures { λ r. ⌜ r ≡ passed 0 (now (s .entry)) q ⌝ }
 {
     let r = string(s, q + 1);
-    let Walked::End(e) = r else {
+    let Walked::End(place) = r else {
         return 0;
     };
-    e
+    place
 }
 
 fn nothing() -> Member
-    ensures { λ r. ⌜ r .then ≡ 0 ⌝ }
+    ensures { λ r. ⌜ r ≡ noMember ⌝ }
 {
     Member {
         name: 0,
@@ -38,15 +36,15 @@ fn nothing() -> Member
 
 // What may follow a member: a comma or the closing brace.
 fn is_next(b: u8) -> bool
-    ensures { λ r. ⌜ r ≡ (eqb b 44 || eqb b 125) ⌝ }
+    ensures { λ r. ⌜ r ≡ isNext b ⌝ }
 {
     or(b == 44, b == 125)
 }
 
-// The member whose name opens at q, with `left` levels left in its object, if it is followed as a member is; else `then` is 0.
+// The member whose name opens at q, with `left` levels left in its object, if it is followed as a member is; else 0 for each place.
 pub fn pass_member(s: &[u8], q: usize, left: usize) -> Member
     requires { ⌜ (q < length (now s)) × (getD (now s) q 0 ≡ 34) ⌝ }
-    ensures { λ r. ⌜ (0 < r .then → PassedMember (now (s .entry)) q left (r .name) (r .value) (r .end) (r .then)) ⌝ }
+    ensures { λ r. ⌜ r ≡ passedMember left (now (s .entry)) q ⌝ }
 {
     let n = string(s, q + 1);
     let Walked::End(e) = n else {

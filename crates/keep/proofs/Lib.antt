@@ -1,3 +1,3 @@
 pub mod LogLaws
 pub mod WorkLaws
-pub mod LogCut
+pub mod WholeLog

@@ -16,7 +16,7 @@ use Rattle.lines.specs.declared.reading.Line.{Line}
 use Rattle.octets.proofs.ClassLaws.{in-among}
 use Rattle.octets.specs.Splice.{splice}
 use Rattle.table.proofs.KeepLaws.{blank-sound}
-use Rattle.table.specs.Blank.{blankAfter, blankFits}
+use Rattle.table.specs.Blank.{blankAfter, blankFits, blankOf}
 use Rattle.table.specs.WellFormed.{wellFormed}
 use lib.ListN.{drop, length, length-drop, take}
 use lib.Seq.{take-all}
@@ -83,7 +83,10 @@ module _ (t l o : List ℕ) (at : ℕ) {o′ : List ℕ} {r : ℕ} where
       let u = rw (z, ans, d) at w in
       rw e (u .0, u .1, rw d at tab)
 
--- 255 blank records are a table
-pub starts : (o : List ℕ) {t : List ℕ} → length o ≡ 40816 → t ≡ blankAfter o 255 → wellFormed t ≡ true
+-- 255 blank records are made, and they are a table
+pub starts : (o : List ℕ) {t : List ℕ} → length o ≡ 40816 → t ≡ blankAfter o 255 → t ≡ blankOf 255
 unfolding blankFits
-starts o l e = rw (e, l, in-among 1 255 255 (omega arith) (omega arith)) (blank-sound 255 (omega arith) (omega arith))
+starts o l e = e ∙ rw (l, in-among 1 255 255 (omega arith) (omega arith))
+
+pub blank-starts : {t : List ℕ} → t ≡ blankOf 255 → wellFormed t ≡ true
+blank-starts e = rw e (blank-sound 255 (omega arith) (omega arith))

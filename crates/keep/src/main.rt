@@ -1,119 +1,168 @@
 // The program of document 01: 255 blank records, a log of lines on standard input, an answer a line on standard output.
 // Input is taken in pieces of 64 KiB at most; answers go out before the next read, so that it can sit in a pipe.
-// An input of any length is worked off in the same memory. A write that fails ends it.
+// An input of any length is worked off in the same memory. Where a write or a read fails it says so on standard error and ends, and
+// nothing more is written; a last line without its line feed is answered only where the input has ended.
 mod answers;
 mod pieces;
 
-use libc::STDIN_FILENO;
-use libc::STDOUT_FILENO;
 use pieces::answer_kept;
 use pieces::work;
-ghost use mathlib.Core.Bool.{true};
+use streams::Sent;
+ghost use mathlib.Core.Bool.{false, true};
 ghost use mathlib.Core.Path.{_≡_};
-ghost use Prim.Native.Nat.{_≤_};
+ghost use Prim.Native.Nat.{_<_, _≤_};
+ghost use lib.Dec.{ltb};
+ghost use lib.ListN.{drop, take};
+ghost use Rattle.keep.specs.Log.{lineDone};
+ghost use Rattle.lines.specs.Input.{last as lastLine};
+ghost use Rattle.lines.specs.Running.{Goes, Reached, Stepped, logTable, logText};
+ghost use Rattle.table.specs.Blank.{blankOf};
 ghost use Rattle.table.specs.WellFormed.{wellFormed};
 
-// How many bytes of an open line are kept, and whether to go on.
+// Where a run stands: how many bytes of the open line are kept, the place in the piece and the piece's end, how many bytes the last
+// turn handed to `write` (of which only the contracts speak), whether to go on, and whether the input has ended.
 struct State {
     len: usize,
+    from: usize,
+    n: usize,
+    end: usize,
     go: bool,
+    ended: bool,
 }
 
-// Writes the first n bytes of the output buffer; whether that was done.
-fn flush(out: &[u8; 65536], n: usize) -> bool
+// Hands the first n bytes of the output buffer to `write`.
+fn hand_on(out: &[u8; 65536], n: usize) -> Sent
     requires { ⌜ n ≤ 65536 ⌝ }
+    ensures { λ r. ⌜ (r .n ≡ n) × (r .n ≡ 0 → r .went ≡ true) ⌝ }
 {
     let s: &[u8] = out;
-    io::write_all(STDOUT_FILENO, &s[0..n])
+    streams::write(&s[0..n], b"keep: standard output")
 }
 
-// All lines of a piece, and their answers written.
+// The next piece: what a read puts at the buffer's front.
+fn fetch(buf: &mut [u8; 65536], len: usize) -> State
+    ensures { λ r. ⌜ (r .len ≡ len) × (r .from ≡ 0) × (r .n ≤ 65536) × (r .end ≡ 0) × (r .go ≡ ltb 0 (r .n)) × (r .ended ≡ true → r .n ≡ 0) ⌝ }
+{
+    let g = streams::read(buf, b"keep: standard input");
+    State {
+        len: len,
+        from: 0,
+        n: g.n,
+        end: 0,
+        go: 0 < g.n,
+        ended: g.ended,
+    }
+}
+
+// Lines of the piece's rest, as many as the output buffer takes answers to, and their answers handed on.
 fn piece(
     table: &mut [u8; 40816],
+    buf: &[u8; 65536],
     line: &mut [u8; 32790],
-    len0: usize,
-    s: &[u8],
     out: &mut [u8; 65536],
+    len: usize,
+    from: usize,
+    n: usize,
 ) -> State
-    requires { ⌜ (wellFormed (now table) ≡ true) × (len0 ≤ 32790) ⌝ }
-    ensures { λ r. ⌜ (wellFormed (now (table .exit)) ≡ true) × (r .len ≤ 32790) ⌝ }
+    requires { ⌜ (wellFormed (now table) ≡ true) × (len ≤ 32790) × (from < n) × (n ≤ 65536) ⌝ }
+    ensures { λ r. ⌜ Goes lineDone 32790 (now (table .entry)) (take len (now (line .entry))) (drop from (take n (now (buf .entry)))) (now (table .exit)) (take (r .len) (now (line .exit))) (drop (r .from) (take n (now (buf .entry)))) (take (r .end) (now (out .exit)))
+        × (wellFormed (now (table .exit)) ≡ true)
+        × (r .len ≤ 32790)
+        × (r .from ≤ n)
+        × (r .n ≡ n)
+        × (r .ended ≡ false)
+        × (from < r .from)
+        × (r .end ≡ 0 → r .go ≡ true) ⌝ }
 {
-    let mut len = len0;
-    let mut from: usize = 0;
-    while from < s.len() {
-        let w = work(table, line, len, s, from, out);
-        len = w.len;
-        from = w.next;
-        if !flush(out, w.end) {
-            return State {
-                len: len,
-                go: false,
-            };
-        }
+    let s: &[u8] = buf;
+    let w = work(table, line, len, &s[0..n], from, out);
+    let sent = hand_on(out, w.end);
+    State {
+        len: w.len,
+        from: w.next,
+        n: n,
+        end: sent.n,
+        go: sent.went,
+        ended: false,
     }
-    State { len: len, go: true }
 }
 
-// One read and its lines.
+// One turn: a read where nothing of a piece is left, else lines of it.
 fn turn(
     table: &mut [u8; 40816],
     buf: &mut [u8; 65536],
     line: &mut [u8; 32790],
-    len: usize,
     out: &mut [u8; 65536],
+    s: State,
 ) -> State
-    requires { ⌜ (wellFormed (now table) ≡ true) × (len ≤ 32790) ⌝ }
-    ensures { λ r. ⌜ (wellFormed (now (table .exit)) ≡ true) × (r .len ≤ 32790) ⌝ }
+    requires { ⌜ (wellFormed (now table) ≡ true) × (s .len ≤ 32790) × (s .from ≤ s .n) × (s .n ≤ 65536) ⌝ }
+    ensures { λ r. ⌜ Stepped lineDone 32790 (now (table .entry)) (take (s .len) (now (line .entry))) (drop (s .from) (take (s .n) (now (buf .entry)))) (now (table .exit)) (take (r .len) (now (line .exit))) (drop (r .from) (take (r .n) (now (buf .exit)))) (take (r .end) (now (out .exit)))
+        × (wellFormed (now (table .exit)) ≡ true)
+        × (r .len ≤ 32790)
+        × (r .from ≤ r .n)
+        × (r .n ≤ 65536)
+        × (r .ended ≡ true → r .n ≡ 0)
+        × (s .from < s .n → s .from < r .from) ⌝ }
 {
-    let got = libc::read(STDIN_FILENO, buf);
-    if got <= 0 {
-        return State {
-            len: len,
-            go: false,
-        };
+    let len = s.len;
+    let from = s.from;
+    let n = s.n;
+    if from < n {
+        return piece(table, buf, line, out, len, from, n);
     }
-    let s: &[u8] = buf;
-    let n = io::count(got, s);
-    piece(table, line, len, &s[0..n], out)
+    fetch(buf, len)
 }
 
-// The last line, which may lack its line feed.
-fn last(table: &mut [u8; 40816], line: &[u8; 32790], len: usize, out: &mut [u8; 65536])
-    requires { ⌜ (wellFormed (now table) ≡ true) × (len ≤ 32790) ⌝ }
+// Makes a table of 255 blank records.
+fn start(table: &mut [u8; 40816])
+    ensures { λ _. ⌜ now (table .exit) ≡ blankOf 255 ⌝ }
 {
-    if 0 < len {
-        let end = answer_kept(table, line, len, out, 0);
-        flush(out, end);
-    }
+    table::blank(table, 255);
 }
 
-// Turn by turn to the end of the input. Nothing says that an input ends, so the turns are counted down
-// from a number that no run uses up.
+// Turn by turn from a blank table on, until the input ends or a call fails. Nothing says that an input ends, so the turns are counted
+// down from a number that no run uses up.
 fn run(
     table: &mut [u8; 40816],
     buf: &mut [u8; 65536],
     line: &mut [u8; 32790],
     out: &mut [u8; 65536],
-)
-    requires { ⌜ wellFormed (now table) ≡ true ⌝ }
+) -> State
+    ensures { λ r. ⌜ Reached lineDone 32790 (blankOf 255) (now (table .exit)) (take (r .len) (now (line .exit))) (drop (r .from) (take (r .n) (now (buf .exit))))
+        × (wellFormed (now (table .exit)) ≡ true)
+        × (r .len ≤ 32790)
+        × (r .ended ≡ true → r .n ≡ 0) ⌝ }
 {
-    let mut len: usize = 0;
+    start(table);
+    let mut s = State {
+        len: 0,
+        from: 0,
+        n: 0,
+        end: 0,
+        go: true,
+        ended: false,
+    };
     let mut turns = u64::MAX;
-    let mut go = true;
-    while go && turns > 0 {
-        let s = turn(table, buf, line, len, out);
-        len = s.len;
-        go = s.go;
+    while s.go && turns > 0 {
+        s = turn(table, buf, line, out, s);
         turns -= 1;
     }
-    last(table, line, len, out);
+    s
 }
 
-// Makes a table of 255 blank records.
-fn start(table: &mut [u8; 40816])
-    ensures { λ _. ⌜ wellFormed (now (table .exit)) ≡ true ⌝ }
+// The answer to an open line that is not empty, where the input has ended, handed on; how many bytes it has.
+fn last(table: &mut [u8; 40816], line: &[u8; 32790], out: &mut [u8; 65536], s: State) -> usize
+    requires { ⌜ (wellFormed (now table) ≡ true) × (s .len ≤ 32790) × (s .ended ≡ true) ⌝ }
+    ensures { λ r. ⌜ (take r (now (out .exit)) ≡ logText lineDone (now (table .entry)) (lastLine (take (s .len) (now (line .entry)))))
+        × (now (table .exit) ≡ logTable lineDone (now (table .entry)) (lastLine (take (s .len) (now (line .entry))))) ⌝ }
 {
-    table::blank(table, 255);
+    let len = s.len;
+    if len == 0 {
+        return 0;
+    }
+    let end = answer_kept(table, line, len, out, 0);
+    let sent = hand_on(out, end);
+    sent.n
 }
 
 fn main() {
@@ -121,6 +170,8 @@ fn main() {
     let mut buf = [0u8; 65536];
     let mut line = [0u8; 32790];
     let mut out = [0u8; 65536];
-    start(&mut table);
-    run(&mut table, &mut buf, &mut line, &mut out);
+    let s = run(&mut table, &mut buf, &mut line, &mut out);
+    if s.ended {
+        last(&mut table, &line, &mut out, s);
+    }
 }

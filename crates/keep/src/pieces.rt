@@ -5,7 +5,8 @@ ghost use mathlib.Core.Bool.{true};
 ghost use mathlib.Core.Path.{_≡_};
 ghost use Prim.Native.Nat.{_+_, _<_, _≤_};
 ghost use lib.ListN.{drop, length, take};
-ghost use Rattle.keep.specs.Log.{Goes, lineDone};
+ghost use Rattle.keep.specs.Log.{lineDone};
+ghost use Rattle.lines.specs.Running.{Goes};
 ghost use Rattle.octets.specs.Splice.{splice};
 ghost use Rattle.table.specs.WellFormed.{wellFormed};
 
@@ -29,7 +30,7 @@ pub fn answer_kept(table: &mut [u8], line: &[u8], n: usize, out: &mut [u8], at: 
 }
 
 // Answers the lines of a piece from a place on, where `len0` bytes of an open line are kept, up to its end or until the output
-// buffer is nearly full.
+// buffer has no room for another answer.
 pub fn work(
     table: &mut [u8],
     line: &mut [u8],
@@ -39,12 +40,13 @@ pub fn work(
     out: &mut [u8],
 ) -> Worked
     requires { ⌜ (wellFormed (now table) ≡ true) × (32790 ≤ length (now line)) × (len0 ≤ length (now line)) × (64 ≤ length (now out)) × (from0 < length (now s)) ⌝ }
-    ensures { λ r. ⌜ Goes (length (now (line .entry))) (now (table .entry)) (take len0 (now (line .entry))) (drop from0 (now (s .entry))) (now (table .exit)) (take (r .len) (now (line .exit))) (drop (r .next) (now (s .entry))) (take (r .end) (now (out .exit)))
+    ensures { λ r. ⌜ Goes lineDone (length (now (line .entry))) (now (table .entry)) (take len0 (now (line .entry))) (drop from0 (now (s .entry))) (now (table .exit)) (take (r .len) (now (line .exit))) (drop (r .next) (now (s .entry))) (take (r .end) (now (out .exit)))
         × (wellFormed (now (table .exit)) ≡ true)
         × (r .end ≤ length (now (out .entry)))
         × (r .len ≤ length (now (line .entry)))
         × (from0 < r .next)
-        × (r .next ≤ length (now (s .entry))) ⌝ }
+        × (r .next ≤ length (now (s .entry)))
+        × (r .next < length (now (s .entry)) → length (now (out .entry)) < r .end + 64) ⌝ }
 {
     let mut len = len0;
     let mut from = from0;

@@ -4,3 +4,6 @@ pub mod InputLaws
 pub mod Cutting
 pub mod Determined
 pub mod Samples
+pub mod WorkLaws
+pub mod WholeRun
+pub mod TurnLaws

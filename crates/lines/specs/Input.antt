@@ -1,5 +1,5 @@
--- The lines of an input, and what one call of the splitter gives. Cited by the contracts of `src/splitting.rt`.
--- Assumes nothing.
+-- The lines of an input, and what one call of the splitter gives. Cited by the contracts of `src/splitting.rt`, by `Running`, and by those of
+-- `last` in the programs. Assumes nothing.
 use Prim.Native.Nat.{ℕ, _+_, _-_}
 use Rattle.lines.specs.declared.splitting.Next.the-variants.{Here, Held, Pending}
 use Rattle.lines.specs.declared.splitting.Next.{Next}

@@ -2,7 +2,7 @@
 -- fields of the tag kept their rules and the two sides differ. Assumes nothing.
 use Prim.Native.Nat.{ℕ, zero, suc, _+_, _≤_, _<_}
 use Rattle.json.specs.Machine.{answer}
-use Rattle.json.specs.Places.{pickN, bytes, part, past, elements, members, raw}
+use Rattle.json.specs.Places.{pickN, bytes, part, members}
 use Rattle.json.specs.declared.Walked.the-variants as walked
 use Rattle.json.specs.declared.Walked.{Walked}
 use Rattle.message.proofs.FieldLaws.{address-broken, sequence-broken, status-broken}
@@ -14,7 +14,8 @@ use Rattle.message.specs.Message.{numberIn, methodIn, callerIn, codeIn, 
 use Rattle.message.specs.Spans.{textAt}
 use Rattle.message.specs.Parties.{cut, callIdOf, userOf, callerFireOf, calleeFireOf}
 use Rattle.message.specs.Reading.{choose, unless, agreed, settled, judged, known, shaped, onJson, onUtf8, reading}
-use Rattle.message.specs.Shape.{pair, tagAt, tagOf, objectOf}
+use Rattle.message.proofs.ShapeLaws.{tag-few}
+use Rattle.message.specs.Shape.{tagOf, objectOf}
 use Rattle.message.specs.Value.{isString, textOf, freely, ruled}
 use Rattle.message.specs.declared.checking.Check.the-variants.{Good, Fault}
 use Rattle.message.specs.declared.checking.Check.{Check}
@@ -24,14 +25,12 @@ use Rattle.message.specs.declared.reading.Reading.the-variants.{Refused,
 use Rattle.message.specs.declared.reading.Reading.{Reading}
 use Rattle.octets.proofs.TextLaws.{and-parts}
 use Rattle.octets.specs.Class.{all}
-use Rattle.rules.proofs.NameLaws.{place-below}
 use Rattle.rules.proofs.PartLaws.{call-id-length, caller-address-parts, callee-address-parts}
 use Rattle.rules.proofs.SequenceLaws.{Ranges, sequence-ranges}
 use Rattle.rules.proofs.StatusLaws.{status-range}
 use Rattle.rules.specs.Address.{addressOf}
 use Rattle.rules.specs.Fields.{tagAsks, isIn}
-use Rattle.rules.specs.Names.{fields, tags}
-use Rattle.rules.specs.Pieces.{placeOf}
+use Rattle.rules.specs.Names.{fields}
 use Rattle.rules.specs.Sequence.{sequenceRule, sequenceOf}
 use Rattle.rules.specs.Status.{statusRule, statusOf}
 use Rattle.rules.specs.Texts.{fireRule, userRule, callIdRule, unescaped}
@@ -48,7 +47,7 @@ use borrow.Author.Tests.{eqb-false, ltb-true, ltb-false, lt-ltb, not-false}
 use lib.Dec.{eqb, leb, ltb}
 use lib.ListN.{length, getD}
 use mathlib.Core.Bool.{Bool, true, false, not, _&&_, _||_}
-use mathlib.Core.List.{List, [], _∷_}
+use mathlib.Core.List.{List}
 use mathlib.Core.Logic.{_⊎_, inl, inr}
 use mathlib.Core.Path.{_≡_, refl, sym, ap, _∙_}
 use native.Mathlib.Decide.{ℕ-discrete}
@@ -328,23 +327,6 @@ module _ (s : List ℕ) (tag : ℕ) (t : List ℕ) (low : 1 ≤ tag) (high : tag
       by : (b : Bool) → ltb 2 tag ≡ b → choose b (Read (probeOf tag)) (settled s (settingOf s tag t) t) ≡ Read m → Facts s m
       by true q z = probe-facts (cc) (ltb-true 2 tag q)
       by false q z = message-facts (ltb-false 2 tag q) (r .0) (settled-is s (settingOf s tag t) t z)
-
--- row 6: the tag is one of four
-few-pair : (ps : List ℕ) (f : ℕ → ℕ → ℕ) → ((x y : ℕ) → f x y ≤ 4) → pair ps f ≤ 4
-few-pair [] f h = omega arith
-few-pair (x ∷ []) f h = omega arith
-few-pair (x ∷ y ∷ []) f h = h x y
-few-pair (x ∷ y ∷ z ∷ zs) f h = omega arith
-
-pick-le : (b : Bool) (a n : ℕ) → a ≤ n → pickN b a 0 ≤ n
-pick-le true a n h = h
-pick-le false a n h = omega arith
-
-tag-few : (s : List ℕ) → tagOf s ≤ 4
-unfolding tagOf tagAt
-tag-few s =
-    pick-le (eqb (getD s (past s 0) 0) 91) (pair (elements s (past s 0)) (tagAt s)) 4
-    (few-pair (elements s (past s 0)) (tagAt s) (λ x y. pick-le (eqb (getD s x 0) 34 && eqb (getD s y 0) 123) (placeOf tags (raw s x)) 4 (place-below tags (raw s x))))
 
 -- THE LAW: what is known of every message that is read
 pub facts : (s : List ℕ) (m : Message) → reading s ≡ Read m → Facts s m

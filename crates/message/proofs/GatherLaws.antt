@@ -2,17 +2,16 @@
 -- Assumes nothing.
 use Prim.Native.Nat.{ℕ, zero, suc, _+_, _-_, _≤_, _<_}
 use Rattle.json.specs.Places.{pickL, behind, raw, past, valueOf, follows, more, memberAt, membersFrom, members}
-use Rattle.message.specs.Known.{numberAt, empty, has, note, noted, repeated, Gathered, Ended}
+use Rattle.message.specs.Known.{numberAt, empty, has, note, noted, repeated, notedOnce, endAt, endsOf, Gathered, Ended}
 use Rattle.octets.specs.Text.{same}
 use Rattle.rules.specs.Names.{hopMembers}
 use Rattle.rules.specs.Pieces.{placeOf, placeFrom, pickN as pickNumber}
 use borrow.Author.Tests.{eq-eqb, ne-eqb}
 use lib.Dec.{eqb, ltb}
-use lib.ListN.{length, getD, set, replicate, length-set, List·getD-eq-default}
-use lib.Seq.{getD-set-same, getD-set-other}
+use lib.ListN.{length, getD, set, replicate, List·getD-eq-default, List·getD-map}
 use mathlib.Core.Bool.{Bool, true, false, _&&_}
-use mathlib.Core.List.{List, [], _∷_}
-use mathlib.Core.Path.{_≡_, refl, sym, _∙_}
+use mathlib.Core.List.{List, [], _∷_, map}
+use mathlib.Core.Path.{_≡_, refl, sym, ap, _∙_}
 use native.Mathlib.Decide.{decLt, ℕ-discrete}
 use native.Mathlib.Omega.{arith}
 
@@ -53,28 +52,28 @@ comma s f v e g = rw (← e, eq-eqb _ _ g)
 pub record Sofar (ns : List (List ℕ)) (s : List ℕ) (o : ℕ) (at qs : List ℕ) : Type 0 where
   pub again : repeated ns s empty (members s o) ≡ repeated ns s at qs
   pub known : noted ns s empty (members s o) ≡ noted ns s at qs
+  pub kept : notedOnce ns s empty (members s o) ≡ notedOnce ns s at qs
 
 pub started : (ns : List (List ℕ)) (s : List ℕ) (o : ℕ) → Sofar ns s o empty (membersFrom (length s) s (o + 1))
 unfolding members
-started ns s o = record { again = refl; known = refl }
+started ns s o = record { again = refl; known = refl; kept = refl }
 
 module _ {ns : List (List ℕ)} {s : List ℕ} {o : ℕ} {at qs : List ℕ} (f : Sofar ns s o at qs) where
   -- no member is left
   pub over : qs ≡ [] → Gathered ns s o 0 at
-  unfolding repeated noted
-  over e =
-      record { first = sym (f .again ∙ rw e); places = λ z. sym (f .known ∙ rw e) }
+  unfolding repeated noted notedOnce
+  over e = record { first = sym (f .again ∙ rw e); places = sym (f .kept ∙ rw e); all = λ z. sym (f .known ∙ rw e) }
 
   -- the next member is a repeat
   pub repeats : (q : ℕ) (rest : List ℕ) → qs ≡ q ∷ rest → (q ≡ 0 → ⊥) → has ns s at q ≡ true → Gathered ns s o q at
-  unfolding repeated
-  repeats q rest e late h = record { first = sym (f .again ∙ rw (e, h)); places = λ z. absurd (late z) }
+  unfolding repeated notedOnce
+  repeats q rest e late h = record { first = sym (f .again ∙ rw (e, h)); places = sym (f .kept ∙ rw (e, h)); all = λ z. absurd (late z) }
 
   -- the next member is none
   pub goes-on : (q : ℕ) (rest : List ℕ) {at′ rest′ : List ℕ} → qs ≡ q ∷ rest → has ns s at q ≡ false → at′ ≡ note ns s at q → rest ≡ rest′ → Sofar ns s o at′ rest′
-  unfolding repeated noted
+  unfolding repeated noted notedOnce
   goes-on q rest e h a r =
-      record { again = f .again ∙ rw (e, h, ← a, r); known = f .known ∙ rw (e, ← a, r) }
+      record { again = f .again ∙ rw (e, h, ← a, r); known = f .known ∙ rw (e, ← a, r); kept = f .kept ∙ rw (e, h, ← a, r) }
 
 -- what the functions on the places say of a member
 
@@ -90,7 +89,36 @@ pub number-is : (ns : List (List ℕ)) (s : List ℕ) (q : ℕ) {x : List ℕ} {
 unfolding numberAt
 number-is ns s q e f = f ∙ rw e
 
--- The ends that are known.
+-- The ends of values by the places where they begin.
+
+pub no-ends : (s : List ℕ) → empty ≡ endsOf s empty
+unfolding endsOf
+no-ends s = refl
+
+map-set : (f : ℕ → ℕ) (t : List ℕ) (k v : ℕ) → set (map f t) k (f v) ≡ map f (set t k v)
+map-set f [] k v = refl
+map-set f (x ∷ t) zero v = refl
+map-set f (x ∷ t) (suc k) v = ap (λ (l : List ℕ). f x ∷ l) (map-set f t k v)
+
+-- one more, of a value at v that ends at w
+pub note-ends : (s t : List ℕ) {e : List ℕ} (k v : ℕ) {w : ℕ} (b : Bool) → e ≡ endsOf s t → 0 < v → w ≡ behind s v → pickL b e (set e k w) ≡ endsOf s (pickL b t (set t k v))
+unfolding endsOf
+note-ends s t k v true f h g = f
+note-ends s t {e} k v {w} false f h g =
+    let z : w ≡ endAt s v = g ∙ rw (ne-eqb v 0 (λ y. omega arith)) in
+    ap (λ (l : List ℕ). set l k w) f ∙ ap (set (map (endAt s) t) k) z ∙ map-set (endAt s) t k v
+
+-- each end is known, or there is none
+pub ends-known : (s t : List ℕ) {e : List ℕ} → e ≡ endsOf s t → Ended s t e
+unfolding endsOf
+ends-known s t {e} f = record { ends = λ n h. by n (getD t n 0) refl (ℕ-discrete (getD t n 0) 0) h }
+  where
+    is : (n : ℕ) → getD e n 0 ≡ endAt s (getD t n 0)
+    is n = ap (λ (l : List ℕ). getD l n 0) f ∙ List·getD-map (endAt s) t n 0
+
+    by : (n v : ℕ) → getD t n 0 ≡ v → Dec (v ≡ 0) → 0 < getD e n 0 → getD e n 0 ≡ behind s (getD t n 0)
+    by n v q (yes z) h = absurd (let y : getD e n 0 ≡ 0 = is n ∙ rw (q, z) in omega arith)
+    by n v q (no z) h = is n ∙ rw (q, ne-eqb v 0 z)
 
 abbrev noughts : ℕ → List ℕ
 noughts k = replicate k 0
@@ -100,31 +128,9 @@ nought-at zero n = refl
 nought-at (suc k) zero = refl
 nought-at (suc k) (suc n) = nought-at k n
 
--- none is
+-- none is known
 pub ended-none : (s t : List ℕ) → Ended s t empty
 ended-none s t = record { ends = λ n h. absurd (omega (arith, nought-at 27 n)) }
-
-module _ {s t e : List ℕ} (f : Ended s t e) (lt : length t ≡ 27) (le : length e ≡ 27) (k v w : ℕ) (few : k < 27) (is : w ≡ behind s v) where
-  set-ended : Ended s (set t k v) (set e k w)
-  set-ended = record { ends = λ n h. by n h (ℕ-discrete n k) }
-    where
-      by : (n : ℕ) → 0 < getD (set e k w) n 0 → Dec (n ≡ k) → getD (set e k w) n 0 ≡ behind s (getD (set t k v) n 0)
-      by n h (yes q) =
-          let a : getD (set e k w) k 0 ≡ w = getD-set-same e k w 0 (omega arith) in
-          let b : getD (set t k v) k 0 ≡ v = getD-set-same t k v 0 (omega arith) in
-          rw (q, a, b) is
-      by n h (no q) =
-          let a : getD (set e k w) n 0 ≡ getD e n 0 = getD-set-other e k n w 0 q in
-          let b : getD (set t k v) n 0 ≡ getD t n 0 = getD-set-other t k n v 0 q in
-          rw (a, b) (f .ends n (omega arith))
-
-  pub note-ended : (b : Bool) → Ended s (pickL b t (set t k v)) (pickL b e (set e k w))
-  note-ended true = f
-  note-ended false = set-ended
-
-pub length-note : (b : Bool) (t : List ℕ) (k v : ℕ) → length t ≡ 27 → length (pickL b t (set t k v)) ≡ 27
-length-note true t k v h = h
-length-note false t k v h = length-set t k v ∙ h
 
 -- a byte that is not 0 stands inside the text
 pub there : (s : List ℕ) (i b : ℕ) → getD s i 0 ≡ suc b → i < length s

@@ -3,9 +3,9 @@
 use Prim.Native.Nat.{ℕ, _+_, _-_, _<_}
 use Rattle.json.proofs.PlaceLaws.{closing-is, raw-is}
 use Rattle.json.specs.Places.{pickL, part, past, behind, valueOf, more, members, membersFrom, Row}
-use Rattle.message.proofs.GatherLaws.{Sofar, started, over, repeats, goes-on, one-more, comma, no-comma, has-is, note-is, number-is, ended-none, note-ended}
+use Rattle.message.proofs.GatherLaws.{Sofar, started, over, repeats, goes-on, one-more, comma, no-comma, has-is, note-is, number-is, no-ends, note-ends}
 use Rattle.message.specs.Hop.{endsIn, hopOf, placesIn}
-use Rattle.message.specs.Known.{Ended, Gathered, empty, noted, numberAt, repeated}
+use Rattle.message.specs.Known.{Gathered, empty, endsOf, noted, numberAt, repeated}
 use Rattle.message.specs.Via.{hopPlaces}
 use Rattle.message.specs.declared.hops.Hop.{Hop}
 use Rattle.message.specs.declared.hops.Members.{Members}
@@ -23,23 +23,23 @@ use native.Mathlib.Omega.{arith}
 pub no-number : (k : ℕ) → k < 4 → (k ≡ 1 → ⊥) → (k ≡ 2 → ⊥) → (k ≡ 3 → ⊥) → k ≡ 0
 no-number k h a b c = omega (arith, h, a, b, c)
 
--- what is found of the members of the object at o: the first repeat, the places and, as far as they are known, the ends
+-- what is found of the members of the object at o: the first repeat, the places and the ends
 abbrev Found : List ℕ → ℕ → Members → Type 0
-Found v o m = Gathered hopMembers v o (m .twice) (placesIn m) × Ended v (placesIn m) (endsIn m)
+Found v o m = Gathered hopMembers v o (m .twice) (placesIn m) × (endsIn m ≡ endsOf v (placesIn m))
 
 -- the walk over the members of the object at o: p is behind the brace or a comma, n members at most are to come
 pub record Walking (v : List ℕ) (o : ℕ) (m : Members) (n p : ℕ) : Type 0 where
   pub none : m .twice ≡ 0
   pub sofar : Sofar hopMembers v o (placesIn m) (membersFrom n v p)
-  pub ends : Ended v (placesIn m) (endsIn m)
+  pub ends : endsIn m ≡ endsOf v (placesIn m)
 
 pub walk-starts : (v : List ℕ) (o : ℕ) {m : Members} → (m .twice ≡ 0) × ((placesIn m ≡ empty) × (endsIn m ≡ empty)) → Walking v o m (length v) (o + 1)
-walk-starts v o e = record { none = e .0; sofar = rw (e .1 .0) (started hopMembers v o); ends = rw (e .1 .1) (ended-none v _) }
+walk-starts v o e = record { none = e .0; sofar = rw (e .1 .0) (started hopMembers v o); ends = rw (e .1 .0, e .1 .1) (no-ends v) }
 
 pub walk-over : {v : List ℕ} {o : ℕ} {m : Members} {n p : ℕ} → Walking v o m n p → membersFrom n v p ≡ [] → Found v o m
 walk-over f e = rw (f .none) (over (f .sofar) e, f .ends)
 
-module _ {v : List ℕ} {o : ℕ} {m : Members} {n p : ℕ} (f : Walking v o m n p) (some : 0 < n) {q : ℕ} (at-q : q ≡ past v p) (quote : getD v q 0 ≡ 34) {e a w t : ℕ} (row : Row v q e a w t) {x : List ℕ} {k : ℕ} (called : x ≡ part v (q + 1) (e - 1)) (numbered : k ≡ placeOf hopMembers x) {r : Bool} (seen : r ≡ (ltb 0 k && ltb 0 (getD (placesIn m) k 0))) where
+module _ {v : List ℕ} {o : ℕ} {m : Members} {n p : ℕ} (f : Walking v o m n p) (some : 0 < n) {q : ℕ} (at-q : q ≡ past v p) (quote : getD v q 0 ≡ 34) {e a w t : ℕ} (row : Row v q e a w t) {x : List ℕ} {k : ℕ} (called : x ≡ part v (q + 1) (e - 1)) (numbered : k ≡ placeOf hopMembers x) {r : Bool} (seen : r ≡ (ltb 0 k && ltb 0 (getD (placesIn m) k 0))) (late : 0 < q) where
   number : k ≡ numberAt hopMembers v q
   number = number-is hopMembers v q (called ∙ raw-is v q (closing-is v q (row .named))) numbered
 
@@ -47,15 +47,17 @@ module _ {v : List ℕ} {o : ℕ} {m : Members} {n p : ℕ} (f : Walking v o m n
   next = one-more v n p some at-q quote
 
   -- a repeat
-  pub walk-twice : {m′ : Members} → 0 < q → r ≡ true → (m′ .twice ≡ q) × ((placesIn m′ ≡ placesIn m) × (endsIn m′ ≡ endsIn m)) → Found v o m′
-  walk-twice late h g = rw (g .0, g .1 .0, g .1 .1) (repeats (f .sofar) q (more v (membersFrom (n - 1) v) (valueOf v q)) next (λ z. omega arith) (sym (has-is hopMembers v (placesIn m) q number seen) ∙ h), f .ends)
+  pub walk-twice : {m′ : Members} → r ≡ true → (m′ .twice ≡ q) × ((placesIn m′ ≡ placesIn m) × (endsIn m′ ≡ endsIn m)) → Found v o m′
+  walk-twice h g = rw (g .0, g .1 .0, g .1 .1) (repeats (f .sofar) q (more v (membersFrom (n - 1) v) (valueOf v q)) next (λ z. omega arith) (sym (has-is hopMembers v (placesIn m) q number seen) ∙ h), f .ends)
 
-  module _ (new : r ≡ false) {m′ : Members} (put : (m′ .twice ≡ m .twice) × ((placesIn m′ ≡ pickL (eqb k 0) (placesIn m) (set (placesIn m) k a)) × (endsIn m′ ≡ pickL (eqb k 0) (endsIn m) (set (endsIn m) k w)))) (few : k < 4) where
+  module _ (new : r ≡ false) {m′ : Members} (put : (m′ .twice ≡ m .twice) × ((placesIn m′ ≡ pickL (eqb k 0) (placesIn m) (set (placesIn m) k a)) × (endsIn m′ ≡ pickL (eqb k 0) (endsIn m) (set (endsIn m) k w)))) where
     next-sofar : (rest : List ℕ) → more v (membersFrom (n - 1) v) (valueOf v q) ≡ rest → Sofar hopMembers v o (placesIn m′) rest
     next-sofar rest g = goes-on (f .sofar) q (more v (membersFrom (n - 1) v) (valueOf v q)) next (sym (has-is hopMembers v (placesIn m) q number seen) ∙ new) (note-is hopMembers v (placesIn m) q number (row .begins .is) (put .1 .0)) g
 
-    next-ends : Ended v (placesIn m′) (endsIn m′)
-    next-ends = rw (put .1 .0, put .1 .1) (note-ended (f .ends) refl refl k a w (omega arith) (row .ends .is ∙ ap (behind v) (sym (row .begins .is))) (eqb k 0))
+    next-ends : endsIn m′ ≡ endsOf v (placesIn m′)
+    next-ends =
+        rw (put .1 .0, put .1 .1)
+        (note-ends v (placesIn m) k a (eqb k 0) (f .ends) (omega (arith, row .named .low, row .begins .low)) (row .ends .is ∙ ap (behind v) (sym (row .begins .is))))
 
     -- a comma follows, or none
     pub walk-again : getD v t 0 ≡ 44 → Walking v o m′ (n - 1) (t + 1)
@@ -77,4 +79,4 @@ module _ (v : List ℕ) {twice : ℕ} {at : List ℕ} (g : Gathered hopMembers v
 
   pub members-once : twice ≡ 0 → _≡_ {A = Hop} (record { host = getD at 1 0; destination = getD at 2 0 }) (hopOf v)
   unfolding hopOf hopPlaces
-  members-once z = rw (← (g .first), eq-eqb _ _ z, ← (g .places z))
+  members-once z = rw (← (g .first), eq-eqb _ _ z, ← (g .all z))

@@ -1,5 +1,6 @@
 -- The rows of the reading, one law for each way that the code goes. Assumes nothing.
 use Prim.Native.Nat.{ℕ, _≤_, _<_}
+use Rattle.message.proofs.ShapeLaws.{object-opens}
 use Rattle.message.specs.Known.{Gathered}
 use Rattle.message.specs.Reading.{judged, known, shaped, onUtf8, reading}
 use Rattle.message.specs.Shape.{objectOf, Shaped}
@@ -32,7 +33,7 @@ module _ (s : List ℕ) where
 
     module _ (some : tag ≡ 0 → ⊥) {twice : ℕ} {at : List ℕ} (g : Gathered fields s object twice at) where
       opens : object ≡ objectOf s
-      opens = f .opens (omega arith)
+      opens = object-opens s f (omega arith)
 
       pub name-twice : 0 < twice → Refused 7 twice ≡ shaped s
       unfolding shaped known
@@ -40,4 +41,4 @@ module _ (s : List ℕ) where
 
       pub each-once : twice ≤ 0 → judged s tag at ≡ shaped s
       unfolding shaped known
-      each-once h = rw (← (f .is), ne-eqb _ _ some, ← opens, ← (g .first), le-ltb 0 twice h, ← (g .places (omega arith)))
+      each-once h = rw (← (f .is), ne-eqb _ _ some, ← opens, ← (g .first), le-ltb 0 twice h, ← (g .all (omega arith)))

@@ -31,11 +31,11 @@ module _ (v : List ℕ) (o : ℕ) where
 
     pub once-each : twice ≡ 0 → (hopKeeps v (getD at 1 0) 1 && (hopKeeps v (getD at 2 0) 2 && hopKeeps v (getD at 3 0) 3)) ≡ isHop v o
     unfolding isHop hopPlaces
-    once-each z = rw (eq-eqb _ _ e, ← (g .first), eq-eqb _ _ z, ← (g .places z))
+    once-each z = rw (eq-eqb _ _ e, ← (g .first), eq-eqb _ _ z, ← (g .all z))
 
     pub host-found : twice ≡ 0 → textSpan v (getD at 1 0) ≡ hostSpan v o
     unfolding hostSpan hopPlaces
-    host-found z = rw (← (g .places z))
+    host-found z = rw (← (g .all z))
 
 -- where nothing is kept, nothing is said of the host
 pub none-kept : {X : Type 0} {b : Bool} → b ≡ false → b ≡ true → X

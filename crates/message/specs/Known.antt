@@ -6,7 +6,7 @@ use Rattle.rules.specs.Pieces.{placeOf}
 use lib.Dec.{eqb, ltb}
 use lib.ListN.{getD, set, replicate}
 use mathlib.Core.Bool.{Bool, _&&_}
-use mathlib.Core.List.{List, [], _∷_}
+use mathlib.Core.List.{List, [], _∷_, map}
 use mathlib.Core.Path.{_≡_}
 
 -- the number of the member whose name opens at q, by the raw bytes of its name; 0 for an unknown one
@@ -35,10 +35,24 @@ unfoldable pub repeated : List (List ℕ) → List ℕ → List ℕ → List ℕ
 repeated ns s t [] = 0
 repeated ns s t (q ∷ qs) = pickN (has ns s t q) q (repeated ns s (note ns s t q) qs)
 
--- what is gathered of the object that opens at o: its first repeat, and if there is none the places of its known members
+-- t with the values of these members, up to the first repeat
+unfoldable pub notedOnce : List (List ℕ) → List ℕ → List ℕ → List ℕ → List ℕ
+notedOnce ns s t [] = t
+notedOnce ns s t (q ∷ qs) = pickL (has ns s t q) t (notedOnce ns s (note ns s t q) qs)
+
+-- what is gathered of the object that opens at o: its first repeat, and the places of its known members up to there; if there is none, of all
 pub record Gathered (ns : List (List ℕ)) (s : List ℕ) (o twice : ℕ) (at : List ℕ) : Type 0 where
   pub first : twice ≡ repeated ns s empty (members s o)
-  pub places : twice ≡ 0 → at ≡ noted ns s empty (members s o)
+  pub places : at ≡ notedOnce ns s empty (members s o)
+  pub all : twice ≡ 0 → at ≡ noted ns s empty (members s o)
+
+-- where the value at v ends; 0 for none
+abbrev pub endAt : List ℕ → ℕ → ℕ
+endAt s v = pickN (eqb v 0) 0 (behind s v)
+
+-- the ends of the values at these places
+unfoldable pub endsOf : List ℕ → List ℕ → List ℕ
+endsOf s t = map (endAt s) t
 
 -- e has the ends of values of which t has the places, as far as they are known; 0 stands for one that is not
 pub record Ended (s t e : List ℕ) : Type 0 where

@@ -1,4 +1,7 @@
--- 01 Reading, rows 2 to 10, tried in the paper's order: the contract of `read` cites `reading`. Assumes nothing.
+-- 01 Reading, rows 2 to 10, tried in the paper's order: the contract of `read` cites `reading`. Rows 4 and 5 stand here as the answer of `json`'s
+-- inner machine, which nobody has to believe: `by-the-grammar` in proofs/Theorems.antt says of any bytes, both ways and in the words of RFC 7159's
+-- grammar (`json`'s specs/Verdict.antt), when 4 and 5 are answered and at which place, and when row 6 is reached; and every text has one such
+-- verdict (`one-verdict` in `json`'s proofs/VerdictLaws.antt). Assumes nothing.
 use Prim.Native.Nat.{ℕ}
 use Rattle.json.specs.Machine.{answer}
 use Rattle.json.specs.Places.{members}

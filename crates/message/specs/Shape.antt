@@ -28,9 +28,16 @@ tagOf s = pickN (eqb (getD s (past s 0) 0) 91) (pair (elements s (past s 0)) (ta
 unfoldable pub objectOf : List ℕ → ℕ
 objectOf s = pair (elements s (past s 0)) (λ x y. y)
 
--- what is found of the shape: the tag, and where there is one the object
+-- the same where a string stands before it, any string; 0 where the text has not this shape
+unfoldable pub openAt : List ℕ → ℕ → ℕ → ℕ
+openAt s x y = pickN (eqb (getD s x 0) 34 && eqb (getD s y 0) 123) y 0
+
+unfoldable pub openOf : List ℕ → ℕ
+openOf s = pickN (eqb (getD s (past s 0) 0) 91) (pair (elements s (past s 0)) (openAt s)) 0
+
+-- what is found of the shape: the tag, and where the object opens
 pub record Shaped (s : List ℕ) (tag object : ℕ) : Type 0 where
   pub is : tag ≡ tagOf s
   pub few : tag < 5
-  pub opens : 0 < tag → object ≡ objectOf s
+  pub opens : object ≡ openOf s
   pub inside : 0 < tag → object < length s

@@ -1,36 +1,55 @@
--- What one walk over a text of the usual shape, an array of a tag and an object, finds at once: that it is JSON (rows 4 and 5), its tag (row 6), and
--- the places and ends of its known fields, none of them twice (row 7). The contracts of `src/walking.rt` cite these. Assumes nothing.
-use Prim.Native.Nat.{ℕ, _+_, _≤_, _<_}
-use Rattle.json.specs.Machine.{Stack, text, arr, obj, name₁, after, levels, from, answer}
-use Rattle.json.specs.Places.{follows, members}
-use Rattle.json.specs.declared.Walked.the-variants.{End}
-use Rattle.message.specs.Known.{empty, noted, repeated, Ended}
-use Rattle.message.specs.Shape.{objectOf, Shaped}
+-- What one walk over a text of the usual shape, an array of a tag and an object that is not empty, finds at once: that it is JSON (rows 4 and 5), its tag
+-- (row 6), and the places and ends of its known fields, none of them twice (row 7). The contracts of `src/walking.rt` cite these. Assumes nothing.
+use Prim.Native.Nat.{ℕ, _<_}
+use Rattle.json.specs.Machine.{arr, text, value, from, answer}
+use Rattle.json.specs.Passing.{isEnd, passed}
+use Rattle.json.specs.Places.{pickN, pickL, follows, members}
+use Rattle.message.specs.Known.{empty, noted, repeated, endsOf}
+use Rattle.message.specs.Shape.{tagOf, objectOf, Shaped}
 use Rattle.rules.specs.Names.{fields}
+use lib.Dec.{eqb, ltb}
 use lib.ListN.{length, getD}
+use mathlib.Core.Bool.{Bool, false, _&&_}
 use mathlib.Core.List.{List}
 use mathlib.Core.Path.{_≡_}
 
+-- there are members, and no known name stands twice among them
+unfoldable pub isOnce : List ℕ → List ℕ → Bool
+isOnce s qs = ltb 0 (length qs) && eqb (repeated fields s empty qs) 0
+
+-- the text has the usual shape
+unfoldable pub isUsual : List ℕ → Bool
+isUsual s = isEnd (answer s) && (ltb 0 (tagOf s) && isOnce s (members s (objectOf s)))
+
+-- the places of its known fields
+unfoldable pub fieldsOf : List ℕ → List ℕ
+fieldsOf s = noted fields s empty (members s (objectOf s))
+
+-- what is found of a text: its tag, and the places and ends of its known fields; nothing of a text that has not the usual shape
+pub record Usual (s : List ℕ) (tag : ℕ) (t es : List ℕ) : Type 0 where
+  pub tagged : tag ≡ pickN (isUsual s) (tagOf s) 0
+  pub places : t ≡ pickL (isUsual s) (fieldsOf s) empty
+  pub ends : es ≡ pickL (isUsual s) (endsOf s (fieldsOf s)) empty
+
 -- the text begins with an array whose first element is a tag, and its second opens as an object at o
 pub record Begun (s : List ℕ) (tag o : ℕ) : Type 0 where
-  pub json : answer s ≡ from s (o + 1) name₁ (obj (arr (text 8)))
+  pub json : answer s ≡ from s o value (arr (text 8))
   pub brace : getD s o 0 ≡ 123
-  pub inside : o < length s
-  -- an array of two, if no comma follows
-  pub two : {z : ℕ} → z ≡ follows s o → (getD s z 0 ≡ 44 → ⊥) → Shaped s tag o
+  -- an array of two if no comma follows, and of more if one does
+  pub two : (getD s (follows s o) 0 ≡ 44 → ⊥) → Shaped s tag o
+  pub three : getD s (follows s o) 0 ≡ 44 → 0 ≡ tagOf s
 
--- the object that opens at o ends at e, whatever stands around, and its known members, each once, stand at t
+-- where the text does not begin so, its shape is not the usual
+pub record Begins (s : List ℕ) (tag o : ℕ) : Type 0 where
+  pub known : 0 < tag → Begun s tag o
+  pub unknown : tag ≡ 0 → isUsual s ≡ false
+
+-- the object that opens at o, with seven levels left, passes, and its known members, each once, are listed
+unfoldable pub isListed : List ℕ → ℕ → Bool
+isListed s o = ltb 0 (passed 7 s o) && isOnce s (members s o)
+
+-- where it ends, 0 where it is not so; and where it is, the places and ends of its known members
 pub record Listed (s : List ℕ) (o e : ℕ) (t es : List ℕ) : Type 0 where
-  pub json : (k : Stack) → levels (obj k) ≡ 6 → from s (o + 1) name₁ (obj k) ≡ from s e after k
-  pub inside : e ≤ length s
-  pub once : repeated fields s empty (members s o) ≡ 0
-  pub places : t ≡ noted fields s empty (members s o)
-  pub ends : Ended s t es
-
--- a text of the usual shape
-pub record Usual (s : List ℕ) (tag : ℕ) (t es : List ℕ) : Type 0 where
-  pub json : answer s ≡ End (length s)
-  pub shape : Shaped s tag (objectOf s)
-  pub once : repeated fields s empty (members s (objectOf s)) ≡ 0
-  pub places : t ≡ noted fields s empty (members s (objectOf s))
-  pub ends : Ended s t es
+  pub behind : e ≡ pickN (isListed s o) (passed 7 s o) 0
+  pub places : 0 < e → t ≡ noted fields s empty (members s o)
+  pub ends : 0 < e → es ≡ endsOf s t

@@ -10,7 +10,7 @@ ghost use lib.Dec.{eqb, ltb};
 ghost use lib.ListN.{getD, length, set};
 ghost use Rattle.json.specs.Places.{pickL};
 ghost use Rattle.message.specs.Hop.{endsIn, hopOf, placesIn};
-ghost use Rattle.message.specs.Known.{Ended, Gathered, empty};
+ghost use Rattle.message.specs.Known.{Gathered, empty, endsOf};
 ghost use Rattle.rules.specs.Names.{hopMembers};
 
 // Where a value begins, and where it ends; 0 and 0 for one that is missing.
@@ -105,7 +105,7 @@ fn repeating(m: Members, q: usize) -> Members
 // The three members of the object that opens at o.
 pub fn hop_members(v: &[u8], o: usize) -> Members
     requires { ⌜ o < length (now v) ⌝ }
-    ensures { λ r. ⌜ Gathered hopMembers (now (v .entry)) o (r .twice) (placesIn r) × Ended (now (v .entry)) (placesIn r) (endsIn r) ⌝ }
+    ensures { λ r. ⌜ Gathered hopMembers (now (v .entry)) o (r .twice) (placesIn r) × (endsIn r ≡ endsOf (now (v .entry)) (placesIn r)) ⌝ }
 {
     let mut m = no_members();
     let mut p = o + 1;

@@ -9,8 +9,9 @@ use json::skip;
 use octets::byte;
 ghost use mathlib.Core.Path.{_≡_};
 ghost use Prim.Native.Nat.{_<_};
-ghost use lib.ListN.{length};
-ghost use Rattle.message.specs.Walk.{Begun, Listed, Usual};
+ghost use lib.ListN.{getD, length};
+ghost use Rattle.message.specs.Known.{empty};
+ghost use Rattle.message.specs.Walk.{Begins, Listed, Usual};
 
 // The tag's number, and where the object opens; 0 where the text does not begin so.
 struct Beginning {
@@ -26,7 +27,7 @@ fn no_beginning() -> Beginning
 
 // The text up to its object's brace.
 fn begin(s: &[u8]) -> Beginning
-    ensures { λ r. ⌜ (0 < r .tag → Begun (now (s .entry)) (r .tag) (r .object)) ⌝ }
+    ensures { λ r. ⌜ Begins (now (s .entry)) (r .tag) (r .object) ⌝ }
 {
     let o = skip(s, 0);
     if byte(s, o) != 91 {
@@ -63,8 +64,8 @@ struct Fields {
 
 // The members of the object that opens at o.
 fn walk_fields(s: &[u8], o: usize) -> Fields
-    requires { ⌜ o < length (now s) ⌝ }
-    ensures { λ r. ⌜ (0 < r .shut → Listed (now (s .entry)) o (r .shut) (r .at) (r .end)) ⌝ }
+    requires { ⌜ (o < length (now s)) × (getD (now s) o 0 ≡ 123) ⌝ }
+    ensures { λ r. ⌜ Listed (now (s .entry)) o (r .shut) (r .at) (r .end) ⌝ }
 {
     let mut at = [0usize; 27];
     let mut end = [0usize; 27];
@@ -139,7 +140,7 @@ pub struct Walk {
 }
 
 fn no_walk() -> Walk
-    ensures { λ r. ⌜ r .tag ≡ 0 ⌝ }
+    ensures { λ r. ⌜ (r .tag ≡ 0) × ((r .at ≡ empty) × (r .end ≡ empty)) ⌝ }
 {
     Walk {
         tag: 0,
@@ -150,7 +151,7 @@ fn no_walk() -> Walk
 
 // The whole text.
 pub fn walk_text(s: &[u8]) -> Walk
-    ensures { λ r. ⌜ (0 < r .tag → Usual (now (s .entry)) (r .tag) (r .at) (r .end)) ⌝ }
+    ensures { λ r. ⌜ Usual (now (s .entry)) (r .tag) (r .at) (r .end) ⌝ }
 {
     let b = begin(s);
     let tag = b.tag;

@@ -1,12 +1,13 @@
 -- What a line does, by each test on the way to its command. Assumes nothing.
 use Prim.Native.Nat.{ℕ, _+_, _-_, _≤_, _<_}
+use Rattle.lines.specs.Running.{Effect}
 use Rattle.octets.specs.Ascii.{ascii}
 use Rattle.octets.specs.Splice.{written}
 use Rattle.octets.specs.Text.{same}
 use Rattle.probe.specs.Commands.{commandDone, lineDone}
 use Rattle.probe.specs.Events.{eventDone}
 use Rattle.probe.specs.Tables.{blankDone, dumpText, tableDone}
-use Rattle.probe.specs.Turn.{Turn, Turned, shows}
+use Rattle.probe.specs.Effect.{Turned, shows}
 use Rattle.showing.specs.Asked.{askedText}
 use Rattle.showing.specs.Shown.{unknown}
 use Rattle.showing.specs.Words.{firstWord, hasSpace, rest}
@@ -59,7 +60,7 @@ module _ (t l : List ℕ) where
     line-command e f g = rw (f, g, le-ltb 170000 (length l) h, a, e)
 
 -- what was done goes by another name
-pub does : (o : List ℕ) {d d′ : Turn} {n : ℕ} {o′ : List ℕ} {size : ℕ} {h′ : List ℕ} → d ≡ d′ → Turned d o n o′ size h′ → Turned d′ o n o′ size h′
+pub does : (o : List ℕ) {d d′ : Effect} {n : ℕ} {o′ : List ℕ} {size : ℕ} {h′ : List ℕ} → d ≡ d′ → Turned d o n o′ size h′ → Turned d′ o n o′ size h′
 does o e w = rw (← e) w
 
 -- an answer that was written whole stands in the buffer

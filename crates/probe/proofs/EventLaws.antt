@@ -15,7 +15,7 @@ use Rattle.octets.specs.Decimal.{shown}
 use Rattle.octets.specs.Splice.{splice, written}
 use Rattle.octets.specs.declared.decimals.Spelt.the-variants.{Other, Value}
 use Rattle.probe.specs.Events.{acceptedText, eventDone, eventOn, eventText, turnOf}
-use Rattle.probe.specs.Turn.{Turned, shows}
+use Rattle.probe.specs.Effect.{Turned, shows}
 use Rattle.showing.proofs.ShownLaws.{says}
 use Rattle.showing.specs.Shown.{unknown}
 use Rattle.showing.specs.Words.{bytesOf, firstWord, hasSpace, isBytes, numeral, rest}

@@ -1,5 +1,6 @@
 pub mod TableLaws
 pub mod EventLaws
 pub mod CommandLaws
-pub mod PieceLaws
+pub mod WholeInput
 pub mod Determined
+pub mod PieceLaws

@@ -1,11 +1,12 @@
 -- Each answer of `blank`, `table` and `dump`, and the table that is held after it. Assumes nothing.
 use Prim.Native.Nat.{ℕ, _+_, _-_, _≤_, _<_}
+use Rattle.lines.specs.Running.{Effect}
 use Rattle.octets.proofs.Chain.{more, start}
 use Rattle.octets.specs.Ascii.{ascii}
 use Rattle.octets.specs.Class.{among}
 use Rattle.octets.specs.Splice.{splice, written}
 use Rattle.probe.specs.Tables.{blankDone, blankMade, dumpText, isImage, tableDone, verdictText}
-use Rattle.probe.specs.Turn.{Turn, Turned, shows}
+use Rattle.probe.specs.Effect.{Turned, shows}
 use Rattle.showing.specs.Shown.{hexed, unknown}
 use Rattle.showing.specs.Words.{bytesOf, firstWord, hasSpace, numberTo, rest}
 use Rattle.table.specs.Blank.{blankAfter, blankAnswer, blankFits, blankOf, madeIf}
@@ -21,7 +22,7 @@ use mathlib.Core.Path.{_≡_, refl, sym, _∙_}
 use native.Mathlib.Omega.{arith}
 
 -- a text was written, and the first bytes of h are a table
-pub turns : (o : List ℕ) (size : ℕ) (h t text : List ℕ) {d : Turn} {n : ℕ} {o′ : List ℕ} → d ≡ shows t text → (n ≡ length text) × (o′ ≡ written o text) → take size h ≡ t → size ≤ 65536 → Turned d o n o′ size h
+pub turns : (o : List ℕ) (size : ℕ) (h t text : List ℕ) {d : Effect} {n : ℕ} {o′ : List ℕ} → d ≡ shows t text → (n ≡ length text) × (o′ ≡ written o text) → take size h ≡ t → size ≤ 65536 → Turned d o n o′ size h
 turns o size h t text e w k small = rw e (record { text = w; table = k; small = small })
 
 -- `dump`

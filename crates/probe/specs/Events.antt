@@ -5,11 +5,12 @@ use Rattle.call.specs.declared.answers.Answer.the-variants.{Accepted, Refused}
 use Rattle.call.specs.declared.answers.Answer.{Answer}
 use Rattle.keeper.specs.Keeping.{Step, choose, onMessage, onTick}
 use Rattle.lines.specs.Program.{textOf}
+use Rattle.lines.specs.Running.{Effect}
 use Rattle.octets.specs.Ascii.{ascii}
 use Rattle.octets.specs.Decimal.{shown}
 use Rattle.octets.specs.declared.decimals.Spelt.the-variants.{Value, Other}
 use Rattle.octets.specs.declared.decimals.Spelt.{Spelt}
-use Rattle.probe.specs.Turn.{Turn, pickTurn, shows}
+use Rattle.probe.specs.Effect.{pickEffect, shows}
 use Rattle.showing.specs.Shown.{unknown}
 use Rattle.showing.specs.Words.{bytesOf, firstWord, hasSpace, isBytes, numeral, rest}
 use mathlib.Core.Bool.{Bool, _&&_}
@@ -29,17 +30,17 @@ unfoldable pub eventOn : List ℕ → Bool → ℕ → List ℕ → Step
 eventOn t tick time s = choose tick (onTick t time s) (onMessage t time s)
 
 -- an event's answer is shown
-abbrev pub turnOf : Step → Turn
+abbrev pub turnOf : Step → Effect
 turnOf e = record { text = eventText (e .answer); table = e .table }
 
 -- an event at the time that is spelt
-abbrev pub eventAt : List ℕ → Bool → List ℕ → Spelt → Turn
+abbrev pub eventAt : List ℕ → Bool → List ℕ → Spelt → Effect
 eventAt t tick s (Value time) = turnOf (eventOn t tick time s)
 eventAt t tick s Other = shows t unknown
 
 -- `msg TIME HEX` and `tick TIME HEX`
-unfoldable pub eventDone : List ℕ → Bool → List ℕ → Turn
+unfoldable pub eventDone : List ℕ → Bool → List ℕ → Effect
 eventDone t tick words =
-    pickTurn (hasSpace words && isBytes (rest words))
+    pickEffect (hasSpace words && isBytes (rest words))
     (eventAt t tick (bytesOf (rest words)) (numeral (firstWord words)))
     (shows t unknown)

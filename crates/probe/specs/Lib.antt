@@ -1,4 +1,4 @@
-pub mod Turn
+pub mod Effect
 pub mod Tables
 pub mod Events
 pub mod Commands

@@ -1,9 +1,10 @@
 -- What `blank`, `table` and `dump` show, and the table that is held after them. Cited by the contracts of `src/tables.rt`.
 -- Assumes nothing.
 use Prim.Native.Nat.{ℕ}
+use Rattle.lines.specs.Running.{Effect}
 use Rattle.octets.specs.Ascii.{ascii}
 use Rattle.octets.specs.Decimal.{pickList}
-use Rattle.probe.specs.Turn.{Turn, pickTurn, shows}
+use Rattle.probe.specs.Effect.{pickEffect, shows}
 use Rattle.showing.specs.Shown.{hexed, unknown}
 use Rattle.showing.specs.Words.{bytesOf, firstWord, hasSpace, isHexTo, numberTo, rest}
 use Rattle.table.specs.Blank.{blankFits, blankOf}
@@ -22,20 +23,20 @@ dumpText t = hexed t ++ ascii "\n"
 
 -- a blank table of so many records and bytes is held, if the length is right for the count; a COUNT over 65,535 and a LENGTH over 65,536
 -- are answered `?`
-unfoldable pub blankMade : List ℕ → ℕ → ℕ → Turn
+unfoldable pub blankMade : List ℕ → ℕ → ℕ → Effect
 blankMade t count len =
-    pickTurn (leb count 65535 && leb len 65536)
-    (pickTurn (blankFits count len) (shows (blankOf count) (verdictText true)) (shows t (verdictText false)))
+    pickEffect (leb count 65535 && leb len 65536)
+    (pickEffect (blankFits count len) (shows (blankOf count) (verdictText true)) (shows t (verdictText false)))
     (shows t unknown)
 
 -- `blank COUNT LENGTH`
-unfoldable pub blankDone : List ℕ → List ℕ → Turn
-blankDone t words = pickTurn (hasSpace words) (blankMade t (numberTo 65535 (firstWord words)) (numberTo 65536 (rest words))) (shows t unknown)
+unfoldable pub blankDone : List ℕ → List ℕ → Effect
+blankDone t words = pickEffect (hasSpace words) (blankMade t (numberTo 65535 (firstWord words)) (numberTo 65536 (rest words))) (shows t unknown)
 
 -- a word stands for a table's image, of at most 65,536 bytes
 abbrev pub isImage : List ℕ → Bool
 isImage w = isHexTo 131072 w
 
 -- `table HEX`: the image is held as it is
-unfoldable pub tableDone : List ℕ → List ℕ → Turn
-tableDone t w = pickTurn (isImage w) (shows (bytesOf w) (verdictText (wellFormed (bytesOf w)))) (shows t unknown)
+unfoldable pub tableDone : List ℕ → List ℕ → Effect
+tableDone t w = pickEffect (isImage w) (shows (bytesOf w) (verdictText (wellFormed (bytesOf w)))) (shows t unknown)

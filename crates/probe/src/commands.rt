@@ -13,7 +13,7 @@ use showing::rest;
 ghost use Prim.Native.Nat.{_≤_};
 ghost use lib.ListN.{length, take};
 ghost use Rattle.probe.specs.Commands.{commandDone, lineDone};
-ghost use Rattle.probe.specs.Turn.{Turned};
+ghost use Rattle.probe.specs.Effect.{Turned};
 
 // A command and its words.
 fn obey(

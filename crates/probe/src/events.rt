@@ -17,7 +17,7 @@ ghost use lib.ListN.{length, take};
 ghost use Rattle.call.specs.declared.answers.Answer.the-variants.{Refused};
 ghost use Rattle.keeper.specs.Keeping.{onMessage, onTick};
 ghost use Rattle.probe.specs.Events.{acceptedText, eventDone, eventOn, eventText, turnOf};
-ghost use Rattle.probe.specs.Turn.{Turned};
+ghost use Rattle.probe.specs.Effect.{Turned};
 ghost use Rattle.showing.specs.Shown.{Puts};
 
 // An acceptance's word and state, as in the program's lines.

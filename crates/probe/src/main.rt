@@ -1,58 +1,67 @@
 // The probe: one command a line, every answer in full: `read`, `blank`, `table`, `dump`, `msg`, `tick`, `reply`, `add` and
 // `remove`; anything else is answered `?`. It holds one table, at first 255 blank records.
-// Proved: what each line is answered, byte for byte, and the table that is held after it; the answer is then written out.
+// Proved: what each line is answered, byte for byte, and the table that is held after it; what becomes of the open line and of the table
+// turn by turn. The answer is then handed to `write`. Where a write or a read fails it says so on standard error and ends, and nothing
+// more is written.
 mod commands;
 mod events;
 mod tables;
 
 use commands::answer;
-use libc::STDIN_FILENO;
-use libc::STDOUT_FILENO;
 use lines::Next;
+use streams::Sent;
+use tables::Answered;
 use tables::make_blank;
-ghost use mathlib.Core.List.{[]};
+ghost use mathlib.Core.Bool.{false, true};
 ghost use mathlib.Core.Path.{_≡_};
-ghost use Prim.Native.Nat.{_≤_};
-ghost use lib.ListN.{length, take};
-ghost use Rattle.octets.specs.Splice.{written};
-ghost use Rattle.probe.specs.Commands.{Goes, lineDone};
+ghost use Prim.Native.Nat.{_<_, _≤_};
+ghost use lib.Dec.{ltb};
+ghost use lib.ListN.{drop, length, take};
+ghost use Rattle.lines.specs.Input.{last as lastLine};
+ghost use Rattle.lines.specs.Running.{Goes, Reached, Stepped, logTable, logText};
+ghost use Rattle.probe.specs.Commands.{lineDone};
+ghost use Rattle.probe.specs.Effect.{Turned};
 ghost use Rattle.table.specs.Blank.{blankOf};
 
-// The size of the held table, how many bytes of an open line are kept, and whether to go on.
+// Where a run stands: the size of the held table, how many bytes of the open line are kept, the place in the piece and the piece's end,
+// how many bytes the last turn handed to `write` (of which only the contracts speak), whether to go on, and whether the input has
+// ended.
 struct State {
     size: usize,
     len: usize,
+    from: usize,
+    n: usize,
+    end: usize,
     go: bool,
+    ended: bool,
 }
 
-// Writes the first n bytes of the output buffer.
-fn show(out: &[u8], n: usize)
+// Hands the first n bytes of the output buffer to `write`.
+fn hand_on(out: &[u8], n: usize) -> Sent
     requires { ⌜ n ≤ length (now out) ⌝ }
+    ensures { λ r. ⌜ (r .n ≡ n) × (r .n ≡ 0 → r .went ≡ true) ⌝ }
 {
-    io::write_all(STDOUT_FILENO, &out[0..n]);
+    streams::write(&out[0..n], b"probe: standard output")
 }
 
-// Answers a line, writes the answer out, and answers the size of the held table.
-fn tell(
-    out: &mut [u8; 160100],
-    held: &mut [u8; 65536],
-    size: usize,
-    bytes: &mut [u8; 85000],
-    room: &mut [u8; 40000],
-    line: &[u8],
-) -> usize
-    requires { ⌜ size ≤ 65536 ⌝ }
-    ensures { λ r. ⌜ (now (out .exit) ≡ written (now (out .entry)) (lineDone (take size (now (held .entry))) (now (line .entry)) .text))
-        × (take r (now (held .exit)) ≡ lineDone (take size (now (held .entry))) (now (line .entry)) .table)
-        × (r ≤ 65536) ⌝ }
+// The next piece: what a read puts at the buffer's front.
+fn fetch(buf: &mut [u8; 16384], size: usize, len: usize) -> State
+    ensures { λ r. ⌜ (r .size ≡ size) × (r .len ≡ len) × (r .from ≡ 0) × (r .n ≤ 16384) × (r .end ≡ 0) × (r .go ≡ ltb 0 (r .n)) × (r .ended ≡ true → r .n ≡ 0) ⌝ }
 {
-    let a = answer(out, held, size, bytes, room, line);
-    show(out, a.len);
-    a.size
+    let g = streams::read(buf, b"probe: standard input");
+    State {
+        size: size,
+        len: len,
+        from: 0,
+        n: g.n,
+        end: 0,
+        go: 0 < g.n,
+        ended: g.ended,
+    }
 }
 
 // A line that is kept at the buffer's front, or as much of it as there is room for.
-fn tell_kept(
+fn answer_kept(
     out: &mut [u8; 160100],
     held: &mut [u8; 65536],
     size: usize,
@@ -60,58 +69,75 @@ fn tell_kept(
     room: &mut [u8; 40000],
     line: &[u8],
     len: usize,
-) -> usize
+) -> Answered
     requires { ⌜ (size ≤ 65536) × (len ≤ length (now line)) ⌝ }
-    ensures { λ r. ⌜ (now (out .exit) ≡ written (now (out .entry)) (lineDone (take size (now (held .entry))) (take len (now (line .entry))) .text))
-        × (take r (now (held .exit)) ≡ lineDone (take size (now (held .entry))) (take len (now (line .entry))) .table)
-        × (r ≤ 65536) ⌝ }
+    ensures { λ r. ⌜ Turned (lineDone (take size (now (held .entry))) (take len (now (line .entry)))) (now (out .entry)) (r .len) (now (out .exit)) (r .size) (now (held .exit)) ⌝ }
 {
-    tell(out, held, size, bytes, room, &line[0..len])
+    answer(out, held, size, bytes, room, &line[0..len])
 }
 
-// The lines of a piece of the input, each in its turn on the held table.
-fn piece(
-    out: &mut [u8; 160100],
-    held: &mut [u8; 65536],
-    size0: usize,
-    bytes: &mut [u8; 85000],
-    room: &mut [u8; 40000],
-    line: &mut [u8],
-    len0: usize,
-    s: &[u8],
-) -> State
-    requires { ⌜ (size0 ≤ 65536) × (170001 ≤ length (now line)) ⌝ }
-    ensures { λ r. ⌜ Goes (length (now (line .entry))) (take size0 (now (held .entry))) (take len0 (now (line .entry))) (now (s .entry)) (take (r .size) (now (held .exit))) (take (r .len) (now (line .exit))) []
-        × (r .size ≤ 65536)
-        × (r .len ≤ length (now (line .entry))) ⌝ }
+// A line was answered, and the next one begins at a place of the piece: its answer is handed on.
+fn told(out: &[u8], a: Answered, from: usize, n: usize) -> State
+    requires { ⌜ a .len ≤ length (now out) ⌝ }
+    ensures { λ r. ⌜ (r .size ≡ a .size) × (r .len ≡ 0) × (r .from ≡ from) × (r .n ≡ n) × (r .end ≡ a .len) × (r .ended ≡ false) × (r .end ≡ 0 → r .go ≡ true) ⌝ }
 {
-    let mut size = size0;
-    let mut len = len0;
-    let mut from: usize = 0;
-    loop {
-        match lines::next_line(line, len, s, from) {
-            Next::Here(e) => {
-                size = tell(out, held, size, bytes, room, &s[from..e]);
-                from = e + 1;
-                len = 0;
-            }
-            Next::Held(n, next) => {
-                size = tell_kept(out, held, size, bytes, room, line, n);
-                from = next;
-                len = 0;
-            }
-            Next::Pending(n) => {
-                return State {
-                    size: size,
-                    len: n,
-                    go: true,
-                };
-            }
-        }
+    let sent = hand_on(out, a.len);
+    State {
+        size: a.size,
+        len: 0,
+        from: from,
+        n: n,
+        end: sent.n,
+        go: sent.went,
+        ended: false,
     }
 }
 
-// One read and its lines.
+// The next line of the piece's rest, and its answer handed on; or what is left of the piece kept, where no line ends in it.
+fn piece(
+    out: &mut [u8; 160100],
+    held: &mut [u8; 65536],
+    bytes: &mut [u8; 85000],
+    room: &mut [u8; 40000],
+    line: &mut [u8; 170001],
+    s: &[u8],
+    size: usize,
+    len: usize,
+    from: usize,
+) -> State
+    requires { ⌜ (size ≤ 65536) × (from < length (now s)) × (length (now s) ≤ 16384) ⌝ }
+    ensures { λ r. ⌜ Goes lineDone 170001 (take size (now (held .entry))) (take len (now (line .entry))) (drop from (now (s .entry))) (take (r .size) (now (held .exit))) (take (r .len) (now (line .exit))) (drop (r .from) (now (s .entry))) (take (r .end) (now (out .exit)))
+        × (r .size ≤ 65536)
+        × (r .len ≤ 170001)
+        × (r .from ≤ length (now (s .entry)))
+        × (r .n ≡ length (now (s .entry)))
+        × (r .ended ≡ false)
+        × (from < r .from)
+        × (r .end ≡ 0 → r .go ≡ true) ⌝ }
+{
+    match lines::next_line(line, len, s, from) {
+        Next::Here(e) => {
+            let next = e + 1;
+            let a = answer(out, held, size, bytes, room, &s[from..e]);
+            told(out, a, next, s.len())
+        }
+        Next::Held(m, next) => {
+            let a = answer_kept(out, held, size, bytes, room, line, m);
+            told(out, a, next, s.len())
+        }
+        Next::Pending(m) => State {
+            size: size,
+            len: m,
+            from: s.len(),
+            n: s.len(),
+            end: 0,
+            go: true,
+            ended: false,
+        },
+    }
+}
+
+// One turn: a read where nothing of a piece is left, else a line of it.
 fn turn(
     out: &mut [u8; 160100],
     held: &mut [u8; 65536],
@@ -119,23 +145,26 @@ fn turn(
     room: &mut [u8; 40000],
     line: &mut [u8; 170001],
     buf: &mut [u8; 16384],
-    size: usize,
-    len: usize,
+    s: State,
 ) -> State
-    requires { ⌜ (size ≤ 65536) × (len ≤ 170001) ⌝ }
-    ensures { λ r. ⌜ (r .size ≤ 65536) × (r .len ≤ 170001) ⌝ }
+    requires { ⌜ (s .size ≤ 65536) × (s .len ≤ 170001) × (s .from ≤ s .n) × (s .n ≤ 16384) ⌝ }
+    ensures { λ r. ⌜ Stepped lineDone 170001 (take (s .size) (now (held .entry))) (take (s .len) (now (line .entry))) (drop (s .from) (take (s .n) (now (buf .entry)))) (take (r .size) (now (held .exit))) (take (r .len) (now (line .exit))) (drop (r .from) (take (r .n) (now (buf .exit)))) (take (r .end) (now (out .exit)))
+        × (r .size ≤ 65536)
+        × (r .len ≤ 170001)
+        × (r .from ≤ r .n)
+        × (r .n ≤ 16384)
+        × (r .ended ≡ true → r .n ≡ 0)
+        × (s .from < s .n → s .from < r .from) ⌝ }
 {
-    let got = libc::read(STDIN_FILENO, buf);
-    if got <= 0 {
-        return State {
-            size: size,
-            len: len,
-            go: false,
-        };
+    let size = s.size;
+    let len = s.len;
+    let from = s.from;
+    let n = s.n;
+    if from < n {
+        let all: &[u8] = buf;
+        return piece(out, held, bytes, room, line, &all[0..n], size, len, from);
     }
-    let s: &[u8] = buf;
-    let n = io::count(got, s);
-    piece(out, held, size, bytes, room, line, len, &s[0..n])
+    fetch(buf, size, len)
 }
 
 // Holds a table of 255 blank records, and answers its size.
@@ -146,8 +175,8 @@ fn start(held: &mut [u8; 65536]) -> usize
     40816
 }
 
-// Turn by turn to the end of the input, and a last line that may lack its line feed. Nothing says that an input ends, so the
-// turns are counted down from a number that no run uses up.
+// Turn by turn from a blank table on, until the input ends or a call fails. Nothing says that an input ends, so the turns are counted
+// down from a number that no run uses up.
 fn run(
     out: &mut [u8; 160100],
     held: &mut [u8; 65536],
@@ -155,20 +184,53 @@ fn run(
     room: &mut [u8; 40000],
     line: &mut [u8; 170001],
     buf: &mut [u8; 16384],
-) {
-    let mut size = start(held);
-    let mut len: usize = 0;
+) -> State
+    ensures { λ r. ⌜ Reached lineDone 170001 (blankOf 255) (take (r .size) (now (held .exit))) (take (r .len) (now (line .exit))) (drop (r .from) (take (r .n) (now (buf .exit))))
+        × (r .size ≤ 65536)
+        × (r .len ≤ 170001)
+        × (r .ended ≡ true → r .n ≡ 0) ⌝ }
+{
+    let mut s = State {
+        size: start(held),
+        len: 0,
+        from: 0,
+        n: 0,
+        end: 0,
+        go: true,
+        ended: false,
+    };
     let mut turns = u64::MAX;
-    let mut go = true;
-    while go && turns > 0 {
-        let s = turn(out, held, bytes, room, line, buf, size, len);
-        size = s.size;
-        len = s.len;
-        go = s.go;
+    while s.go && turns > 0 {
+        s = turn(out, held, bytes, room, line, buf, s);
         turns -= 1;
     }
-    if 0 < len {
-        tell_kept(out, held, size, bytes, room, line, len);
+    s
+}
+
+// The answer to an open line that is not empty, where the input has ended, handed on; how many bytes it has, and the size of the held
+// table.
+fn last(
+    out: &mut [u8; 160100],
+    held: &mut [u8; 65536],
+    bytes: &mut [u8; 85000],
+    room: &mut [u8; 40000],
+    line: &[u8; 170001],
+    s: State,
+) -> Answered
+    requires { ⌜ (s .size ≤ 65536) × (s .len ≤ 170001) × (s .ended ≡ true) ⌝ }
+    ensures { λ r. ⌜ (take (r .len) (now (out .exit)) ≡ logText lineDone (take (s .size) (now (held .entry))) (lastLine (take (s .len) (now (line .entry)))))
+        × (take (r .size) (now (held .exit)) ≡ logTable lineDone (take (s .size) (now (held .entry))) (lastLine (take (s .len) (now (line .entry))))) ⌝ }
+{
+    let size = s.size;
+    let len = s.len;
+    if len == 0 {
+        return Answered { len: 0, size: size };
+    }
+    let a = answer_kept(out, held, size, bytes, room, line, len);
+    let sent = hand_on(out, a.len);
+    Answered {
+        len: sent.n,
+        size: a.size,
     }
 }
 
@@ -179,7 +241,7 @@ fn main() {
     let mut room = [0u8; 40000];
     let mut line = [0u8; 170001];
     let mut buf = [0u8; 16384];
-    run(
+    let s = run(
         &mut out,
         &mut held,
         &mut bytes,
@@ -187,4 +249,7 @@ fn main() {
         &mut line,
         &mut buf,
     );
+    if s.ended {
+        last(&mut out, &mut held, &mut bytes, &mut room, &line, s);
+    }
 }

@@ -11,7 +11,7 @@ ghost use mathlib.Core.Path.{_≡_};
 ghost use Prim.Native.Nat.{_≤_};
 ghost use lib.ListN.{drop, length, take};
 ghost use Rattle.probe.specs.Tables.{blankDone, blankMade, dumpText, tableDone, verdictText};
-ghost use Rattle.probe.specs.Turn.{Turned};
+ghost use Rattle.probe.specs.Effect.{Turned};
 ghost use Rattle.showing.specs.Shown.{Puts};
 ghost use Rattle.showing.specs.Words.{bytesOf};
 ghost use Rattle.table.specs.Blank.{blankAfter, blankFits};

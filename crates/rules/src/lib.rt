@@ -14,7 +14,6 @@ mod words;
 
 pub use addresses::Address;
 pub use addresses::address_of;
-pub use dates::days_in;
 pub use dates::is_date;
 pub use fields::method_asks;
 pub use fields::tag_asks;

@@ -136,8 +136,8 @@ half w = omega (arith, stands-length w)
 differ : (t : Bool) → t ≡ true → t ≡ false → ⊥
 differ t e f = let z : _≡_ {A = ℕ} 0 1 = cc in omega arith
 
-pub got-none : {t : Bool} {b : List ℕ} {at : ℕ} {w b′ : List ℕ} → t ≡ false → Got t b at w 85001 b′
-got-none {t} e = record { good = λ g. absurd (differ t g e); bad = λ g. refl }
+pub got-none : {t : Bool} {b : List ℕ} {at : ℕ} {w : List ℕ} → t ≡ false → Got t b at w 85001 b
+got-none {t} e = record { good = λ g. absurd (differ t g e); bad = λ g. (refl, refl) }
 
 spliced : (b : List ℕ) (at : ℕ) (d : List ℕ) → at ≤ length b → take (at + length d) (splice b at d) ≡ take at b ++ d
 unfolding splice
@@ -145,13 +145,17 @@ spliced b at d m =
     let l : length (take at b ++ d) ≡ at + length d = length-append (take at b) d ∙ rw (length-take-le at b m) in
     rw (← append-assoc (take at b) d (drop (at + length d) b)) (take-at (take at b ++ d) (drop (at + length d) b) (at + length d) l)
 
-pub got-some : (b : List ℕ) (at : ℕ) (w : List ℕ) {t : Bool} {r : ℕ} {b′ : List ℕ} → t ≡ true → at ≤ length b → (r ≡ at + length w) × (b′ ≡ splice b at w) → Got t b at w r b′
-got-some b at w {t} g m x = record { good = λ _. (x .0, rw (x .0, x .1) (spliced b at w m)); bad = λ f. absurd (differ t g f) }
+pub got-some : (b : List ℕ) (at : ℕ) (w : List ℕ) {t : Bool} {r : ℕ} {b′ : List ℕ} → t ≡ true → (r ≡ at + length w) × (b′ ≡ splice b at w) → Got t b at w r b′
+got-some b at w {t} g x = record { good = λ _. x; bad = λ f. absurd (differ t g f) }
+
+-- what stands before that place
+pub got-front : {t : Bool} {b : List ℕ} {at : ℕ} {w : List ℕ} {r : ℕ} {b′ : List ℕ} → Got t b at w r b′ → t ≡ true → at ≤ length b → take r b′ ≡ take at b ++ w
+got-front {b = b} {at = at} {w = w} x e m = let g = x .good e in rw (g .0, g .1) (spliced b at w m)
 
 -- whether the test was met is told by the place
 pub got-true : (t : Bool) {b : List ℕ} {at : ℕ} {w : List ℕ} {r : ℕ} {b′ : List ℕ} → Got t b at w r b′ → r ≤ 85000 → t ≡ true
 got-true true x h = refl
-got-true false x h = absurd (omega (arith, x .bad refl))
+got-true false x h = absurd (omega (arith, x .bad refl .0))
 
 pub got-false : (t : Bool) {b : List ℕ} {at : ℕ} {w : List ℕ} {r : ℕ} {b′ : List ℕ} → Got t b at w r b′ → at + length w ≤ 85000 → 85000 < r → t ≡ false
 got-false true x h k = absurd (omega (arith, x .good refl .0))
@@ -159,7 +163,7 @@ got-false false x h k = refl
 
 -- the bytes of a word that was taken alone
 pub got-alone : (t : Bool) {b : List ℕ} {w : List ℕ} {r : ℕ} {b′ : List ℕ} → Got t b 0 w r b′ → r ≤ 85000 → take r b′ ≡ w
-got-alone t x h = x .good (got-true t x h) .1
+got-alone t x h = got-front x (got-true t x h) (omega arith)
 
 -- Finding the first space: r is the place that is found.
 

@@ -8,7 +8,7 @@ use Rattle.octets.proofs.TextLaws.{and-parts}
 use Rattle.octets.specs.Splice.{written}
 use Rattle.octets.specs.Text.{before}
 use Rattle.showing.proofs.ShownLaws.{says}
-use Rattle.showing.proofs.WordLaws.{rest-short, got-false, got-true, half, hex-short, stands-length}
+use Rattle.showing.proofs.WordLaws.{got-false, got-front, got-true, half, hex-short, rest-short, stands-length}
 use Rattle.showing.specs.Shown.{Puts, hexed, unknown}
 use Rattle.showing.specs.Words.{Got, bytesOf, firstWord, hasSpace, isBytes, numberTo, rest}
 use Rattle.showing.specs.Writers.{editText, edited, filled, headOf, isFirst, isLast, isNumber, onCode, onFirst, onLast, replyText, tookLine, tookText, wroteLine, wroteText, writtenOf}
@@ -165,7 +165,7 @@ module _ (words b : List ℕ) (at r : ℕ) (b′ : List ℕ) (room : 2 * at + le
   first-taken x h k =
       let t = got-true (isFirst words) x k in
       let g = x .good t in
-      let s = seam b b′ (bytesOf (firstWord words)) at r h (g .0) (g .1) in
+      let s = seam b b′ (bytesOf (firstWord words)) at r h (g .0) (got-front x t h) in
       record {
         order = omega (arith, g .0);
         bound = omega (arith, g .0, half (firstWord words), both-short words (first-parts words t));
@@ -183,7 +183,7 @@ module _ (words b : List ℕ) (at r : ℕ) (b′ : List ℕ) (room : 2 * at + le
       let t = got-true (isLast words) x k in
       let g = x .good t in
       let p = last-parts words t in
-      let s = seam b b′ (bytesOf (rest words)) at r h (g .0) (g .1) in
+      let s = seam b b′ (bytesOf (rest words)) at r h (g .0) (got-front x t h) in
       record {
         order = omega (arith, g .0);
         short = omega (arith, g .0, most (rest words) (p .1));

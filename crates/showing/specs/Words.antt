@@ -5,6 +5,7 @@ use Rattle.hex.specs.Digits.{decoded, isHex}
 use Rattle.octets.specs.Ascii.{ascii}
 use Rattle.octets.specs.Class.{all, isDigit}
 use Rattle.octets.specs.Decimal.{chosen, decimalOf, pickList}
+use Rattle.octets.specs.Splice.{splice}
 use Rattle.octets.specs.Text.{before, same}
 use Rattle.octets.specs.declared.decimals.Spelt.the-variants.{Value, Other}
 use Rattle.octets.specs.declared.decimals.Spelt.{Spelt}
@@ -55,7 +56,7 @@ isBytes w = isHexTo 80000 w
 unfoldable pub bytesOf : List ℕ → List ℕ
 bytesOf w = pickList (isNone w) [] (decoded w)
 
--- the bytes w are put behind the first bytes of b, and r is the place behind them, if a test is met; else r is 85,001
+-- if a test is met, the bytes w are put into b from a place on, and r is the place behind them; else b stays, and r is 85,001
 pub record Got (test : Bool) (b : List ℕ) (at : ℕ) (w : List ℕ) (r : ℕ) (b′ : List ℕ) : Type 0 where
-  pub good : test ≡ true → (r ≡ at + length w) × (take r b′ ≡ take at b ++ w)
-  pub bad : test ≡ false → r ≡ 85001
+  pub good : test ≡ true → (r ≡ at + length w) × (b′ ≡ splice b at w)
+  pub bad : test ≡ false → (r ≡ 85001) × (b′ ≡ b)

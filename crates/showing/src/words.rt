@@ -58,7 +58,7 @@ fn put_bytes(bytes: &mut [u8], at: usize, word: &[u8]) -> usize
     at + hex::decode(&mut bytes[at..], word)
 }
 
-// The same, and a number over 85,000 where the word is no hex or stands for more than 40,000 bytes.
+// The same; where the word is no hex or stands for more than 40,000 bytes, nothing is put, and 85,001 is answered.
 pub fn take_bytes(bytes: &mut [u8; 85000], at: usize, word: &[u8]) -> usize
     requires { ⌜ 2 * at + length (now word) ≤ 170000 ⌝ }
     ensures { λ r. ⌜ Got (isBytes (now (word .entry))) (now (bytes .entry)) at (bytesOf (now (word .entry))) r (now (bytes .exit)) ⌝ }

@@ -2,6 +2,7 @@ pub mod SearchLaws
 pub mod SpliceLaws
 pub mod ImageLaws
 pub mod SlotLaws
+pub mod RoomLaws
 pub mod MarkLaws
 pub mod RecordLaws
 pub mod SoundLaws

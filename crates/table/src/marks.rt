@@ -1,4 +1,5 @@
-// Whether Call-IDs are distinct, without comparing each with each: a mark of 32 bits tells nearly all apart.
+// Whether Call-IDs are distinct. A mark of 32 bits tells nearly all apart without comparing each with each. Call-IDs come from
+// outside, and somebody may make many of one mark: those are compared by their rooms, at the same small cost for any two.
 use crate::layout::CALL_ID_AT;
 use crate::layout::CALL_ID_ROOM;
 use crate::layout::HEADER_SIZE;
@@ -7,14 +8,16 @@ use crate::layout::RECORD_SIZE;
 use crate::layout::STATE_AT;
 use crate::records::record_at;
 use crate::searching::record_count;
+use crate::texts::same_at_once;
 use crate::texts::text;
+ghost use mathlib.Core.Bool.{true};
 ghost use mathlib.Core.Path.{_≡_};
 ghost use Prim.Native.Nat.{_≤_, _<_};
 ghost use lib.ListN.{length};
 ghost use Rattle.table.specs.Image.{recordAt, recordSize, size};
 ghost use Rattle.table.specs.Mark.{markOf, marked, Marks};
-ghost use Rattle.table.specs.Record.{callIdOf};
-ghost use Rattle.table.specs.WellFormed.{apart, apartBefore, distinct};
+ghost use Rattle.table.specs.Record.{callIdAt, callIdOf, callIdRoom, roomAt};
+ghost use Rattle.table.specs.WellFormed.{apart, apartBefore, distinct, padded, recordsSound};
 
 // A byte as a wider number.
 fn wide(b: u8) -> u64
@@ -51,11 +54,25 @@ fn is_marked(marks: &[u32; MOST_RECORDS], n: usize, m: u32) -> bool
     hit
 }
 
-// Whether two records are not two of one call.
+// The room of a record's Call-ID.
+fn call_id_room(r: &[u8]) -> &[u8]
+    requires { ⌜ length (now r) ≡ recordSize ⌝ }
+    ensures { λ s. ⌜ (now s ≡ roomAt callIdAt callIdRoom (now (r .entry))) × (length (now s) ≡ callIdRoom) ⌝ }
+{
+    let a = CALL_ID_AT + 1;
+    let e = a + CALL_ID_ROOM;
+    &r[a..e]
+}
+
+// Whether two records are not two of one call. 00 stands behind both Call-IDs, so rooms that differ hold
+// two Call-IDs; in a well-formed table no more than the rooms are looked at.
 fn is_apart(r: &[u8], s: &[u8]) -> bool
-    requires { ⌜ (length (now r) ≡ recordSize) × (length (now s) ≡ recordSize) ⌝ }
+    requires { ⌜ (length (now r) ≡ recordSize) × (length (now s) ≡ recordSize) × (padded callIdAt callIdRoom (now r) ≡ true) × (padded callIdAt callIdRoom (now s) ≡ true) ⌝ }
     ensures { λ b. ⌜ b ≡ apart (now (r .entry)) (now (s .entry)) ⌝ }
 {
+    if !same_at_once(call_id_room(r), call_id_room(s)) {
+        return true;
+    }
     if r[STATE_AT] == 0 {
         return true;
     }
@@ -68,9 +85,9 @@ fn is_apart(r: &[u8], s: &[u8]) -> bool
     )
 }
 
-// Whether record k is apart from each record before it, by comparing Call-IDs in full.
+// Whether record k is apart from each record before it, by comparing the Call-IDs.
 fn is_apart_before(t: &[u8], k: usize) -> bool
-    requires { ⌜ k < size (now t) ⌝ }
+    requires { ⌜ (k < size (now t)) × (recordsSound (now t) ≡ true) ⌝ }
     ensures { λ b. ⌜ b ≡ apartBefore (now (t .entry)) k ⌝ }
 {
     let r = record_at(t, k);
@@ -87,7 +104,7 @@ fn is_apart_before(t: &[u8], k: usize) -> bool
 // Whether record k is apart from each record before it, by the marks of those: it is where it is free;
 // else Call-IDs are compared only where its mark is among them.
 fn is_new(t: &[u8], marks: &[u32; MOST_RECORDS], k: usize, m: u32) -> bool
-    requires { ⌜ (k < size (now t)) × (k < 255) × (m ≡ markOf (callIdOf (recordAt (now t) k))) × Marks (now t) (now marks) k ⌝ }
+    requires { ⌜ (k < size (now t)) × (k < 255) × (m ≡ markOf (callIdOf (recordAt (now t) k))) × Marks (now t) (now marks) k × (recordsSound (now t) ≡ true) ⌝ }
     ensures { λ b. ⌜ b ≡ apartBefore (now (t .entry)) k ⌝ }
 {
     if t[HEADER_SIZE + RECORD_SIZE * k] == 0 {
@@ -99,9 +116,9 @@ fn is_new(t: &[u8], marks: &[u32; MOST_RECORDS], k: usize, m: u32) -> bool
     true
 }
 
-// Whether no Call-ID stands in two records that are not free.
+// Whether no Call-ID stands in two records that are not free, of records each well-formed by itself.
 pub fn is_distinct(t: &[u8]) -> bool
-    requires { ⌜ size (now t) ≤ 255 ⌝ }
+    requires { ⌜ (size (now t) ≤ 255) × (recordsSound (now t) ≡ true) ⌝ }
     ensures { λ b. ⌜ b ≡ distinct (now (t .entry)) ⌝ }
 {
     let n = record_count(t);

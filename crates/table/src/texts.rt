@@ -3,6 +3,7 @@ ghost use mathlib.Core.Path.{_≡_};
 ghost use Prim.Native.Nat.{_+_, _-_, _≤_, _<_};
 ghost use lib.ListN.{length, replicate};
 ghost use Rattle.octets.specs.Splice.{splice};
+ghost use Rattle.octets.specs.Text.{same};
 ghost use Rattle.table.specs.Record.{slotOf, textAt};
 ghost use Rattle.table.specs.WellFormed.{padded, zeros};
 
@@ -40,6 +41,21 @@ pub fn all_zero(s: &[u8]) -> bool
         i += 1;
     }
     clean
+}
+
+// Whether two texts of one length are the same. It leaves no earlier than at the end: so it becomes a
+// test of many bytes at once, and costs the same on any two texts.
+pub fn same_at_once(a: &[u8], b: &[u8]) -> bool
+    requires { ⌜ length (now a) ≡ length (now b) ⌝ }
+    ensures { λ r. ⌜ r ≡ same (now (a .entry)) (now (b .entry)) ⌝ }
+{
+    let mut alike = true;
+    let mut i: usize = 0;
+    while i < a.len() {
+        alike = octets::and(alike, a[i] == b[i]);
+        i += 1;
+    }
+    alike
 }
 
 // Whether the text whose length stands at `at` is within its room, with 00 behind it.

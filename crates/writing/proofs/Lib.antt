@@ -13,6 +13,7 @@ pub mod PairLaws
 pub mod PartLaws
 pub mod PlainLaws
 pub mod PutLaws
+pub mod Refusals
 pub mod ReplyLaws
 pub mod ReplyTheorems
 pub mod RouteLaws

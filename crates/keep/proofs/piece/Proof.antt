@@ -1,50 +1,21 @@
--- The table stays well-formed; each turn passes a line or ends the piece. Assumes nothing.
-use Prim.Native.Nat.{_-_, _≤_}
+-- What the work says of the piece. Assumes nothing.
+use Prim.Native.Nat.{_-_}
 use Rattle.keep.proofs.piece.Statement.{statement}
 use Rattle.keep.proofs.piece.Tie as tie
-use Rattle.table.specs.WellFormed.{wellFormed}
 use borrow.Author.Needs.{needs}
 use lib.ListN.{length}
-use mathlib.Core.Bool.{true}
-use mathlib.Core.Path.{_≡_}
+use mathlib.Core.Path.{_≡_, refl}
+use native.Mathlib.Omega.{arith}
 
-abbrev Inv-loop : tie.InvT-loop
-Inv-loop table₀ line₀ len0 s out₀ len₀ from₀ table line out len from = (wellFormed table ≡ true) × (len ≤ 32790) × (from ≤ length s)
-
-abbrev μ-loop : tie.MeasureT-loop
-μ-loop table₀ line₀ len0 s out₀ len₀ from₀ table line out len from = length s - from
-
-loop-holds : tie.Need-loop-holds Inv-loop μ-loop
-loop-holds c = search needs
-
-work-requires : tie.Need-work-requires Inv-loop μ-loop
-work-requires c κs = search needs
-
-flush-requires : tie.Need-flush-requires Inv-loop μ-loop
-flush-requires c κs = search needs
-
-returns : tie.Need-returns Inv-loop μ-loop
-returns c = search needs
-
-loop-less : tie.Need-loop-less Inv-loop μ-loop
-loop-less c = search needs
-
-loop-again : tie.Need-loop-again Inv-loop μ-loop
-loop-again c = search needs
-
-returns-2 : tie.Need-returns-2 Inv-loop μ-loop
-returns-2 c = search needs
+returns : tie.Need-returns
+returns c =
+    let x = c .before .before .before .before .before .before .before .before .args in
+    let w = c .before .before .work .ensures in
+    let z : x .n - 0 ≡ x .n = omega arith in
+    let l : length (x .line .now) ≡ 32790 = search needs in
+    (rw (c .hand-on .ensures .0) (rw (z, l) at (w .0)), w .1, search needs, search needs, refl, refl, w .4, c .hand-on .ensures .1)
 
 pub piece-spec : {M : Type 1} → statement M
 piece-spec =
     tie.close
-    (tie.spec
-    Inv-loop
-    μ-loop
-    loop-holds
-    work-requires
-    flush-requires
-    returns
-    loop-less
-    loop-again
-    returns-2)
+    (tie.spec (λ c. search needs) (λ c. search needs) (λ c. search needs) (λ c κs. search needs) (λ c κs. search needs) returns)

@@ -1,24 +1,42 @@
--- The table stays well-formed; the measure is the number of turns that are left. Assumes nothing.
+-- Each turn takes the run on; the measure is the number of turns that are left. Assumes nothing.
 use Prim.Native.Nat.{_≤_}
+use Rattle.keep.proofs.LogLaws.{blank-starts}
 use Rattle.keep.proofs.run.Statement.{statement}
 use Rattle.keep.proofs.run.Tie as tie
+use Rattle.keep.specs.Log.{lineDone}
+use Rattle.lines.proofs.TurnLaws.{begins, never}
+use Rattle.lines.proofs.WholeRun.{further}
+use Rattle.lines.specs.Running.{Reached}
+use Rattle.table.specs.Blank.{blankOf}
 use Rattle.table.specs.WellFormed.{wellFormed}
 use borrow.Author.Needs.{needs}
+use lib.ListN.{drop, take}
 use mathlib.Core.Bool.{true}
 use mathlib.Core.Path.{_≡_}
 use native.Mathlib.Omega.{arith}
 
 abbrev Inv-loop : tie.InvT-loop
-Inv-loop table₀ buf₀ line₀ out₀ len₀ turns₀ go₀ table buf line out len turns go = (wellFormed table ≡ true) × (len ≤ 32790)
+Inv-loop table₀ buf₀ line₀ out₀ s₀ turns₀ table buf line out s turns =
+    Reached lineDone 32790 (blankOf 255) table (take (s .len) line) (drop (s .from) (take (s .n) buf))
+    × (wellFormed table ≡ true)
+    × (s .len ≤ 32790)
+    × (s .from ≤ s .n)
+    × (s .n ≤ 65536)
+    × (s .ended ≡ true → s .n ≡ 0)
 
 abbrev μ-loop : tie.MeasureT-loop
-μ-loop table₀ buf₀ line₀ out₀ len₀ turns₀ go₀ table buf line out len turns go = turns
+μ-loop table₀ buf₀ line₀ out₀ s₀ turns₀ table buf line out s turns = turns
 
 loop-holds : tie.Need-loop-holds Inv-loop μ-loop
-loop-holds c = search needs
+loop-holds c =
+    let x = c .before .before .args in
+    let e = c .start .ensures in
+    (begins lineDone 32790 (blankOf 255) (x .line .now) (x .buf .now) e, blank-starts e, omega arith, omega arith, omega arith, never)
 
 turn-requires : tie.Need-turn-requires Inv-loop μ-loop
-turn-requires c κs = search needs
+turn-requires c κs =
+    let i = c .before .before .before .before .before .before .loop .inv in
+    (i .1, i .2, i .3, i .4)
 
 sub-turns : tie.Need-sub-turns Inv-loop μ-loop
 sub-turns c = search needs
@@ -27,13 +45,19 @@ loop-less : tie.Need-loop-less Inv-loop μ-loop
 loop-less c = omega (arith, sub-turns c)
 
 loop-again : tie.Need-loop-again Inv-loop μ-loop
-loop-again c = search needs
-
-last-requires : tie.Need-last-requires Inv-loop μ-loop
-last-requires c κs = search needs
+loop-again c =
+    let t = c .turn .ensures in
+    (further (c .before .before .before .before .before .before .before .loop .inv .0) (t .0), t .1, t .2, t .3, t .4, t .5)
 
 returns : tie.Need-returns Inv-loop μ-loop
-returns c = search needs
+returns c =
+    let i = c .before .before .loop .inv in
+    (i .0, i .1, i .2, i .5)
+
+returns-2 : tie.Need-returns-2 Inv-loop μ-loop
+returns-2 c =
+    let i = c .before .loop .inv in
+    (i .0, i .1, i .2, i .5)
 
 pub run-spec : {M : Type 1} → statement M
 run-spec =
@@ -41,10 +65,11 @@ run-spec =
     (tie.spec
     Inv-loop
     μ-loop
+    (λ c κs. search needs)
     loop-holds
     turn-requires
     sub-turns
     loop-less
     loop-again
-    last-requires
-    returns)
+    returns
+    returns-2)

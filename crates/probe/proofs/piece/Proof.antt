@@ -1,119 +1,161 @@
--- The loop keeps that the work came from where it began; each line takes it on, and passes its line feed. Assumes nothing.
-use Prim.Native.Nat.{_-_, _≤_}
+-- Each answer of the splitter by its law. Assumes nothing.
 use Rattle.lines.proofs.Cutting.{held-says, here-says, pending-says, short}
 use Rattle.lines.specs.Input.{part}
-use Rattle.probe.proofs.PieceLaws.{held-gone, here-gone, nothing, pending-gone}
+use Rattle.probe.proofs.CommandLaws.{answer-fits}
+use Rattle.probe.proofs.PieceLaws.{held-told, here-told, kept-on}
 use Rattle.probe.proofs.piece.Statement.{statement}
 use Rattle.probe.proofs.piece.Tie as tie
-use Rattle.probe.specs.Commands.{Goes}
+use Rattle.probe.specs.Commands.{lineDone}
 use borrow.Author.Needs.{needs}
+use Prim.Native.Nat.{_-_}
 use lib.ListN.{drop, length, take}
 use mathlib.Core.List.{_++_}
 use mathlib.Core.Path.{_∙_, _≡_, refl, sym}
 use native.Mathlib.Omega.{arith}
 
-abbrev Inv-loop : tie.InvT-loop
-Inv-loop out₀ held₀ size0 bytes₀ room₀ line₀ len0 s size₀ len₀ from₀ out held bytes room line size len from = Goes (length line₀) (take size0 held₀) (take len0 line₀) s (take size held) (take len line) (drop from s) × (size ≤ 65536) × (length line ≡ length line₀)
+add-next : tie.Need-add-next
+add-next c =
+    let at-e = c .before in
+    let x = at-e .before .before .before .before .before .args in
+    let e = at-e .e .given .0 .0 in
+    let q = sym (at-e .before .before .next-line .ensures .0) ∙ at-e .e .given .1 in
+    let p = here-says (x .line .now) (x .len) (x .s .now) (x .from) e q in
+    omega (arith, p .0, p .1, c .before .before .before .before .before .before .pre .2)
 
-abbrev μ-loop : tie.MeasureT-loop
-μ-loop out₀ held₀ size0 bytes₀ room₀ line₀ len0 s size₀ len₀ from₀ out held bytes room line size len from = length s - from
+sub-answer : tie.Need-sub-answer
+sub-answer c =
+    let at-e = c .before .before .before .before .before in
+    let x = at-e .before .before .before .before .before .args in
+    let e = at-e .e .given .0 .0 in
+    let q = sym (at-e .before .before .next-line .ensures .0) ∙ at-e .e .given .1 in
+    let p = here-says (x .line .now) (x .len) (x .s .now) (x .from) e q in
+    omega (arith, p .0)
 
-loop-holds : tie.Need-loop-holds Inv-loop μ-loop
-loop-holds c = (nothing _ _ _ _, search needs, refl)
+part-answer-start : tie.Need-part-answer-start
+part-answer-start c =
+    let at-e = c .before .before .before .before .before in
+    let x = at-e .before .before .before .before .before .args in
+    let e = at-e .e .given .0 .0 in
+    let q = sym (at-e .before .before .next-line .ensures .0) ∙ at-e .e .given .1 in
+    let p = here-says (x .line .now) (x .len) (x .s .now) (x .from) e q in
+    omega (arith, p .0)
 
-next-line-requires : tie.Need-next-line-requires Inv-loop μ-loop
-next-line-requires c κs = search needs
+part-answer-end : tie.Need-part-answer-end
+part-answer-end c =
+    let at-e = c .before .before .before .before .before in
+    let x = at-e .before .before .before .before .before .args in
+    let e = at-e .e .given .0 .0 in
+    let q = sym (at-e .before .before .next-line .ensures .0) ∙ at-e .e .given .1 in
+    let p = here-says (x .line .now) (x .len) (x .s .now) (x .from) e q in
+    omega (arith, p .0, p .1)
 
-enum-known-e : tie.Need-enum-known-e Inv-loop μ-loop
-enum-known-e c = search needs
+told-requires : tie.Need-told-requires
+told-requires c κs =
+    let at-e = c .before .before .before .before .before .before .before .before .before in
+    let x = at-e .before .before .before .before .before .args in
+    let e = at-e .e .given .0 .0 in
+    let a = c .before .before .answer .ensures in
+    answer-fits (x .out .now) (lineDone (take (x .size) (x .held .now)) (take (e - x .from) (drop (x .from) (x .s .now))) .text) (a .text .0) (a .text .1)
 
-sub-tell : tie.Need-sub-tell Inv-loop μ-loop
-sub-tell c =
-    let l = c .before .before .before .before .before .before .before .before .before .before .before .loop in omega (arith, here-says (l .line) (l .len) (c .before .before .before .before .before .before .before .before .before .before .before .before .before .before .args .s .now) (l .from) (c .before .before .before .before .before .e .given .0 .0) (sym (c .before .before .before .before .before .before .before .before .before .next-line .ensures .0) ∙ c .before .before .before .before .before .e .given .1))
+answer-kept-requires : tie.Need-answer-kept-requires
+answer-kept-requires c κs =
+    let at-m = c .before .before .before .before .before .before .before in
+    let x = at-m .before .before .before .before .before .args in
+    let m = at-m .m .given .0 .0 in
+    let e = at-m .m .given .0 .1 .0 in
+    let n = at-m .before .before .next-line in
+    let q = sym (n .ensures .0) ∙ at-m .m .given .1 in
+    let p = held-says (x .line .now) (x .len) (x .s .now) (x .from) m e q in
+    (c .before .before .before .before .before .before .before .before .before .before .before .before .pre .0, omega (arith, p .0, short (length (x .line .now)) (take (x .len) (x .line .now) ++ part (x .s .now) (x .from))))
 
-part-tell-start : tie.Need-part-tell-start Inv-loop μ-loop
-part-tell-start c =
-    let l = c .before .before .before .before .before .before .before .before .before .before .before .loop in omega (arith, here-says (l .line) (l .len) (c .before .before .before .before .before .before .before .before .before .before .before .before .before .before .args .s .now) (l .from) (c .before .before .before .before .before .e .given .0 .0) (sym (c .before .before .before .before .before .before .before .before .before .next-line .ensures .0) ∙ c .before .before .before .before .before .e .given .1))
+told-requires-2 : tie.Need-told-requires-2
+told-requires-2 c κs =
+    let at-m = c .before .before .before .before .before .before .before .before .before .before in
+    let x = at-m .before .before .before .before .before .args in
+    let m = at-m .m .given .0 .0 in
+    let a = c .before .before .answer-kept .ensures in
+    answer-fits (x .out .now) (lineDone (take (x .size) (x .held .now)) (take m (at-m .before .before .next-line .last .0)) .text) (a .text .0) (a .text .1)
 
-part-tell-end : tie.Need-part-tell-end Inv-loop μ-loop
-part-tell-end c =
-    let l = c .before .before .before .before .before .before .before .before .before .before .before .loop in omega (arith, here-says (l .line) (l .len) (c .before .before .before .before .before .before .before .before .before .before .before .before .before .before .args .s .now) (l .from) (c .before .before .before .before .before .e .given .0 .0) (sym (c .before .before .before .before .before .before .before .before .before .next-line .ensures .0) ∙ c .before .before .before .before .before .e .given .1))
-
-tell-requires : tie.Need-tell-requires Inv-loop μ-loop
-tell-requires c κs = search needs
-
-add-from : tie.Need-add-from Inv-loop μ-loop
-add-from c =
-    let l = c .before .before .before .before .before .before .before .before .before .before .before .before .before .loop in omega (arith, here-says (l .line) (l .len) (c .before .before .before .before .before .before .before .before .before .before .before .before .before .before .before .before .args .s .now) (l .from) (c .before .before .before .before .before .before .before .e .given .0 .0) (sym (c .before .before .before .before .before .before .before .before .before .before .before .next-line .ensures .0) ∙ c .before .before .before .before .before .before .before .e .given .1))
-
-loop-less : tie.Need-loop-less Inv-loop μ-loop
-loop-less c =
-    let l = c .before .before .before .before .before .before .before .before .before .before .before .before .before .loop in omega (arith, here-says (l .line) (l .len) (c .before .before .before .before .before .before .before .before .before .before .before .before .before .before .before .before .args .s .now) (l .from) (c .before .before .before .before .before .before .before .e .given .0 .0) (sym (c .before .before .before .before .before .before .before .before .before .before .before .next-line .ensures .0) ∙ c .before .before .before .before .before .before .before .e .given .1))
-
-loop-again : tie.Need-loop-again Inv-loop μ-loop
-loop-again c =
-    let l = c .before .before .before .before .before .before .before .before .before .before .before .before .before .loop in
-    let x = c .before .before .before .before .before .before .before .before .before .before .before .before .before .before .before .before .args in
-    let q = sym (c .before .before .before .before .before .before .before .before .before .before .before .next-line .ensures .0) ∙ c .before .before .before .before .before .before .before .e .given .1 in
-    let a = c .tell .ensures in
-    (here-gone (length (x .line .now)) (take (x .size0) (x .held .now)) (take (x .len0) (x .line .now)) (x .s .now) (take (l .size) (l .held)) (l .line) (l .len) (x .s .now) (l .from) (l .inv .0) (c .before .before .before .before .before .before .before .e .given .0 .0) q (a .1), a .2, search needs)
-
-enum-known-n : tie.Need-enum-known-n Inv-loop μ-loop
-enum-known-n c = search needs
-
-tell-kept-requires : tie.Need-tell-kept-requires Inv-loop μ-loop
-tell-kept-requires c κs =
-    let l = c .before .before .before .before .before .before .before .before .before .before .before .before .loop in
-    let p = held-says (l .line) (l .len) (c .before .before .before .before .before .before .before .before .before .before .before .before .before .before .before .args .s .now) (l .from) (c .before .before .before .before .before .before .n .given .0 .0) (c .before .before .before .before .before .before .n .given .0 .1 .0) (sym (c .before .before .before .before .before .before .before .before .before .before .next-line .ensures .0) ∙ c .before .before .before .before .before .before .n .given .1) in
-    (l .inv .1, omega (arith, p .0, short (length (l .line)) (take (l .len) (l .line) ++ part (c .before .before .before .before .before .before .before .before .before .before .before .before .before .before .before .args .s .now) (l .from))))
-
-loop-less-2 : tie.Need-loop-less-2 Inv-loop μ-loop
-loop-less-2 c =
-    let l = c .before .before .before .before .before .before .before .before .before .before .before .before .before .loop in omega (arith, held-says (l .line) (l .len) (c .before .before .before .before .before .before .before .before .before .before .before .before .before .before .before .before .args .s .now) (l .from) (c .before .before .before .before .before .before .before .n .given .0 .0) (c .before .before .before .before .before .before .before .n .given .0 .1 .0) (sym (c .before .before .before .before .before .before .before .before .before .before .before .next-line .ensures .0) ∙ c .before .before .before .before .before .before .before .n .given .1))
-
-loop-again-2 : tie.Need-loop-again-2 Inv-loop μ-loop
-loop-again-2 c =
-    let l = c .before .before .before .before .before .before .before .before .before .before .before .before .before .loop in
-    let x = c .before .before .before .before .before .before .before .before .before .before .before .before .before .before .before .before .args in
-    let q = sym (c .before .before .before .before .before .before .before .before .before .before .before .next-line .ensures .0) ∙ c .before .before .before .before .before .before .before .n .given .1 in
-    let a = c .tell-kept .ensures in
-    (held-gone (length (x .line .now)) (take (x .size0) (x .held .now)) (take (x .len0) (x .line .now)) (x .s .now) (take (l .size) (l .held)) (l .line) (l .len) (x .s .now) (l .from) (l .inv .0) (c .before .before .before .before .before .before .before .n .given .0 .0) (c .before .before .before .before .before .before .before .n .given .0 .1 .0) _ (omega arith) q (c .before .before .before .before .before .before .before .before .before .before .before .next-line .ensures .1) (a .1), a .2, search needs)
-
-enum-known-n-2 : tie.Need-enum-known-n-2 Inv-loop μ-loop
-enum-known-n-2 c = search needs
-
-same-length : tie.Need-same-length Inv-loop μ-loop
-same-length c = search needs
-
-returns : tie.Need-returns Inv-loop μ-loop
+returns : tie.Need-returns
 returns c =
-    let l = c .before .before .before .before .before .before .before .loop in
-    let x = c .before .before .before .before .before .before .before .before .before .before .args in
-    let n = c .before .n2 .given .0 .0 in
-    let q = sym (c .before .before .before .before .before .next-line .ensures .0) ∙ c .before .n2 .given .1 in
-    let p = pending-says (l .line) (l .len) (x .s .now) (l .from) n q in
-    (pending-gone (length (x .line .now)) (take (x .size0) (x .held .now)) (take (x .len0) (x .line .now)) (x .s .now) (take (l .size) (l .held)) (l .line) (l .len) (x .s .now) (l .from) (l .inv .0) n _ (sym (l .inv .2)) q (c .before .before .before .before .before .next-line .ensures .1), l .inv .1, omega (arith, p .0, short (length (l .line)) (take (l .len) (l .line) ++ part (x .s .now) (l .from))))
+    let at-e = c .before .before .before .before .before .before .before .before .before .before in
+    let x = at-e .before .before .before .before .before .args in
+    let e = at-e .e .given .0 .0 in
+    let q = sym (at-e .before .before .next-line .ensures .0) ∙ at-e .e .given .1 in
+    let p = here-says (x .line .now) (x .len) (x .s .now) (x .from) e q in
+    let a = c .before .before .before .answer .ensures in
+    let r = c .told .ensures in
+    let l : length (x .line .now) ≡ 170001 = search needs in (
+      here-told (take (x .size) (x .held .now)) (x .line .now) l (x .len) (x .s .now) (x .from) e (x .out .now) _ q a
+          (record { table = r .0; none-kept = r .1; next = r .2; handed = r .4 }),
+      omega (arith, r .0, a .small),
+      omega (arith, r .1),
+      omega (arith, r .2, p .0, p .1),
+      r .3,
+      r .5,
+      omega (arith, r .2, p .0),
+      r .6,
+    )
+
+returns-2 : tie.Need-returns-2
+returns-2 c =
+    let at-m = c .before .before .before .before .before .before .before .before .before .before .before in
+    let x = at-m .before .before .before .before .before .args in
+    let m = at-m .m .given .0 .0 in
+    let e = at-m .m .given .0 .1 .0 in
+    let n = at-m .before .before .next-line in
+    let q = sym (n .ensures .0) ∙ at-m .m .given .1 in
+    let p = held-says (x .line .now) (x .len) (x .s .now) (x .from) m e q in
+    let a = c .before .before .before .answer-kept .ensures in
+    let r = c .told2 .ensures in
+    let l : length (x .line .now) ≡ 170001 = search needs in (
+      held-told (take (x .size) (x .held .now)) (x .line .now) l (x .len) (x .s .now) (x .from) m e (x .out .now) _ _ q (n .ensures .1) a
+          (record { table = r .0; none-kept = r .1; next = r .2; handed = r .4 }),
+      omega (arith, r .0, a .small),
+      omega (arith, r .1),
+      omega (arith, r .2, p .1, p .2),
+      r .3,
+      r .5,
+      omega (arith, r .2, p .1),
+      r .6,
+    )
+
+returns-3 : tie.Need-returns-3
+returns-3 c =
+    let x = c .before .before .before .before .before .before .args in
+    let m = c .before .m2 .given .0 .0 in
+    let n = c .before .before .before .next-line in
+    let q = sym (n .ensures .0) ∙ c .before .m2 .given .1 in
+    let p = pending-says (x .line .now) (x .len) (x .s .now) (x .from) m q in
+    let l : length (x .line .now) ≡ 170001 = search needs in
+    let k = short (length (x .line .now)) (take (x .len) (x .line .now) ++ part (x .s .now) (x .from)) in
+    let given = c .before .before .before .before .before .before .pre in (
+      kept-on (take (x .size) (x .held .now)) (x .line .now) l (x .len) (x .s .now) (x .from) m _ q (n .ensures .1),
+      given .0,
+      omega (arith, p .0),
+      omega arith,
+      refl,
+      refl,
+      given .1,
+      λ h. refl,
+    )
 
 pub piece-spec : {M : Type 1} → statement M
 piece-spec =
     tie.close
     (tie.spec
-    Inv-loop
-    μ-loop
-    loop-holds
-    next-line-requires
-    enum-known-e
-    sub-tell
-    part-tell-start
-    part-tell-end
-    tell-requires
-    add-from
-    loop-less
-    loop-again
-    enum-known-n
-    tell-kept-requires
-    loop-less-2
-    loop-again-2
-    enum-known-n-2
-    same-length
-    returns)
+    (λ c κs. search needs)
+    (λ c. search needs)
+    add-next
+    sub-answer
+    part-answer-start
+    part-answer-end
+    (λ c κs. search needs)
+    told-requires
+    (λ c. search needs)
+    answer-kept-requires
+    told-requires-2
+    (λ c. search needs)
+    returns
+    returns-2
+    returns-3)

@@ -5,11 +5,8 @@ use Rattle.probe.proofs.start.Tie as tie
 use borrow.Author.Needs.{needs}
 use native.Mathlib.Omega.{arith}
 
-make-blank-requires : tie.Need-make-blank-requires
-make-blank-requires c κs = search needs
-
 returns : tie.Need-returns
 returns c = (held-blank (c .before .before .args .held .now) 40816 255 (omega arith) (c .make-blank .last .0) (c .make-blank .ensures .1) first-fits, omega arith)
 
 pub start-spec : {M : Type 1} → statement M
-start-spec = tie.close (tie.spec make-blank-requires returns)
+start-spec = tie.close (tie.spec (λ c κs. search needs) returns)

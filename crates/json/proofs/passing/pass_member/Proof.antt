@@ -1,14 +1,11 @@
--- `member-passed` puts the walks together; every other way out answers nothing. Assumes nothing.
-use Prim.Native.Nat.{ℕ}
-use Rattle.json.proofs.MoveLaws.{leaf-is, nest-is}
-use Rattle.json.proofs.PassLaws.{member-passed}
+-- One law for each way out; what the readers answer is the machine's answer. Assumes nothing.
+use Rattle.json.proofs.PassLaws.{no-string-reached, string-reached, string-some, no-value-reached, value-reached, value-some, no-name, no-colon, no-value, not-followed, a-member}
 use Rattle.json.proofs.TurnLaws.{inside}
 use Rattle.json.proofs.passing.pass_member.Statement.{statement}
 use Rattle.json.proofs.passing.pass_member.Tie as tie
+use Rattle.json.specs.Passing.{isNext}
 use borrow.Author.Needs.{needs}
-use lib.Dec.{eqb}
-use mathlib.Core.Bool.{_||_}
-use mathlib.Core.Path.{sym, ap, _∙_}
+use mathlib.Core.Path.{refl, sym, ap, _∙_}
 use native.Mathlib.Omega.{arith}
 
 add-string : tie.Need-add-string
@@ -24,7 +21,10 @@ nothing-requires : tie.Need-nothing-requires
 nothing-requires c κs = search needs
 
 returns : tie.Need-returns
-returns c = λ h. absurd (omega (arith, h, c .nothing .ensures))
+returns c =
+    let st = c .before .before in
+    let x = st .before .before in
+    c .nothing .ensures ∙ no-name (x .args .left) (x .args .s .now) (x .args .q) (no-string-reached (x .pre .0) (x .pre .1) (st .string .ensures) (c .before .match .keys2)) refl
 
 skip-requires : tie.Need-skip-requires
 skip-requires c κs = search needs
@@ -36,7 +36,15 @@ nothing-requires-2 : tie.Need-nothing-requires-2
 nothing-requires-2 c κs = search needs
 
 returns-2 : tie.Need-returns-2
-returns-2 c = λ h. absurd (omega (arith, h, c .nothing2 .ensures))
+returns-2 c =
+    let by = c .before .before in
+    let sk = by .before in
+    let n = sk .before .before in
+    let st = n .before .before in
+    let x = st .before .before in
+    let e = string-reached (x .pre .0) (x .pre .1) (st .string .ensures) (n .n .given .1) in
+    let named = string-some (x .pre .0) (x .pre .1) (st .string .ensures) (n .n .given .1) in
+    c .nothing2 .ensures ∙ no-colon (x .args .left) (x .args .s .now) (x .args .q) e named (sk .skip .ensures .is) (λ z. c .before .if1 .taken (by .byte .ensures ∙ z))
 
 add-skip : tie.Need-add-skip
 add-skip c = let st = c .before .before .before .before .before .before in let x = st .before .before .args in omega (arith, inside (x .s .now) (c .before .before .skip .result) 57 (sym (c .before .byte .ensures) ∙ c .if1 .left))
@@ -54,7 +62,19 @@ nothing-requires-3 : tie.Need-nothing-requires-3
 nothing-requires-3 c κs = search needs
 
 returns-3 : tie.Need-returns-3
-returns-3 c = λ h. absurd (omega (arith, h, c .nothing3 .ensures))
+returns-3 c =
+    let va = c .before .before in
+    let s2 = va .before in
+    let by = s2 .before .before in
+    let sk = by .before in
+    let n = sk .before .before in
+    let st = n .before .before in
+    let x = st .before .before in
+    let e = string-reached (x .pre .0) (x .pre .1) (st .string .ensures) (n .n .given .1) in
+    let named = string-some (x .pre .0) (x .pre .1) (st .string .ensures) (n .n .given .1) in
+    let colon = sym (by .byte .ensures) ∙ s2 .before .if1 .left in
+    c .nothing3 .ensures ∙ no-value (x .args .left) (x .args .s .now) (x .args .q) e named (sk .skip .ensures .is) colon (s2 .skip2 .ensures .is)
+    (no-value-reached (va .value .ensures) (c .before .match2 .keys2)) refl
 
 skip-requires-3 : tie.Need-skip-requires-3
 skip-requires-3 c κs = search needs
@@ -66,13 +86,50 @@ is-next-requires : tie.Need-is-next-requires
 is-next-requires c κs = search needs
 
 returns-4 : tie.Need-returns-4
-returns-4 c = λ h. let nx = c .before in let b2 = nx .before in let s3 = b2 .before in let r = s3 .before .before in let va = r .before .before in let s2 = va .before in let by = s2 .before .before in let sk = by .before in let n = sk .before .before in let st = n .before .before in let x = st .before .before in member-passed (x .args .s .now) (x .args .q) (x .args .left) _ (sk .skip .result) (s2 .skip2 .result) _ (s3 .skip3 .result) (x .pre .0) (x .pre .1) (leaf-is (st .string .ensures) (n .n .given .1)) (sk .skip .ensures) (sym (by .byte .ensures) ∙ s2 .before .if1 .left) (s2 .skip2 .ensures) (nest-is (va .value .ensures) (r .r .given .1)) (s3 .skip3 .ensures) (sym (ap (λ (b : ℕ). eqb b 44 || eqb b 125) (b2 .byte2 .ensures)) ∙ sym (nx .is-next .ensures) ∙ c .if2 .taken)
+returns-4 c =
+    let nx = c .before in
+    let b2 = nx .before in
+    let s3 = b2 .before in
+    let r = s3 .before .before in
+    let va = r .before .before in
+    let s2 = va .before in
+    let by = s2 .before .before in
+    let sk = by .before in
+    let n = sk .before .before in
+    let st = n .before .before in
+    let x = st .before .before in
+    let e = string-reached (x .pre .0) (x .pre .1) (st .string .ensures) (n .n .given .1) in
+    let named = string-some (x .pre .0) (x .pre .1) (st .string .ensures) (n .n .given .1) in
+    let colon = sym (by .byte .ensures) ∙ s2 .before .if1 .left in
+    let w = value-reached (va .value .ensures) (r .r .given .1) in
+    let some = value-some (va .value .ensures) (omega (arith, s2 .skip2 .ensures .low)) (r .r .given .1) in
+    let follow = ap isNext (sym (b2 .byte2 .ensures)) ∙ sym (nx .is-next .ensures) in
+    a-member (x .args .left) (x .args .s .now) (x .args .q) e named (sk .skip .ensures .is) colon (s2 .skip2 .ensures .is) w some (s3 .skip3 .ensures .is) (follow ∙ c .if2 .taken)
 
 nothing-requires-4 : tie.Need-nothing-requires-4
 nothing-requires-4 c κs = search needs
 
 returns-5 : tie.Need-returns-5
-returns-5 c = λ h. absurd (omega (arith, h, c .nothing4 .ensures))
+returns-5 c =
+    let nx = c .before .before in
+    let b2 = nx .before in
+    let s3 = b2 .before in
+    let r = s3 .before .before in
+    let va = r .before .before in
+    let s2 = va .before in
+    let by = s2 .before .before in
+    let sk = by .before in
+    let n = sk .before .before in
+    let st = n .before .before in
+    let x = st .before .before in
+    let e = string-reached (x .pre .0) (x .pre .1) (st .string .ensures) (n .n .given .1) in
+    let named = string-some (x .pre .0) (x .pre .1) (st .string .ensures) (n .n .given .1) in
+    let colon = sym (by .byte .ensures) ∙ s2 .before .if1 .left in
+    let w = value-reached (va .value .ensures) (r .r .given .1) in
+    let some = value-some (va .value .ensures) (omega (arith, s2 .skip2 .ensures .low)) (r .r .given .1) in
+    let follow = ap isNext (sym (b2 .byte2 .ensures)) ∙ sym (nx .is-next .ensures) in
+    c .nothing4 .ensures ∙ not-followed (x .args .left) (x .args .s .now) (x .args .q) e named (sk .skip .ensures .is) colon (s2 .skip2 .ensures .is)
+    w some (s3 .skip3 .ensures .is) (follow ∙ c .before .if2 .left)
 
 pub pass-member-spec : {M : Type 1} → statement M
 pass-member-spec =

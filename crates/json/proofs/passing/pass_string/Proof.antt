@@ -1,10 +1,8 @@
--- The reader of strings came to the string's end. Assumes nothing.
-use Rattle.json.proofs.MoveLaws.{leaf-is}
-use Rattle.json.proofs.PassLaws.{string-passed}
+-- What the reader of strings answers is the machine's answer. Assumes nothing.
+use Rattle.json.proofs.PassLaws.{no-string-reached, string-reached}
 use Rattle.json.proofs.passing.pass_string.Statement.{statement}
 use Rattle.json.proofs.passing.pass_string.Tie as tie
 use borrow.Author.Needs.{needs}
-use native.Mathlib.Omega.{arith}
 
 add-string : tie.Need-add-string
 add-string c = search needs
@@ -16,10 +14,10 @@ enum-known-r : tie.Need-enum-known-r
 enum-known-r c = search needs
 
 returns : tie.Need-returns
-returns c = λ h. absurd (omega (arith, h))
+returns c = let st = c .before in let x = st .before .before in no-string-reached (x .pre .0) (x .pre .1) (st .string .ensures) (c .match .keys2)
 
 returns-2 : tie.Need-returns-2
-returns-2 c = λ h. let r = c .before in let st = r .before .before in let x = st .before .before in string-passed (x .args .s .now) (x .args .q) _ (x .pre .0) (x .pre .1) (leaf-is (st .string .ensures) (r .r .given .1))
+returns-2 c = let r = c .before in let st = r .before .before in let x = st .before .before in string-reached (x .pre .0) (x .pre .1) (st .string .ensures) (r .r .given .1)
 
 pub pass-string-spec : {M : Type 1} → statement M
 pass-string-spec = tie.close (tie.spec add-string string-requires enum-known-r returns returns-2)

@@ -1,5 +1,6 @@
--- The cycle of readers. A call falls by the levels left, twice and one more for a bracket; a loop by the bytes left. Each loop keeps that the machine
--- answers where it stands as from the start, whatever stands around; each exit follows its bytes. Assumes nothing.
+-- The cycle of readers. A call falls by levels left and bytes left (01, 'Where each language form belongs'), with one more behind a bracket; a loop by
+-- the bytes left. Each loop keeps that the machine answers where it stands as from the start, whatever stands around; each exit follows its bytes.
+-- Assumes nothing.
 use mathlib.Core.Path.{_≡_, refl, _∙_}
 use Prim.Native.Nat.{ℕ, _+_, _-_, _≤_, _<_}
 use native.Mathlib.Omega.{arith}
@@ -26,14 +27,15 @@ use Rattle.json.proofs.values.scalar.Reads as scalar-reads
 use Rattle.json.proofs.values.value.Kinds as value-kinds
 use Rattle.json.proofs.values.value.Reads as value
 
+-- Arguments: the text, whose bytes are .now, the place and the levels left. A bracket takes a level and a byte; behind it a value may begin at once.
 abbrev μ-array : Measures 1 array-kinds.ps ℕ
-μ-array κs a = a .1 .1 .0 + a .1 .1 .0 + 1
+μ-array κs a = a .1 .1 .0 + (length (a .0 .now) - a .1 .0) + 1
 
 abbrev μ-object : Measures 1 object-kinds.ps ℕ
-μ-object κs a = a .1 .1 .0 + a .1 .1 .0 + 1
+μ-object κs a = a .1 .1 .0 + (length (a .0 .now) - a .1 .0) + 1
 
 abbrev μ-value : Measures 1 value-kinds.ps ℕ
-μ-value κs a = a .1 .1 .0 + a .1 .1 .0
+μ-value κs a = a .1 .1 .0 + (length (a .0 .now) - a .1 .0)
 
 abbrev array-at : ℕ → In 1 array-kinds.ps
 array-at t = and 1 array-kinds.ps (is 1 array-kinds.ps μ-array t) array.Pre

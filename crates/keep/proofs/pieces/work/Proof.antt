@@ -1,11 +1,13 @@
 -- The loop keeps that the work came from where it began with what stands in the output buffer; each line takes it on. Assumes nothing.
 use Prim.Native.Nat.{_+_, _-_, _*_, _≤_}
-use Rattle.keep.proofs.WorkLaws.{held-gone, here-gone, nothing, pending-gone}
+use Rattle.keep.proofs.WorkLaws.{held-goes, here-goes, pending-goes}
 use Rattle.keep.proofs.pieces.work.Statement.{statement}
 use Rattle.keep.proofs.pieces.work.Tie as tie
-use Rattle.keep.specs.Log.{Goes}
+use Rattle.keep.specs.Log.{lineDone}
 use Rattle.lines.proofs.Cutting.{held-says, here-says, pending-says, short}
+use Rattle.lines.proofs.WorkLaws.{nothing}
 use Rattle.lines.specs.Input.{part}
+use Rattle.lines.specs.Running.{Goes}
 use Rattle.table.specs.WellFormed.{wellFormed}
 use borrow.Author.Needs.{needs}
 use lib.ListN.{drop, length, take}
@@ -16,7 +18,7 @@ use native.Mathlib.Omega.{arith}
 
 abbrev Inv-loop : tie.InvT-loop
 Inv-loop table₀ line₀ len0 s from0 out₀ len₀ from₀ at₀ table line out len from at =
-    Goes (length line₀) table₀ (take len0 line₀) (drop from0 s) table (take len line) (drop from s) (take at out)
+    Goes lineDone (length line₀) table₀ (take len0 line₀) (drop from0 s) table (take len line) (drop from s) (take at out)
     × (wellFormed table ≡ true)
     × (length table ≡ length table₀)
     × (length line ≡ length line₀)
@@ -31,7 +33,7 @@ abbrev μ-loop : tie.MeasureT-loop
 μ-loop table₀ line₀ len0 s from0 out₀ len₀ from₀ at₀ table line out len from at = length s - from
 
 loop-holds : tie.Need-loop-holds Inv-loop μ-loop
-loop-holds c = (nothing _ _ _ _, search needs, refl, refl, refl, omega arith, omega arith, omega arith, omega arith, omega arith)
+loop-holds c = (nothing _ _ _ _ _, search needs, refl, refl, refl, omega arith, omega arith, omega arith, omega arith, omega arith)
 
 sub-loop : tie.Need-sub-loop Inv-loop μ-loop
 sub-loop c = search needs
@@ -68,7 +70,7 @@ loop-again c =
     let q = sym (c .before .before .before .before .before .before .before .before .before .before .before .before .before .next-line .ensures .0) ∙ c .before .before .before .before .before .before .before .before .before .e .given .1 in
     let p = here-says (l .line) (l .len) (x .s .now) (l .from) e q in
     let a = c .before .before .before .before .answer .ensures in
-    (here-gone (length (x .line .now)) (x .table .now) (take (x .len0) (x .line .now)) (drop (x .from0) (x .s .now)) (l .table) (l .line) (l .len) (x .s .now) (l .from) (l .out) (l .at) (l .inv .0) e q (l .inv .5) (a .0) (a .1) (a .2), a .3, search needs, search needs, search needs, omega (arith, a .4), omega arith, omega (arith, p .0), omega (arith, p .0, p .1), omega (arith, p .0, a .4))
+    (here-goes (length (x .line .now)) (x .table .now) (take (x .len0) (x .line .now)) (drop (x .from0) (x .s .now)) (l .table) (l .line) (l .inv .3) (omega arith) (l .len) (x .s .now) (l .from) (l .out) (l .at) (l .inv .5) (l .inv .0) e q (a .0) (a .1) (a .2), a .3, search needs, search needs, search needs, omega (arith, a .4), omega arith, omega (arith, p .0), omega (arith, p .0, p .1), omega (arith, p .0, a .4))
 
 enum-known-n : tie.Need-enum-known-n Inv-loop μ-loop
 enum-known-n c = search needs
@@ -90,7 +92,7 @@ loop-again-2 c =
     let q = sym (c .before .before .before .before .before .before .before .before .before .before .before .before .before .next-line .ensures .0) ∙ c .before .before .before .before .before .before .before .before .before .n .given .1 in
     let p = held-says (l .line) (l .len) (x .s .now) (l .from) m e q in
     let a = c .before .before .before .before .answer-kept .ensures in
-    (held-gone (length (x .line .now)) (x .table .now) (take (x .len0) (x .line .now)) (drop (x .from0) (x .s .now)) (l .table) (l .line) (l .len) (x .s .now) (l .from) (l .out) (l .at) (l .inv .0) m e _ (omega arith) q (c .before .before .before .before .before .before .before .before .before .before .before .before .before .next-line .ensures .1) (l .inv .5) (a .0) (a .1) (a .2), a .3, search needs, search needs, search needs, omega (arith, a .4), omega arith, omega (arith, p .1), omega (arith, p .1, p .2), omega (arith, p .1, a .4))
+    (held-goes (length (x .line .now)) (x .table .now) (take (x .len0) (x .line .now)) (drop (x .from0) (x .s .now)) (l .table) (l .line) (l .inv .3) (omega arith) (l .len) (x .s .now) (l .from) (l .out) (l .at) (l .inv .5) (l .inv .0) m e _ q (c .before .before .before .before .before .before .before .before .before .before .before .before .before .next-line .ensures .1) (a .0) (a .1) (a .2), a .3, search needs, search needs, search needs, omega (arith, a .4), omega arith, omega (arith, p .1), omega (arith, p .1, p .2), omega (arith, p .1, a .4))
 
 enum-known-n-2 : tie.Need-enum-known-n-2 Inv-loop μ-loop
 enum-known-n-2 c = search needs
@@ -111,7 +113,7 @@ returns c =
     let n = c .before .n2 .given .0 .0 in
     let q = sym (c .before .before .before .before .before .next-line .ensures .0) ∙ c .before .n2 .given .1 in
     let p = pending-says (l .line) (l .len) (x .s .now) (l .from) n q in
-    (pending-gone (length (x .line .now)) (x .table .now) (take (x .len0) (x .line .now)) (drop (x .from0) (x .s .now)) (l .table) (l .line) (l .len) (x .s .now) (l .from) (l .out) (l .at) (l .inv .0) n _ (omega arith) q (c .before .before .before .before .before .next-line .ensures .1), l .inv .1, omega arith, omega (arith, p .0, short (length (l .line)) (take (l .len) (l .line) ++ part (x .s .now) (l .from))), omega arith, omega arith)
+    (pending-goes (length (x .line .now)) (x .table .now) (take (x .len0) (x .line .now)) (drop (x .from0) (x .s .now)) (l .table) (l .line) (l .inv .3) (omega arith) (l .len) (x .s .now) (l .from) (l .out) (l .at) (l .inv .5) (l .inv .0) n _ q (c .before .before .before .before .before .next-line .ensures .1), l .inv .1, omega arith, omega (arith, p .0, short (length (l .line)) (take (l .len) (l .line) ++ part (x .s .now) (l .from))), omega arith, omega arith, λ h. absurd (omega (arith, h)))
 
 same-length-4 : tie.Need-same-length-4 Inv-loop μ-loop
 same-length-4 c = search needs
@@ -125,7 +127,7 @@ same-length-6 c = search needs
 returns-2 : tie.Need-returns-2 Inv-loop μ-loop
 returns-2 c =
     let l = c .before .loop in
-    (l .inv .0, l .inv .1, omega arith, omega arith, omega arith, omega arith)
+    (l .inv .0, l .inv .1, omega arith, omega arith, omega arith, omega arith, λ h. omega arith)
 
 pub work-spec : {M : Type 1} → statement M
 work-spec =

@@ -69,8 +69,8 @@ byte-requires-2 c κs = search needs
 
 returns-3 : tie.Need-returns-3 Inv-loop μ-loop
 returns-3 c =
-    walk-shut (c .before .before .before .before .before .before .before .before .before .before .before .before .loop .inv .1 .1 .1) (c .before .before .before .before .before .before .before .before .before .before .before .loop-test .taken) (c .before .before .before .before .before .before .before .before .before .before .skip .ensures .is) (sym (c .before .before .before .before .before .before .before .before .before .byte .ensures) ∙ c .before .before .before .before .before .before .before .before .if1 .left) (c .before .before .before .before .before .before .before .member-at .ensures) (c .before .before .before .before .before .before .part .ensures) (c .before .before .before .before .before .hop-member .ensures) (c .before .before .before .before .has-member .ensures)
-    (c .before .before .before .if2 .left) (c .before .before .with-member .ensures) (omega (arith, c .before .before .before .before .before .hop-member .ensures, hop-few (c .before .before .before .before .before .before .part .result .now))) (λ e. c .if3 .taken (c .before .byte2 .ensures ∙ e))
+    walk-shut (c .before .before .before .before .before .before .before .before .before .before .before .before .loop .inv .1 .1 .1) (c .before .before .before .before .before .before .before .before .before .before .before .loop-test .taken) (c .before .before .before .before .before .before .before .before .before .before .skip .ensures .is) (sym (c .before .before .before .before .before .before .before .before .before .byte .ensures) ∙ c .before .before .before .before .before .before .before .before .if1 .left) (c .before .before .before .before .before .before .before .member-at .ensures) (c .before .before .before .before .before .before .part .ensures) (c .before .before .before .before .before .hop-member .ensures) (c .before .before .before .before .has-member .ensures) (omega (arith, c .before .before .before .before .before .before .before .before .before .before .skip .ensures .low, c .before .before .before .before .before .before .before .before .before .before .before .before .loop .inv .0))
+    (c .before .before .before .if2 .left) (c .before .before .with-member .ensures) (λ e. c .if3 .taken (c .before .byte2 .ensures ∙ e))
 
 add-p-2 : tie.Need-add-p-2 Inv-loop μ-loop
 add-p-2 c = omega (arith, c .before .before .before .before .before .before .before .before .before .before .before .before .loop .inv .1 .1 .0, there (c .before .before .before .before .before .before .before .before .before .before .before .before .before .before .before .args .v .now) (c .before .before .before .before .before .before .before .member-at .result .then) 43 (sym (c .before .byte2 .ensures) ∙ c .if3 .left))
@@ -89,8 +89,8 @@ loop-again c =
         omega (arith, there (c .before .before .before .before .before .before .before .before .before .before .before .before .before .before .before .args .v .now) (c .before .before .before .before .before .before .before .member-at .result .then) 43 b),
         (
           c .before .before .before .before .before .before .before .before .before .before .before .before .loop .inv .1 .1 .0,
-          walk-again (c .before .before .before .before .before .before .before .before .before .before .before .before .loop .inv .1 .1 .1) (c .before .before .before .before .before .before .before .before .before .before .before .loop-test .taken) (c .before .before .before .before .before .before .before .before .before .before .skip .ensures .is) (sym (c .before .before .before .before .before .before .before .before .before .byte .ensures) ∙ c .before .before .before .before .before .before .before .before .if1 .left) (c .before .before .before .before .before .before .before .member-at .ensures) (c .before .before .before .before .before .before .part .ensures) (c .before .before .before .before .before .hop-member .ensures) (c .before .before .before .before .has-member .ensures)
-              (c .before .before .before .if2 .left) (c .before .before .with-member .ensures) (omega (arith, c .before .before .before .before .before .hop-member .ensures, hop-few (c .before .before .before .before .before .before .part .result .now))) b,
+          walk-again (c .before .before .before .before .before .before .before .before .before .before .before .before .loop .inv .1 .1 .1) (c .before .before .before .before .before .before .before .before .before .before .before .loop-test .taken) (c .before .before .before .before .before .before .before .before .before .before .skip .ensures .is) (sym (c .before .before .before .before .before .before .before .before .before .byte .ensures) ∙ c .before .before .before .before .before .before .before .before .if1 .left) (c .before .before .before .before .before .before .before .member-at .ensures) (c .before .before .before .before .before .before .part .ensures) (c .before .before .before .before .before .hop-member .ensures) (c .before .before .before .before .has-member .ensures) (omega (arith, c .before .before .before .before .before .before .before .before .before .before .skip .ensures .low, c .before .before .before .before .before .before .before .before .before .before .before .before .loop .inv .0))
+              (c .before .before .before .if2 .left) (c .before .before .with-member .ensures) b,
         ),
       ),
     )

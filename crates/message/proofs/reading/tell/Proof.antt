@@ -1,6 +1,6 @@
 -- `message::reading::tell` meets its contract. One walk, or each exit puts in what led there. Assumes nothing.
 use Rattle.json.proofs.VerdictLaws.{verdict-answer}
-use Rattle.message.proofs.WalkLaws.{usual-read}
+use Rattle.message.proofs.WalkLaws.{usual-few, usual-ends, usual-read}
 use Rattle.message.proofs.reading.tell.Statement.{statement}
 use Rattle.message.proofs.reading.tell.Tie as tie
 use Rattle.message.specs.Reading.{onJson}
@@ -11,10 +11,13 @@ walk-text-requires : tie.Need-walk-text-requires
 walk-text-requires c κs = search needs
 
 judge-requires : tie.Need-judge-requires
-judge-requires c κs = let u = c .before .before .before .before .before .walk-text .ensures (c .before .before .if1 .taken) in (u .shape .few, u .ends)
+judge-requires c κs =
+    let u = c .before .before .before .before .before .walk-text .ensures in
+    let h = c .before .before .if1 .taken in
+    (usual-few u h, usual-ends u h)
 
 returns : tie.Need-returns
-returns c = c .judge .ensures ∙ usual-read (c .before .before .before .before .before .before .walk-text .ensures (c .before .before .before .if1 .taken)) (c .before .before .before .if1 .taken)
+returns c = c .judge .ensures ∙ usual-read (c .before .before .before .before .before .before .walk-text .ensures) (c .before .before .before .if1 .taken)
 
 read-requires : tie.Need-read-requires
 read-requires c κs = search needs

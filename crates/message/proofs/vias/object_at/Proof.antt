@@ -1,5 +1,5 @@
 -- `message::vias::object_at` meets its contract. One law of `ViaLaws` for each way out. Assumes nothing.
-use Rattle.message.proofs.GatherLaws.{there}
+use Rattle.message.proofs.GatherLaws.{ends-known, there}
 use Rattle.message.proofs.ViaLaws.{not-object, twice-one, once-each, host-found, none-kept}
 use Rattle.message.proofs.vias.object_at.Statement.{statement}
 use Rattle.message.proofs.vias.object_at.Tie as tie
@@ -29,13 +29,19 @@ returns-2 c =
     (c .no-object2 .ensures ∙ twice-one (x .v .now) (x .o) (sym (c .before .before .before .before .before .before .before .byte .ensures) ∙ c .before .before .before .before .before .before .if1 .left) (c .before .before .before .before .before .hop-members .ensures .0) (c .before .if2 .taken), none-kept (c .no-object2 .ensures))
 
 keeps-member-requires : tie.Need-keeps-member-requires
-keeps-member-requires c κs = c .before .before .before .before .hop-members .ensures .1 .ends 1
+keeps-member-requires c κs =
+    let h = c .before .before .before .before in
+    ends-known (h .before .before .before .before .args .v .now) _ (h .hop-members .ensures .1) .ends 1
 
 keeps-member-requires-2 : tie.Need-keeps-member-requires-2
-keeps-member-requires-2 c κs = c .before .before .before .before .before .hop-members .ensures .1 .ends 2
+keeps-member-requires-2 c κs =
+    let h = c .before .before .before .before .before in
+    ends-known (h .before .before .before .before .args .v .now) _ (h .hop-members .ensures .1) .ends 2
 
 keeps-member-requires-3 : tie.Need-keeps-member-requires-3
-keeps-member-requires-3 c κs = c .before .before .before .before .before .before .hop-members .ensures .1 .ends 3
+keeps-member-requires-3 c κs =
+    let h = c .before .before .before .before .before .before in
+    ends-known (h .before .before .before .before .args .v .now) _ (h .hop-members .ensures .1) .ends 3
 
 and-requires : tie.Need-and-requires
 and-requires c κs = search needs
@@ -44,7 +50,9 @@ and-requires-2 : tie.Need-and-requires-2
 and-requires-2 c κs = search needs
 
 text-span-requires : tie.Need-text-span-requires
-text-span-requires c κs = c .before .before .before .before .before .before .before .before .before .hop-members .ensures .1 .ends 1
+text-span-requires c κs =
+    let h = c .before .before .before .before .before .before .before .before .before in
+    ends-known (h .before .before .before .before .args .v .now) _ (h .hop-members .ensures .1) .ends 1
 
 returns-3 : tie.Need-returns-3
 returns-3 c =

@@ -5,7 +5,6 @@ use Rattle.showing.proofs.words.take_bytes.Tie as tie
 use Rattle.showing.specs.Words.{bytesOf}
 use borrow.Author.Needs.{needs}
 use mathlib.Core.Path.{_∙_, sym}
-use native.Mathlib.Omega.{arith}
 
 is-hex-to-requires : tie.Need-is-hex-to-requires
 is-hex-to-requires c κs = search needs
@@ -15,7 +14,7 @@ put-bytes-requires c κs = search needs
 
 returns : tie.Need-returns
 returns c =
-    let x = c .before .before .before .before .before .args in got-some (x .bytes .now) (x .at) (bytesOf (x .word .now)) (sym (c .before .before .before .is-hex-to .ensures) ∙ c .before .before .if1 .taken) (omega arith) (c .put-bytes .ensures)
+    let x = c .before .before .before .before .before .args in got-some (x .bytes .now) (x .at) (bytesOf (x .word .now)) (sym (c .before .before .before .is-hex-to .ensures) ∙ c .before .before .if1 .taken) (c .put-bytes .ensures)
 
 returns-2 : tie.Need-returns-2
 returns-2 c =

@@ -1,5 +1,6 @@
 -- `table::marks::is_apart_before` meets its contract. The loop's invariant: record k is apart from each record passed. Assumes nothing.
 use Prim.Native.Nat.{ℕ, _≤_, _<_, _-_}
+use Rattle.table.proofs.RoomLaws.{call-id-padded}
 use Rattle.table.proofs.SearchLaws.{all-every, every-stops}
 use Rattle.table.proofs.SoundLaws.{through-both}
 use Rattle.table.proofs.marks.is_apart_before.Statement.{statement}
@@ -29,7 +30,13 @@ record-at-requires-2 : tie.Need-record-at-requires-2 Inv-loop μ-loop
 record-at-requires-2 c κs = search needs
 
 is-apart-requires : tie.Need-is-apart-requires Inv-loop μ-loop
-is-apart-requires c κs = search needs
+is-apart-requires c κs =
+    let o = c .before .before .before .before .before in (
+      search needs,
+      search needs,
+      call-id-padded (o .args .t .now) (o .args .k) (o .pre .1) (o .pre .0) (c .before .before .before .record-at .ensures .0),
+      call-id-padded (o .args .t .now) (c .before .before .loop .l) (o .pre .1) (omega arith) (c .record-at2 .ensures .0),
+    )
 
 returns : tie.Need-returns Inv-loop μ-loop
 unfolding apartBefore

@@ -44,6 +44,7 @@ is-new-requires c κs = (
   mark-of (c .before .mark .ensures) (c .before .before .text .ensures)
       (c .before .before .before .record-at .ensures .0),
   c .before .before .before .before .before .loop .inv .3,
+  search needs,
 )
 
 returns : tie.Need-returns Inv-loop μ-loop

@@ -22,9 +22,11 @@ returns-2 c =
     (sym (c .before .are-records-sound .ensures) ∙ not-true _ (c .if2 .taken))
 
 is-distinct-requires : tie.Need-is-distinct-requires
-is-distinct-requires c κs =
-    frame-size (c .before .before .before .before .before .args .t .now)
-    (sym (c .before .before .before .is-frame-sound .ensures) ∙ not-false _ (c .before .before .if1 .left))
+is-distinct-requires c κs = (
+  frame-size (c .before .before .before .before .before .args .t .now)
+      (sym (c .before .before .before .is-frame-sound .ensures) ∙ not-false _ (c .before .before .if1 .left)),
+  sym (c .before .are-records-sound .ensures) ∙ not-false _ (c .if2 .left),
+)
 
 returns-3 : tie.Need-returns-3
 returns-3 c =

@@ -1,0 +1,108 @@
+-- What a run hands to `write` is the text of what it read, whatever pieces the system's reads give: for any rule of a line by which a line
+-- cut to a buffer's room does what the whole does. `keep` and `probe` put their own rules in. Assumes nothing.
+use Prim.Native.Nat.{ℕ, zero, suc, _≤_, _<_}
+use Rattle.lines.proofs.Cutting.{ended-cut, step, take-kept, unended-cut, whole}
+use Rattle.lines.proofs.WorkLaws.{nothing, then-goes}
+use Rattle.lines.specs.Input.{ended, last, linesOf, unended}
+use Rattle.lines.specs.Running.{Goes, Reached, Run, Effect, Stepped, logTable, logText}
+use Rattle.lines.specs.Running.Run.{begun, read, answered}
+use Rattle.lines.specs.Running.Stepped.{reads, answers}
+use Rattle.octets.specs.Text.{before}
+use lib.ListN.{drop, length, take}
+use mathlib.Core.List.{List, [], _∷_, _++_, append-assoc, append-nil}
+use mathlib.Core.Path.{_≡_, ap, refl, sym, _∙_}
+use native.Mathlib.Decide.{decLt}
+use native.Mathlib.Omega.{arith}
+
+-- lines behind lines
+text-append : (done : List ℕ → List ℕ → Effect) (t : List ℕ) (x y : List (List ℕ)) → logText done t (x ++ y) ≡ logText done t x ++ logText done (logTable done t x) y
+unfolding logText logTable
+text-append done t [] y = refl
+text-append done t (l ∷ x) y = rw (text-append done (done t l .table) x y) (sym (append-assoc (done t l .text) (logText done (done t l .table) x) _))
+
+table-append : (done : List ℕ → List ℕ → Effect) (t : List ℕ) (x y : List (List ℕ)) → logTable done t (x ++ y) ≡ logTable done (logTable done t x) y
+unfolding logTable
+table-append done t [] y = refl
+table-append done t (l ∷ x) y = table-append done (done t l .table) x y
+
+-- two first lines that do the same
+same-head : (done : List ℕ → List ℕ → Effect) (t x y : List ℕ) (ls : List (List ℕ)) → done t x ≡ done t y → (logText done t (x ∷ ls) ≡ logText done t (y ∷ ls)) × (logTable done t (x ∷ ls) ≡ logTable done t (y ∷ ls))
+unfolding logText logTable
+same-head done t x y ls e = (
+  ap (λ (d : Effect). d .text ++ logText done (d .table) ls) e,
+  ap (λ (d : Effect). logTable done (d .table) ls) e,
+)
+
+clash : (n y : ℕ) (k : List ℕ) → 1 ≤ n → take n [] ≡ take n (y ∷ k) → ⊥
+clash zero y k h e = omega arith
+clash (suc n) y k h e = let z = ap length e in omega arith
+
+module _ (done : List ℕ → List ℕ → Effect) (cap : ℕ) (some : 1 ≤ cap) (kept : (t l : List ℕ) → done t (take cap l) ≡ done t l) where
+  -- two open lines of which the same is kept go on alike
+  record Alike (t j k s : List ℕ) : Type 0 where
+    text : logText done t (ended j s) ≡ logText done t (ended k s)
+    table : logTable done t (ended j s) ≡ logTable done t (ended k s)
+    open-line : take cap (unended j s) ≡ take cap (unended k s)
+
+  does-alike : (t j k p : List ℕ) → take cap j ≡ take cap k → done t (j ++ p) ≡ done t (k ++ p)
+  does-alike t j k p e =
+      let f : take cap (j ++ p) ≡ take cap (k ++ p) = sym (take-kept cap j p) ∙ rw e (take-kept cap k p) in
+      sym (kept t (j ++ p)) ∙ ap (done t) f ∙ kept t (k ++ p)
+
+  alike : (t j k s : List ℕ) → take cap j ≡ take cap k → Alike t j k s
+  alike t j k s e = go (decLt (before 10 s) (length s))
+    where
+      go : Dec (before 10 s < length s) → Alike t j k s
+      go (yes h) =
+          let a = step j s h in
+          let b = step k s h in
+          let q = does-alike t j k (take (before 10 s) s) e in
+          let h = same-head done t (j ++ take (before 10 s) s) (k ++ take (before 10 s) s) (ended [] (drop (suc (before 10 s)) s)) q in
+          record { text = rw (a .first, b .first) (h .0); table = rw (a .first, b .first) (h .1); open-line = rw (a .then, b .then) }
+      go (no h) =
+          let a = whole j s (omega arith) in
+          let b = whole k s (omega arith) in
+          record {
+            text = rw (a .none, b .none);
+            table = rw (a .none, b .none);
+            open-line = rw (a .all, b .all) (sym (take-kept cap j s) ∙ rw e (take-kept cap k s));
+          }
+
+  -- a piece is read behind what was read
+  read-on : (t₀ i p : List ℕ) {w t k : List ℕ} → Goes done cap t₀ [] i t k [] w → Goes done cap t₀ [] (i ++ p) t k p w
+  unfolding logText logTable ended unended
+  read-on t₀ i p {w} {t} {k} g =
+      let r = alike t (unended [] i) k p (g .open-line) in
+      let v : logText done t₀ (ended [] i) ≡ w = g .written ∙ append-nil w in
+      record {
+        written = rw (ended-cut [] i p, text-append done t₀ (ended [] i) (ended (unended [] i) p), v, g .table, r .text);
+        table = rw (ended-cut [] i p, table-append done t₀ (ended [] i) (ended (unended [] i) p), g .table) (r .table);
+        open-line = rw (unended-cut [] i p) (r .open-line);
+      }
+
+  -- at every place of a run: what was handed on, and then what is still to be handed on, is the text of the lines that have ended
+  pub so-far : {t₀ i w t k s : List ℕ} → Run done cap t₀ i w t k s → Goes done cap t₀ [] i t k s w
+  so-far {t₀} begun = nothing done cap t₀ [] []
+  so-far {t₀} (read {i} {w} {t} {k} {p} r) = read-on t₀ i p (so-far r)
+  so-far (answered r g) = then-goes done cap (so-far r) g
+
+  last-alike : (t j k : List ℕ) → take cap j ≡ take cap k → logText done t (last j) ≡ logText done t (last k)
+  unfolding logText last
+  last-alike t [] [] e = refl
+  last-alike t [] (y ∷ k) e = absurd (clash cap y k some e)
+  last-alike t (x ∷ j) [] e = absurd (clash cap x j some (sym e))
+  last-alike t (x ∷ j) (y ∷ k) e =
+      let q : done t (x ∷ j) ≡ done t (y ∷ k) = sym (kept t (x ∷ j)) ∙ ap (done t) e ∙ kept t (y ∷ k) in
+      rw q
+
+  -- at the end of the input: what was handed on, and then the answer to a last line without its line feed, is the text of the input
+  pub whole-run : {t₀ i w t k : List ℕ} → Run done cap t₀ i w t k [] → logText done t₀ (linesOf i) ≡ w ++ logText done t (last k)
+  unfolding linesOf logText logTable ended unended
+  whole-run {t₀} {i} {w} {t} {k} r =
+      let g = so-far r in
+      rw (text-append done t₀ (ended [] i) (last (unended [] i)), g .written, append-nil w, g .table, last-alike t (unended [] i) k (g .open-line))
+
+-- a run with one turn more
+pub further : {done : List ℕ → List ℕ → Effect} {cap : ℕ} {t₀ t k s t′ k′ s′ x : List ℕ} → Reached done cap t₀ t k s → Stepped done cap t k s t′ k′ s′ x → Reached done cap t₀ t′ k′ s′
+further r (reads {p}) = record { input = r .input ++ p; handed = r .handed; run = read (r .run) }
+further r (answers {x = x} g) = record { input = r .input; handed = r .handed ++ x; run = answered (r .run) g }
