@@ -51,6 +51,10 @@ impl Word {
             Word::None => "none",
         }
     }
+
+    pub fn of_name(name: &str) -> Option<Word> {
+        Word::ALL.into_iter().find(|word| word.name() == name)
+    }
 }
 
 /// What an accepted event does to the record.
@@ -180,24 +184,25 @@ fn cancel(record: &Record, exchange: &Exchange, now: u64) -> Answer {
     }
 }
 
-/// A side's highest number with its method; (0, none) before its first.
-fn highest(record: &Record, side: Side) -> (u32, Option<Method>) {
+/// A side's highest number with its method; none before its first.
+pub fn last_request(record: &Record, side: Side) -> Option<(u32, Method)> {
     match side {
-        Side::Caller => (record.caller_highest, Some(record.caller_method)),
-        Side::Callee => match record.callee_highest {
-            Some((number, method)) => (number, Some(method)),
-            None => (0, None),
-        },
+        Side::Caller => Some((record.caller_highest, record.caller_method)),
+        Side::Callee => record.callee_highest,
     }
+}
+
+/// A side's highest number; 0 before its first.
+pub fn highest(record: &Record, side: Side) -> u32 {
+    last_request(record, side).map_or(0, |(number, _)| number)
 }
 
 /// BYE, MESSAGE, NOTIFY and REFER.
 fn within_call(record: &Record, exchange: &Exchange, now: u64) -> Answer {
-    let (number, method) = highest(record, exchange.from);
-    if exchange.number == number && method == Some(exchange.method) {
+    if last_request(record, exchange.from) == Some((exchange.number, exchange.method)) {
         return Ok(Outcome::Unchanged(Word::Repeat));
     }
-    if exchange.number <= number {
+    if exchange.number <= highest(record, exchange.from) {
         return Err(23);
     }
     if !matches!(record.state, State::Answered | State::Talking) {
@@ -250,7 +255,7 @@ fn response(record: &Record, exchange: &Exchange, status: u16, now: u64) -> Answ
     match exchange.method {
         Method::Invite => to_invite(record, exchange, status, now),
         Method::Bye | Method::Message | Method::Notify | Method::Refer => {
-            if exchange.number > highest(record, exchange.from).0 {
+            if exchange.number > highest(record, exchange.from) {
                 return Err(23);
             }
             pass_in(
@@ -304,21 +309,28 @@ fn to_invite(record: &Record, exchange: &Exchange, status: u16, now: u64) -> Ans
 
 // Ticks.
 
+/// The time since which a call's limit runs, and the limit.
+pub fn limit(record: &Record) -> (u64, u64) {
+    match record.state {
+        State::Calling | State::Cancelling => (record.entered, CALLING_LIMIT),
+        State::Ringing => (record.entered, RINGING_LIMIT),
+        State::Answered | State::Talking => (record.chat_time, IDLE_LIMIT),
+        State::Ended => (record.entered, ENDED_LIMIT),
+    }
+}
+
 /// The time is not below the last time, nor that below the others.
 fn tick(record: &Record, now: u64) -> Outcome {
-    let in_state = now - record.entered;
-    let since_chat = now - record.chat_time;
+    let (since, limit) = limit(record);
+    let passed = now - since;
     match record.state {
-        State::Calling | State::Cancelling if in_state >= CALLING_LIMIT => {
+        State::Calling | State::Cancelling | State::Ringing if passed >= limit => {
             enter(record, Word::Timeout, State::Ended, now)
         }
-        State::Ringing if in_state >= RINGING_LIMIT => {
-            enter(record, Word::Timeout, State::Ended, now)
-        }
-        State::Answered | State::Talking if since_chat >= IDLE_LIMIT => {
+        State::Answered | State::Talking if passed >= limit => {
             enter(record, Word::Idle, State::Ended, now)
         }
-        State::Ended if in_state > ENDED_LIMIT => Outcome::Freed,
+        State::Ended if passed > limit => Outcome::Freed,
         _ => Outcome::Unchanged(Word::None),
     }
 }

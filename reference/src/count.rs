@@ -172,8 +172,8 @@ fn known_shape(words: &[&str]) -> Option<Shape> {
         ["?"] => Shape::Question,
         ["ok"] => Shape::Ok,
         ["no", "1"] => Shape::WrongTable,
-        ["ok", word, state] if word_of(word).is_some() => {
-            Shape::EventAccepted(word_of(word)?, state.parse().ok()?)
+        ["ok", word, state] if Word::of_name(word).is_some() => {
+            Shape::EventAccepted(Word::of_name(word)?, state.parse().ok()?)
         }
         ["ok", _, _] => Shape::Written,
         ["ok", _, _, _] => Shape::Removed,
@@ -189,15 +189,11 @@ fn known_shape(words: &[&str]) -> Option<Shape> {
             number => Shape::EventRefused(number, rest.parse().ok()?),
         },
         [_, "refused", number] => Shape::Refused(number.parse().ok()?),
-        [_, word, state] => Shape::Accepted(word_of(word)?, state.parse().ok()?),
+        [_, word, state] => Shape::Accepted(Word::of_name(word)?, state.parse().ok()?),
         [hex] if !hex.is_empty() => Shape::Dump,
         _ => return None,
     };
     Some(shape)
-}
-
-fn word_of(name: &str) -> Option<Word> {
-    Word::ALL.into_iter().find(|word| word.name() == name)
 }
 
 #[cfg(test)]

@@ -74,12 +74,12 @@ impl Tag {
     pub const NAMES: [&'static str; 4] = ["request", "response", "ping", "pong"];
 
     pub fn of_name(name: &[u8]) -> Option<Tag> {
-        rules::number_among(&Self::NAMES, name).and_then(Self::of_number)
+        Self::of_number(rules::number_among(&Self::NAMES, name)?)
     }
 
     /// The tag of this number, counted from 1.
     pub fn of_number(number: usize) -> Option<Tag> {
-        Self::ALL.get(number.checked_sub(1)?).copied()
+        rules::numbered(&Self::ALL, number)
     }
 
     /// The fields that a message of this tag must have.

@@ -37,6 +37,11 @@ pub fn encode(bytes: &[u8], out: &mut Vec<u8>) {
     if bytes.is_empty() {
         out.push(b'-');
     }
+    encode_pairs(bytes, out);
+}
+
+/// The pairs of digits alone, so that no bytes are an empty word.
+pub fn encode_pairs(bytes: &[u8], out: &mut Vec<u8>) {
     for byte in bytes {
         out.push(DIGITS[usize::from(byte >> 4)]);
         out.push(DIGITS[usize::from(byte & 15)]);
@@ -54,6 +59,9 @@ mod tests {
             let mut word = Vec::new();
             encode(bytes, &mut word);
             assert_eq!(decode(&word).as_deref(), Some(bytes));
+            let mut pairs = Vec::new();
+            encode_pairs(bytes, &mut pairs);
+            assert_eq!(decode_pairs(&pairs).as_deref(), Some(bytes));
         }
     }
 

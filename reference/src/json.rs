@@ -144,8 +144,8 @@ impl Walker<'_> {
     fn value(&mut self, depth: usize) -> Result<Value, Fault> {
         let start = self.at;
         let kind = match self.peek() {
-            Some(b'{') => Kind::Object(self.object(depth)?),
-            Some(b'[') => Kind::Array(self.array(depth)?),
+            Some(b'{') => Kind::Object(self.list(b'}', depth, Self::member)?),
+            Some(b'[') => Kind::Array(self.list(b']', depth, Self::value)?),
             Some(b'"') => {
                 self.string()?;
                 Kind::String
@@ -176,35 +176,24 @@ impl Walker<'_> {
         Ok(())
     }
 
-    fn array(&mut self, depth: usize) -> Result<Vec<Value>, Fault> {
-        let mut elements = Vec::new();
+    /// An object's members or an array's elements, from bracket to bracket.
+    fn list<T>(
+        &mut self,
+        close: u8,
+        depth: usize,
+        item: fn(&mut Self, usize) -> Result<T, Fault>,
+    ) -> Result<Vec<T>, Fault> {
+        let mut items = Vec::new();
         self.open(depth)?;
-        if self.take(b']') {
-            return Ok(elements);
+        if self.take(close) {
+            return Ok(items);
         }
         loop {
-            elements.push(self.value(depth + 1)?);
+            items.push(item(self, depth + 1)?);
             self.skip_space();
             if !self.take(b',') {
-                self.expect(b']')?;
-                return Ok(elements);
-            }
-            self.skip_space();
-        }
-    }
-
-    fn object(&mut self, depth: usize) -> Result<Vec<Member>, Fault> {
-        let mut members = Vec::new();
-        self.open(depth)?;
-        if self.take(b'}') {
-            return Ok(members);
-        }
-        loop {
-            members.push(self.member(depth)?);
-            self.skip_space();
-            if !self.take(b',') {
-                self.expect(b'}')?;
-                return Ok(members);
+                self.expect(close)?;
+                return Ok(items);
             }
             self.skip_space();
         }
@@ -215,7 +204,7 @@ impl Walker<'_> {
         self.skip_space();
         self.expect(b':')?;
         self.skip_space();
-        let value = self.value(depth + 1)?;
+        let value = self.value(depth)?;
         Ok(Member { name, value })
     }
 

@@ -4,46 +4,41 @@
 
 use crate::hex;
 use crate::json;
-use crate::lines;
+use crate::lines::Answerer;
 use crate::probe::MAX_LINE;
-use std::io::{self, BufRead, Write};
 
-/// Answers every line of `input` on `output`.
-pub fn run(input: impl BufRead, output: impl Write) -> io::Result<()> {
-    lines::answer_each(input, output, MAX_LINE, |line, out| {
-        out.extend_from_slice(answer(line).as_bytes());
-    })
-}
+pub struct JsonLines;
 
-fn answer(line: &[u8]) -> String {
-    let word = if line == b"-" { b"" } else { line };
-    let Some(bytes) = hex::decode_pairs(word) else {
-        return "?".into();
-    };
-    match json::parse(&bytes) {
-        Ok(_) => "ok".into(),
-        Err(fault) => {
-            let (number, place) = fault.row();
-            format!("no {number} {place}")
-        }
+impl Answerer for JsonLines {
+    const LIMIT: usize = MAX_LINE;
+
+    fn answer(&mut self, line: &[u8]) -> Option<Vec<u8>> {
+        let word = if line == b"-" { b"" } else { line };
+        let bytes = hex::decode_pairs(word)?;
+        let answer = match json::parse(&bytes) {
+            Ok(_) => "ok".into(),
+            Err(fault) => {
+                let (number, place) = fault.row();
+                format!("no {number} {place}")
+            }
+        };
+        Some(answer.into())
     }
 }
 
 #[cfg(test)]
 mod tests {
     use super::*;
+    use crate::lines;
 
     fn answers(script: &str) -> Vec<String> {
-        let mut out = Vec::new();
-        run(script.as_bytes(), &mut out).unwrap();
-        let text = String::from_utf8(out).unwrap();
-        text.lines().map(str::to_string).collect()
+        lines::tests::answers(JsonLines, script)
     }
 
     fn of(text: &[u8]) -> String {
         let mut word = Vec::new();
         hex::encode(text, &mut word);
-        answer(&word)
+        String::from_utf8(JsonLines.answer(&word).unwrap()).unwrap()
     }
 
     #[test]
@@ -76,7 +71,7 @@ mod tests {
         assert!(answers("").is_empty());
         assert_eq!(answers("\n-\n5b5d"), ["no 4 0", "no 4 0", "ok"]);
         for line in ["5", "5B", "5b 5d", " 5b5d", "5b5d\r", "--", "5b-", "0x"] {
-            assert_eq!(answer(line.as_bytes()), "?", "{line}");
+            assert_eq!(answers(line), ["?"], "{line}");
         }
         let longest = "20".repeat(MAX_LINE / 2);
         let script = format!("{longest}\n{longest}2\n30");

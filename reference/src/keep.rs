@@ -2,65 +2,56 @@
 //! line out, on a table of 255 blank records.
 
 use crate::keeper;
-use crate::lines::Lines;
+use crate::lines::Answerer;
 use crate::message::MAX_LENGTH;
 use crate::rules;
 use crate::table;
-use std::io::{self, BufRead, Write};
 
 /// The most digits of a time.
 const MAX_DIGITS: usize = 20;
-/// Enough of a line to see that what follows its time is too long: the
-/// longest time, its space, and one byte more than a message may have.
-const LINE_LIMIT: usize = MAX_DIGITS + 1 + MAX_LENGTH + 1;
-
-/// Answers every line of `input` on `output`.
-pub fn run(input: impl BufRead, mut output: impl Write) -> io::Result<()> {
-    let mut keep = Keep::new();
-    let mut lines = Lines::new(input, LINE_LIMIT);
-    while let Some(line) = lines.next()? {
-        keep.answer(line.bytes, &mut output)?;
-        output.write_all(b"\n")?;
-    }
-    output.flush()
-}
 
 /// The table of a running program.
 pub struct Keep {
-    image: Vec<u8>,
+    pub image: Vec<u8>,
 }
 
 impl Keep {
     pub fn new() -> Self {
-        let count = table::MAX_RECORDS;
-        let image = table::blank(count, table::length_for(count));
         Keep {
-            image: image.expect("255 records are allowed"),
+            image: table::blank_of(table::MAX_RECORDS),
         }
     }
 
-    /// The table, for the generator to see the calls in flight.
-    pub fn image(&self) -> &[u8] {
-        &self.image
-    }
-
-    /// Answers one line, of which no more than `LINE_LIMIT` bytes are needed.
-    pub fn answer(&mut self, line: &[u8], output: &mut impl Write) -> io::Result<()> {
-        let Some((time, now, rest)) = split_time(line) else {
-            return output.write_all(b"bad");
-        };
-        output.write_all(time)?;
-        if rest.len() > MAX_LENGTH {
-            return output.write_all(b" refused 2");
+    /// The answer to an event, without the time before it.
+    fn event(&mut self, now: u64, event: &[u8]) -> String {
+        if event.len() > MAX_LENGTH {
+            return "refused 2".into();
         }
-        let answer = match rest.strip_prefix(b"tick ") {
+        let answer = match event.strip_prefix(b"tick ") {
             Some(call_id) => keeper::tick_on_good_table(&mut self.image, now, call_id),
-            None => keeper::message_on_good_table(&mut self.image, now, rest),
+            None => keeper::message_on_good_table(&mut self.image, now, event),
         };
         match answer {
-            Ok(accepted) => write!(output, " {} {}", accepted.word.name(), accepted.state),
-            Err(refused) => write!(output, " refused {}", refused.number),
+            Ok(accepted) => format!("{} {}", accepted.word.name(), accepted.state),
+            Err(refused) => format!("refused {}", refused.number),
         }
+    }
+}
+
+impl Answerer for Keep {
+    /// Enough of a line to see that what follows its time is too long: the
+    /// longest time, its space, and one byte more than a message may have.
+    const LIMIT: usize = MAX_DIGITS + 1 + MAX_LENGTH + 1;
+
+    fn answer(&mut self, line: &[u8]) -> Option<Vec<u8>> {
+        let Some((time, now, event)) = split_time(line) else {
+            return Some(b"bad".to_vec());
+        };
+        Some([time, b" ", self.event(now, event).as_bytes()].concat())
+    }
+
+    fn answer_cut(&mut self, beginning: &[u8]) -> Option<Vec<u8>> {
+        self.answer(beginning)
     }
 }
 
@@ -75,12 +66,11 @@ fn split_time(line: &[u8]) -> Option<(&[u8], u64, &[u8])> {
 #[cfg(test)]
 mod tests {
     use super::*;
+    use crate::lines;
     use crate::samples::Sample;
 
     fn answers(log: &[u8]) -> String {
-        let mut out = Vec::new();
-        run(log, &mut out).unwrap();
-        String::from_utf8(out).unwrap()
+        lines::tests::written(Keep::new(), log)
     }
 
     #[test]

@@ -154,7 +154,7 @@ mod tests {
     }
 
     fn image_of(record: &Record) -> Vec<u8> {
-        let mut image = table::blank(2, table::length_for(2)).unwrap();
+        let mut image = table::blank_of(2);
         table::store(&mut image, 1, Some(record));
         image
     }
@@ -193,7 +193,7 @@ mod tests {
     fn row(sample: &Sample, outcomes: &str, reply: u16) {
         for (state, outcome) in State::ALL.into_iter().zip(outcomes.split(' ')) {
             let (word, digit) = outcome.split_at(outcome.len() - 1);
-            let wanted = match Word::ALL.into_iter().find(|known| known.name() == word) {
+            let wanted = match Word::of_name(word) {
                 Some(word) => yes(word, digit.parse().unwrap()),
                 None => no(outcome.parse().unwrap(), reply),
             };
@@ -533,7 +533,7 @@ mod tests {
 
     #[test]
     fn a_new_invite_takes_the_lowest_free_record() {
-        let mut image = table::blank(2, table::length_for(2)).unwrap();
+        let mut image = table::blank_of(2);
         let invite = |call_id: &str| Sample::request("9 INVITE").of_call(call_id).bytes();
         for (index, call_id) in ["C0", "C1"].into_iter().enumerate() {
             assert_eq!(message(&mut image, 5, &invite(call_id)), yes(Word::Pass, 1));
@@ -569,7 +569,7 @@ mod tests {
     #[test]
     fn secure_call_comes_from_the_invite() {
         for (value, secure) in [("true", true), ("false", false)] {
-            let mut image = table::blank(1, table::length_for(1)).unwrap();
+            let mut image = table::blank_of(1);
             let invite = Sample::request("1 INVITE").with("Secure-Call", value);
             assert!(message(&mut image, 0, &invite.bytes()).is_ok());
             assert_eq!(table::load(&image, 0).unwrap().secure, secure);
@@ -578,7 +578,7 @@ mod tests {
 
     #[test]
     fn the_greatest_times_and_numbers() {
-        let mut image = table::blank(1, table::length_for(1)).unwrap();
+        let mut image = table::blank_of(1);
         let invite = Sample::request("4294967295 INVITE");
         assert_eq!(
             message(&mut image, u64::MAX, &invite.bytes()),

@@ -1,27 +1,37 @@
 //! Lines of an input of any length in constant memory: split at line feeds
-//! only, and a line longer than the limit is stepped over, not stored.
+//! only, and a line longer than the limit is stepped over, not stored. And the
+//! run of a program that answers them.
 
 use std::io::{self, BufRead, Write};
 
-/// Answers every line of `input` on `output` with what `answer` puts at the
-/// end of its room, and a line over the limit with `?`.
-pub fn answer_each(
+/// A program that answers lines, one after the other.
+pub trait Answerer {
+    /// How many bytes of a line it sees.
+    const LIMIT: usize;
+
+    /// The answer to a line; none is written `?`.
+    fn answer(&mut self, line: &[u8]) -> Option<Vec<u8>>;
+
+    /// The same for a line that goes on past the limit.
+    fn answer_cut(&mut self, _beginning: &[u8]) -> Option<Vec<u8>> {
+        None
+    }
+}
+
+/// Answers every line of `input` on `output`.
+pub fn run<P: Answerer>(
+    mut program: P,
     input: impl BufRead,
     mut output: impl Write,
-    limit: usize,
-    mut answer: impl FnMut(&[u8], &mut Vec<u8>),
 ) -> io::Result<()> {
-    let mut lines = Lines::new(input, limit);
-    let mut room = Vec::new();
+    let mut lines = Lines::new(input, P::LIMIT);
     while let Some(line) = lines.next()? {
-        room.clear();
-        if line.cut {
-            room.push(b'?');
-        } else {
-            answer(line.bytes, &mut room);
-        }
-        room.push(b'\n');
-        output.write_all(&room)?;
+        let answer = match line.cut {
+            true => program.answer_cut(line.bytes),
+            false => program.answer(line.bytes),
+        };
+        output.write_all(answer.as_deref().unwrap_or(b"?"))?;
+        output.write_all(b"\n")?;
     }
     output.flush()
 }
@@ -81,9 +91,22 @@ impl<R: BufRead> Lines<R> {
 }
 
 #[cfg(test)]
-mod tests {
+pub mod tests {
     use super::*;
     use std::io::BufReader;
+
+    /// What a program writes on this input.
+    pub fn written(program: impl Answerer, input: &[u8]) -> String {
+        let mut out = Vec::new();
+        run(program, input, &mut out).unwrap();
+        String::from_utf8(out).unwrap()
+    }
+
+    /// Its answers one by one.
+    pub fn answers(program: impl Answerer, input: &str) -> Vec<String> {
+        let text = written(program, input.as_bytes());
+        text.lines().map(str::to_string).collect()
+    }
 
     fn split(input: &str, limit: usize, capacity: usize) -> Vec<(String, bool)> {
         let mut lines = Lines::new(BufReader::with_capacity(capacity, input.as_bytes()), limit);
@@ -106,19 +129,42 @@ mod tests {
         }
     }
 
+    /// Answers a line backwards, but for one that begins with a space.
+    struct Backwards;
+
+    impl Answerer for Backwards {
+        const LIMIT: usize = 3;
+
+        fn answer(&mut self, line: &[u8]) -> Option<Vec<u8>> {
+            let backwards = line.iter().rev().copied().collect();
+            (!line.starts_with(b" ")).then_some(backwards)
+        }
+    }
+
+    /// The same, and a beginning is as good as a line.
+    struct Beginnings;
+
+    impl Answerer for Beginnings {
+        const LIMIT: usize = Backwards::LIMIT;
+
+        fn answer(&mut self, line: &[u8]) -> Option<Vec<u8>> {
+            Backwards.answer(line)
+        }
+
+        fn answer_cut(&mut self, beginning: &[u8]) -> Option<Vec<u8>> {
+            self.answer(beginning)
+        }
+    }
+
     #[test]
     fn answers_every_line() {
-        let answers = |input: &str| {
-            let mut out = Vec::new();
-            answer_each(input.as_bytes(), &mut out, 3, |line, room| {
-                room.extend(line.iter().rev());
-            })
-            .unwrap();
-            String::from_utf8(out).unwrap()
-        };
-        assert_eq!(answers(""), "");
-        assert_eq!(answers("\n"), "\n");
-        assert_eq!(answers("ab\n\nabcd\nabc"), "ba\n\n?\ncba\n");
+        let text = |input: &str| written(Backwards, input.as_bytes());
+        assert_eq!(text(""), "");
+        assert_eq!(text("\n"), "\n");
+        assert_eq!(text("ab\n\nabcd\nabc"), "ba\n\n?\ncba\n");
+        assert_eq!(text(" a\nb \n"), "?\n b\n");
+        assert_eq!(written(Beginnings, b"abcd\n abc\nabc"), "cba\n?\ncba\n");
+        assert_eq!(answers(Backwards, "ab\n\n c"), ["ba", "", "?"]);
     }
 
     #[test]

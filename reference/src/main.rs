@@ -25,6 +25,10 @@ mod marks;
 #[cfg(test)]
 mod samples;
 
+use json_lines::JsonLines;
+use keep::Keep;
+use probe::Probe;
+use rule_lines::RuleLines;
 use std::ffi::OsString;
 use std::io::{self, BufReader, BufWriter, ErrorKind};
 use std::process::ExitCode;
@@ -47,10 +51,10 @@ fn main() -> ExitCode {
     let input = BufReader::with_capacity(BUFFER, io::stdin().lock());
     let output = BufWriter::with_capacity(BUFFER, io::stdout().lock());
     let result = match words[..] {
-        ["keep"] => keep::run(input, output),
-        ["probe"] => probe::run(input, output),
-        ["json"] => json_lines::run(input, output),
-        ["rules"] => rule_lines::run(input, output),
+        ["keep"] => lines::run(Keep::new(), input, output),
+        ["probe"] => lines::run(Probe::new(), input, output),
+        ["json"] => lines::run(JsonLines, input, output),
+        ["rules"] => lines::run(RuleLines, input, output),
         ["count"] => count::run(input, output),
         ["gen", kind, seed, count] => match (kind, seed.parse(), count.parse()) {
             ("keep", Ok(seed), Ok(count)) => gen::keep_lines(seed, count, output),

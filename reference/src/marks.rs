@@ -1,8 +1,9 @@
 //! The worked examples of document 01, each as it stands there.
 
 use crate::call::Word;
-use crate::keep;
+use crate::keep::Keep;
 use crate::keeper::{self, Accepted};
+use crate::lines;
 use crate::message;
 use crate::rules;
 use crate::samples::Sample;
@@ -24,9 +25,8 @@ fn the_bye_and_its_reply() {
 
 #[test]
 fn the_first_tick() {
-    let mut out = Vec::new();
-    keep::run(&b"1000 tick A1.nx\n"[..], &mut out).unwrap();
-    assert_eq!(out, b"1000 refused 20\n");
+    let answer = lines::tests::written(Keep::new(), b"1000 tick A1.nx\n");
+    assert_eq!(answer, "1000 refused 20\n");
 }
 
 #[test]
@@ -44,7 +44,7 @@ fn both_sides_of_the_mark_in_reading() {
 
 /// A table of one record in this state since then.
 fn image(state: State, since: u64) -> Vec<u8> {
-    let mut image = table::blank(1, table::length_for(1)).unwrap();
+    let mut image = table::blank_of(1);
     let record = Record {
         state,
         last_time: since,
@@ -83,7 +83,7 @@ fn both_sides_of_the_mark_in_time() {
 
 #[test]
 fn a_100_does_not_stop_the_15_seconds() {
-    let mut image = table::blank(1, table::length_for(1)).unwrap();
+    let mut image = table::blank_of(1);
     let invite = Sample::request("1 INVITE").bytes();
     let trying = Sample::response("1 INVITE", "100 Trying").bytes();
     assert!(keeper::message(&mut image, 1000, &invite).is_ok());

@@ -309,7 +309,7 @@ impl<'a, 'v> Draft<'a, 'v> {
 }
 
 /// 01 Reading, 'Number 10': which side may send which method.
-fn may_send(side: Side, method: Method) -> bool {
+pub fn may_send(side: Side, method: Method) -> bool {
     match method {
         Method::Invite | Method::Ack | Method::Cancel | Method::Notify => side == Side::Caller,
         Method::Refer | Method::Callback => side == Side::Callee,
@@ -385,17 +385,13 @@ mod tests {
         }
     }
 
-    const METHODS: [&str; 8] = [
-        "INVITE", "BYE", "CANCEL", "ACK", "MESSAGE", "CALLBACK", "REFER", "NOTIFY",
-    ];
-
     fn cseq(method: &str) -> String {
         format!("1 {method}")
     }
 
     #[test]
     fn samples_are_read() {
-        for method in METHODS {
+        for method in Method::NAMES {
             assert_eq!(of(Sample::request(&cseq(method))), None, "{method}");
             assert_eq!(of(Sample::response(&cseq(method), "200 OK")), None);
         }
@@ -500,7 +496,7 @@ mod tests {
         needs(&Sample::request("1 MESSAGE"), &[1, 2, 3, 4, 5, 6, 8, 9, 10]);
         needs(&Sample::request("1 NOTIFY"), &[1, 2, 3, 4, 5, 6, 9, 10]);
         needs(&Sample::request("1 REFER"), &[1, 2, 3, 4, 5, 6, 11, 12]);
-        for method in METHODS {
+        for method in Method::NAMES {
             needs(
                 &Sample::response(&cseq(method), "200 OK"),
                 &[1, 2, 3, 4, 5, 6, 7],
@@ -855,7 +851,7 @@ mod tests {
     #[test]
     fn row_10_sides() {
         let ten = Some((10, 0));
-        for method in METHODS {
+        for method in Method::NAMES {
             let by_caller = !matches!(method, "REFER" | "CALLBACK");
             let by_callee = matches!(method, "BYE" | "MESSAGE" | "REFER" | "CALLBACK");
             for sample in [
@@ -889,7 +885,7 @@ mod tests {
             .with("Body", "\"https://x\"");
         assert_eq!(of(image.clone()), None);
         assert_eq!(of(image.sent_by_callee()), ten);
-        for method in METHODS {
+        for method in Method::NAMES {
             let wanted = if method == "REFER" { None } else { ten };
             assert_eq!(of(Sample::response(&cseq(method), "202 OK")), wanted);
             assert_eq!(of(Sample::response(&cseq(method), "201 OK")), None);

@@ -8,12 +8,11 @@
 
 use crate::hex;
 use crate::keeper;
-use crate::lines;
+use crate::lines::Answerer;
 use crate::message;
 use crate::rules;
 use crate::table;
-use crate::writing::{self, Path};
-use std::io::{self, BufRead, Write};
+use crate::writing::{self, OwnPath};
 
 pub const MAX_LINE: usize = 170_000;
 pub const MAX_TABLE: usize = 65_536;
@@ -24,39 +23,19 @@ pub const MAX_SMALL: u64 = 65_535;
 /// What an output room is filled with before each call.
 const FILL: u8 = 0x5a;
 
-/// Answers every line of `input` on `output`.
-pub fn run(input: impl BufRead, output: impl Write) -> io::Result<()> {
-    let mut probe = Probe::new();
-    lines::answer_each(input, output, MAX_LINE, |line, out| probe.answer(line, out))
-}
-
 /// The held table.
 pub struct Probe {
-    image: Vec<u8>,
+    pub image: Vec<u8>,
 }
 
 impl Probe {
     pub fn new() -> Self {
-        let count = table::MAX_RECORDS;
-        let image = table::blank(count, table::length_for(count));
         Probe {
-            image: image.expect("255 records are allowed"),
+            image: table::blank_of(table::MAX_RECORDS),
         }
     }
 
-    /// The table, for the generator to see the calls in flight.
-    pub fn image(&self) -> &[u8] {
-        &self.image
-    }
-
-    /// Puts the answer to one line at the end of `out`.
-    pub fn answer(&mut self, line: &[u8], out: &mut Vec<u8>) {
-        match Command::parse(line) {
-            Some(command) => self.obey(command, out),
-            None => out.push(b'?'),
-        }
-    }
-
+    /// Puts the answer to a command at the end of `out`.
     fn obey(&mut self, command: Command, out: &mut Vec<u8>) {
         match command {
             Command::Read(bytes) => match message::read(&bytes) {
@@ -103,6 +82,17 @@ impl Probe {
     }
 }
 
+impl Answerer for Probe {
+    const LIMIT: usize = MAX_LINE;
+
+    fn answer(&mut self, line: &[u8]) -> Option<Vec<u8>> {
+        let command = Command::parse(line)?;
+        let mut out = Vec::new();
+        self.obey(command, &mut out);
+        Some(out)
+    }
+}
+
 fn put(out: &mut Vec<u8>, text: &str) {
     out.extend_from_slice(text.as_bytes());
 }
@@ -136,30 +126,6 @@ enum Command {
     Remove(OwnPath, usize, Vec<u8>),
 }
 
-struct OwnPath {
-    host: Vec<u8>,
-    destination: Vec<u8>,
-    organization: Vec<u8>,
-}
-
-impl OwnPath {
-    fn parse(host: &[u8], destination: &[u8], organization: &[u8]) -> Option<OwnPath> {
-        Some(OwnPath {
-            host: bytes_of(host)?,
-            destination: bytes_of(destination)?,
-            organization: bytes_of(organization)?,
-        })
-    }
-
-    fn lend(&self) -> Path<'_> {
-        Path {
-            host: &self.host,
-            destination: &self.destination,
-            organization: &self.organization,
-        }
-    }
-}
-
 impl Command {
     fn parse(line: &[u8]) -> Option<Command> {
         let words: Vec<&[u8]> = line.split(|byte| *byte == b' ').collect();
@@ -184,12 +150,12 @@ impl Command {
                 bytes_of(bytes)?,
             ),
             [b"add", host, destination, organization, room, bytes] => Command::Add(
-                OwnPath::parse(host, destination, organization)?,
+                path_of(host, destination, organization)?,
                 room_of(room)?,
                 bytes_of(bytes)?,
             ),
             [b"remove", host, destination, organization, room, bytes] => Command::Remove(
-                OwnPath::parse(host, destination, organization)?,
+                path_of(host, destination, organization)?,
                 room_of(room)?,
                 bytes_of(bytes)?,
             ),
@@ -217,16 +183,22 @@ fn bytes_of(word: &[u8]) -> Option<Vec<u8>> {
     bytes_to(word, MAX_BYTES)
 }
 
+fn path_of(host: &[u8], destination: &[u8], organization: &[u8]) -> Option<OwnPath> {
+    Some(OwnPath {
+        host: bytes_of(host)?,
+        destination: bytes_of(destination)?,
+        organization: bytes_of(organization)?,
+    })
+}
+
 #[cfg(test)]
 mod tests {
     use super::*;
+    use crate::lines;
     use crate::samples::Sample;
 
     fn answers(script: &str) -> Vec<String> {
-        let mut out = Vec::new();
-        run(script.as_bytes(), &mut out).unwrap();
-        let text = String::from_utf8(out).unwrap();
-        text.lines().map(str::to_string).collect()
+        lines::tests::answers(Probe::new(), script)
     }
 
     fn answer(line: &str) -> String {
@@ -309,7 +281,7 @@ mod tests {
 
     #[test]
     fn the_held_table() {
-        let blank = hexed(&table::blank(1, 176).unwrap());
+        let blank = hexed(&table::blank_of(1));
         let script =
             "blank 1 176\ndump\nblank 0 16\nblank 1 177\ndump\ntable 00\ndump\ntable -\ndump";
         let wanted = [
@@ -317,7 +289,7 @@ mod tests {
         ];
         assert_eq!(answers(script), wanted);
         // At first 255 blank records.
-        let first = hexed(&table::blank(255, table::length_for(255)).unwrap());
+        let first = hexed(&table::blank_of(255));
         assert_eq!(answer("dump"), first);
         let script = format!("table {blank}\ntick 1 4131\nblank 2 336\ntable ff\ntick 1 4131");
         assert_eq!(

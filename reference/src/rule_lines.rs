@@ -4,18 +4,17 @@
 
 use crate::fields::{self, Tag};
 use crate::hex;
-use crate::lines;
+use crate::lines::Answerer;
 use crate::probe::MAX_LINE;
 use crate::rules::{self, Address, ContentType, Method};
 use crate::writing;
-use std::io::{self, BufRead, Write};
 
 /// What a name asks of the bytes.
 pub enum Question {
     /// Do they keep a rule? `yes` or `no`.
     Keeps(fn(&[u8]) -> bool),
-    /// Which of some words are they? Its number counted from 1, 0 for none.
-    Number(fn(&[u8]) -> Option<usize>),
+    /// Which of these words are they? Its number counted from 1, 0 for none.
+    Number(&'static [&'static str]),
     /// What do they say? Or `no`.
     Says(fn(&[u8]) -> Option<String>),
     /// What stands in a table at the first byte's row and the second's column?
@@ -44,75 +43,44 @@ pub const QUESTIONS: [(&str, Question); 32] = [
     ("cseq", Says(cseq)),
     ("address", Says(address)),
     ("status", Says(status)),
-    (
-        "availability",
-        Number(|text| rules::number_among(&rules::AVAILABILITIES, text)),
-    ),
-    (
-        "content-type",
-        Number(|text| ContentType::of_name(text).map(|known| known as usize)),
-    ),
-    (
-        "presence",
-        Number(|text| rules::number_among(&rules::PRESENCES, text)),
-    ),
-    (
-        "call-mode",
-        Number(|text| rules::number_among(&rules::CALL_MODES, text)),
-    ),
-    (
-        "call-test",
-        Number(|text| rules::number_among(&rules::CALL_TESTS, text)),
-    ),
-    (
-        "secure-call",
-        Number(|text| rules::number_among(&rules::SECURE_CALLS, text)),
-    ),
-    (
-        "rescuee",
-        Number(|text| rules::number_among(&rules::RESCUEES, text)),
-    ),
-    (
-        "service",
-        Number(|text| rules::number_among(&rules::SERVICES, text)),
-    ),
-    ("tag", Number(|text| rules::number_among(&Tag::NAMES, text))),
-    (
-        "method",
-        Number(|text| Method::of_name(text).map(|known| usize::from(known.code()))),
-    ),
-    ("field", Number(fields::number_of)),
-    (
-        "hop-member",
-        Number(|text| rules::number_among(&rules::HOP_MEMBERS, text)),
-    ),
+    ("availability", Number(&rules::AVAILABILITIES)),
+    ("content-type", Number(&ContentType::NAMES)),
+    ("presence", Number(&rules::PRESENCES)),
+    ("call-mode", Number(&rules::CALL_MODES)),
+    ("call-test", Number(&rules::CALL_TESTS)),
+    ("secure-call", Number(&rules::SECURE_CALLS)),
+    ("rescuee", Number(&rules::RESCUEES)),
+    ("service", Number(&rules::SERVICES)),
+    ("tag", Number(&Tag::NAMES)),
+    ("method", Number(&Method::NAMES)),
+    ("field", Number(&fields::NAMES)),
+    ("hop-member", Number(&rules::HOP_MEMBERS)),
     ("phrase", Says(phrase)),
     ("tag-asks", Table(tag_asks)),
     ("method-asks", Table(method_asks)),
 ];
 
-/// Answers every line of `input` on `output`.
-pub fn run(input: impl BufRead, output: impl Write) -> io::Result<()> {
-    lines::answer_each(input, output, MAX_LINE, |line, out| {
-        out.extend_from_slice(answer(line).unwrap_or("?".into()).as_bytes());
-    })
-}
+pub struct RuleLines;
 
-/// None for what is no question.
-fn answer(line: &[u8]) -> Option<String> {
-    let space = line.iter().position(|byte| *byte == b' ')?;
-    let (name, word) = (&line[..space], &line[space + 1..]);
-    let mut named = QUESTIONS.iter();
-    let (_, question) = named.find(|(known, _)| known.as_bytes() == name)?;
-    let bytes = hex::decode_pairs(word)?;
-    match question {
-        Keeps(rule) => Some(if rule(&bytes) { "yes" } else { "no" }.into()),
-        Number(number) => Some(number(&bytes).unwrap_or(0).to_string()),
-        Says(says) => Some(says(&bytes).unwrap_or("no".into())),
-        Table(at) => {
-            let [row, column] = two_bytes(&bytes).map(usize::from);
-            at(row, column).map(|entry| entry.to_string())
-        }
+impl Answerer for RuleLines {
+    const LIMIT: usize = MAX_LINE;
+
+    fn answer(&mut self, line: &[u8]) -> Option<Vec<u8>> {
+        let space = line.iter().position(|byte| *byte == b' ')?;
+        let (name, word) = (&line[..space], &line[space + 1..]);
+        let mut named = QUESTIONS.iter();
+        let (_, question) = named.find(|(known, _)| known.as_bytes() == name)?;
+        let bytes = hex::decode_pairs(word)?;
+        let answer = match question {
+            Keeps(rule) => if rule(&bytes) { "yes" } else { "no" }.into(),
+            Number(words) => rules::number_among(words, &bytes).unwrap_or(0).to_string(),
+            Says(says) => says(&bytes).unwrap_or("no".into()),
+            Table(at) => {
+                let [row, column] = two_bytes(&bytes).map(usize::from);
+                at(row, column)?.to_string()
+            }
+        };
+        Some(answer.into())
     }
 }
 
@@ -190,20 +158,18 @@ fn method_asks(method: usize, field: usize) -> Option<usize> {
 #[cfg(test)]
 mod tests {
     use super::*;
+    use crate::lines;
 
     fn answers(script: &str) -> Vec<String> {
-        let mut out = Vec::new();
-        run(script.as_bytes(), &mut out).unwrap();
-        let text = String::from_utf8(out).unwrap();
-        text.lines().map(str::to_string).collect()
+        lines::tests::answers(RuleLines, script)
     }
 
     /// The answer about these bytes.
     fn of(name: &str, bytes: &[u8]) -> String {
-        let hex: String = bytes.iter().map(|byte| format!("{byte:02x}")).collect();
-        let all = answers(&format!("{name} {hex}\n"));
-        assert_eq!(all.len(), 1);
-        all[0].clone()
+        let mut line = format!("{name} ").into_bytes();
+        hex::encode_pairs(bytes, &mut line);
+        let text = lines::tests::written(RuleLines, &line);
+        text.strip_suffix('\n').unwrap().to_string()
     }
 
     #[test]
@@ -374,7 +340,7 @@ mod tests {
             "fire-id\t6b31",
             "6b31",
         ] {
-            assert_eq!(answer(line.as_bytes()), None, "{line}");
+            assert_eq!(RuleLines.answer(line.as_bytes()), None, "{line}");
         }
         assert!(answers("").is_empty());
         assert_eq!(answers("\nfire-id \nfire-id 6b31"), ["?", "no", "yes"]);

@@ -25,6 +25,11 @@ pub fn number_among(words: &[&str], text: &[u8]) -> Option<usize> {
     index.map(|index| index + 1)
 }
 
+/// The one of this number, counted from 1.
+pub fn numbered<T: Copy>(all: &[T], number: usize) -> Option<T> {
+    all.get(number.checked_sub(1)?).copied()
+}
+
 pub fn is_one_of(words: &[&str], text: &[u8]) -> bool {
     number_among(words, text).is_some()
 }
@@ -43,29 +48,31 @@ pub enum Method {
 }
 
 impl Method {
-    pub const ALL: [(Method, &'static str); 8] = [
-        (Method::Invite, "INVITE"),
-        (Method::Bye, "BYE"),
-        (Method::Cancel, "CANCEL"),
-        (Method::Ack, "ACK"),
-        (Method::Message, "MESSAGE"),
-        (Method::Callback, "CALLBACK"),
-        (Method::Refer, "REFER"),
-        (Method::Notify, "NOTIFY"),
+    /// In the order of their codes.
+    pub const ALL: [Method; 8] = [
+        Method::Invite,
+        Method::Bye,
+        Method::Cancel,
+        Method::Ack,
+        Method::Message,
+        Method::Callback,
+        Method::Refer,
+        Method::Notify,
+    ];
+    pub const NAMES: [&'static str; 8] = [
+        "INVITE", "BYE", "CANCEL", "ACK", "MESSAGE", "CALLBACK", "REFER", "NOTIFY",
     ];
 
     pub fn of_name(name: &[u8]) -> Option<Method> {
-        let found = Self::ALL.iter().find(|(_, known)| known.as_bytes() == name);
-        found.map(|(method, _)| *method)
+        numbered(&Self::ALL, number_among(&Self::NAMES, name)?)
     }
 
     pub fn of_code(code: u8) -> Option<Method> {
-        let found = Self::ALL.iter().find(|(method, _)| method.code() == code);
-        found.map(|(method, _)| *method)
+        numbered(&Self::ALL, code.into())
     }
 
     pub fn name(self) -> &'static str {
-        Self::ALL[self as usize - 1].1
+        Self::NAMES[self as usize - 1]
     }
 
     pub fn code(self) -> u8 {
@@ -85,17 +92,27 @@ pub enum ContentType {
 
 impl ContentType {
     /// A MESSAGE's first, then a NOTIFY's.
-    pub const ALL: [(ContentType, &'static str); 5] = [
-        (ContentType::Plain, "text/plain"),
-        (ContentType::Image, "text/vnd.net119.uri.image"),
-        (ContentType::Presence, "message/vnd.net119.presence"),
-        (ContentType::Location, "message/vnd.net119.location"),
-        (ContentType::Refer, "message/vnd.net119.refer"),
+    pub const ALL: [ContentType; 5] = [
+        ContentType::Plain,
+        ContentType::Image,
+        ContentType::Presence,
+        ContentType::Location,
+        ContentType::Refer,
+    ];
+    pub const NAMES: [&'static str; 5] = [
+        "text/plain",
+        "text/vnd.net119.uri.image",
+        "message/vnd.net119.presence",
+        "message/vnd.net119.location",
+        "message/vnd.net119.refer",
     ];
 
     pub fn of_name(name: &[u8]) -> Option<ContentType> {
-        let found = Self::ALL.iter().find(|(_, known)| known.as_bytes() == name);
-        found.map(|(content_type, _)| *content_type)
+        numbered(&Self::ALL, number_among(&Self::NAMES, name)?)
+    }
+
+    pub fn name(self) -> &'static str {
+        Self::NAMES[self as usize - 1]
     }
 
     /// The type of this name, if it is one that the method allows.
@@ -278,6 +295,7 @@ pub fn is_image(text: &[u8]) -> bool {
 #[cfg(test)]
 mod tests {
     use super::*;
+    use crate::gen::texts;
 
     fn letters(count: usize) -> Vec<u8> {
         vec![b'a'; count]
@@ -336,6 +354,16 @@ mod tests {
     }
 
     #[test]
+    fn fire_ids_and_organizations() {
+        for bad in texts::BAD_FIRE_IDS {
+            assert!(!is_fire_id(bad.as_bytes()), "{bad}");
+        }
+        for bad in texts::BAD_ORGANIZATIONS {
+            assert!(!is_organization(bad.as_bytes()), "{bad}");
+        }
+    }
+
+    #[test]
     fn call_id_of_the_mark() {
         assert!(is_call_id(b"A1"));
         assert!(!is_call_id(b"A."));
@@ -349,33 +377,16 @@ mod tests {
             parse_cseq(b"4294967295 BYE"),
             Some((4294967295, Method::Bye))
         );
-        for (method, name) in Method::ALL {
+        for (method, name) in Method::ALL.into_iter().zip(Method::NAMES) {
             let text = format!("1 {name}");
             assert_eq!(parse_cseq(text.as_bytes()), Some((1, method)));
             assert_eq!(method.name(), name);
             assert_eq!(Method::of_code(method.code()), Some(method));
+            for bad in texts::bad_cseqs(name) {
+                assert_eq!(parse_cseq(bad.as_bytes()), None, "{bad}");
+            }
         }
-        for bad in [
-            "4294967296 BYE",
-            "01 BYE",
-            "0 BYE",
-            " BYE",
-            "BYE",
-            "1BYE",
-            "1  BYE",
-            "1 BYE ",
-            "1 bye",
-            "1 BY",
-            "1 BYES",
-            "-1 BYE",
-            "+1 BYE",
-            "1\tBYE",
-            "1 ",
-            "1",
-            "",
-            "99999999999999999999999 BYE",
-            "1 OPTIONS",
-        ] {
+        for bad in [" BYE", "1\tBYE", "1", "", "99999999999999999999999 BYE"] {
             assert_eq!(parse_cseq(bad.as_bytes()), None, "{bad}");
         }
         assert_eq!(Method::of_code(0), None);
@@ -392,74 +403,39 @@ mod tests {
         let callee = Address::Callee { fire: b"kita" };
         assert_eq!(parse_address(b"net119:fire@kita.callee"), Some(callee));
         assert!(parse_address(b"net119:fire@kita.caller").is_some());
-        for bad in [
-            "net119:u1@kita.callee",
-            "net119:Fire@kita.callee",
-            "net119:@kita.caller",
-            "net119:u_1@kita.caller",
-            "net119:u1@k.caller",
+        let others = [
             "net119:u1@kita.Caller",
-            "net119:u1@kita.caller ",
-            "net119:u1@kita.callers",
-            "net119:u1@@kita.caller",
             "net119:u1@.caller",
-            "net119:u1@kita",
             "net119:u1.caller",
-            "NET119:u1@kita.caller",
             "sip:u1@kita.caller",
-            "net119:u234567890123456@kita.caller",
-            "net119:fire@k234567890123456.callee",
             "net119:fire@kita.caller.callee",
-            "",
-        ] {
+        ];
+        for bad in [texts::BAD_ADDRESSES, &others].concat() {
             assert_eq!(parse_address(bad.as_bytes()), None, "{bad}");
         }
     }
 
     #[test]
     fn dates() {
-        for good in [
-            "2024-02-29T23:59:59+0900",
-            "2000-02-29T00:00:00+0000",
+        let others = [
             "0001-01-01T00:00:00+1459",
             "9999-12-31T23:59:59+1400",
             "2023-04-30T12:00:00+0059",
             "0004-02-29T00:00:00+0000",
             "2023-01-31T00:00:00+0000",
-        ] {
+        ];
+        for good in [texts::DATES, &others].concat() {
             assert!(is_date(good.as_bytes()), "{good}");
         }
-        for bad in [
-            "1900-02-29T00:00:00+0000",
-            "2100-02-29T00:00:00+0000",
-            "2023-02-29T00:00:00+0000",
-            "2024-02-30T00:00:00+0000",
-            "2023-04-31T00:00:00+0000",
+        let others = [
             "2023-06-31T00:00:00+0000",
             "2023-09-31T00:00:00+0000",
             "2023-11-31T00:00:00+0000",
-            "2023-01-32T00:00:00+0000",
-            "2023-01-00T00:00:00+0000",
-            "2023-00-01T00:00:00+0000",
-            "2023-13-01T00:00:00+0000",
-            "0000-01-01T00:00:00+0000",
-            "2023-01-01T24:00:00+0000",
-            "2023-01-01T00:60:00+0000",
-            "2023-01-01T00:00:60+0000",
-            "2023-01-01T00:00:00+1500",
-            "2023-01-01T00:00:00+1460",
-            "2023-01-01T00:00:00-0900",
-            "2023-01-01T00:00:00+09:00",
-            "2023-01-01T00:00:00+090",
-            "2023-01-01T00:00:00+09000",
-            "2023-01-01t00:00:00+0900",
-            "2023-01-01 00:00:00+0900",
             "2023/01/01T00:00:00+0900",
-            "2023-01-01T00:00:00Z",
             " 2023-01-01T00:00:00+090",
             "2o23-01-01T00:00:00+0900",
-            "",
-        ] {
+        ];
+        for bad in [texts::BAD_DATES, &others].concat() {
             assert!(!is_date(bad.as_bytes()), "{bad}");
         }
     }
@@ -469,10 +445,7 @@ mod tests {
         assert_eq!(parse_status(b"100 "), Some(100));
         assert_eq!(parse_status(b"699 x\\n y"), Some(699));
         assert_eq!(parse_status(b"200 OK"), Some(200));
-        for bad in [
-            "099 x", "700 x", "200", "200OK", "20 OK", "2000 OK", "200\tOK", "+20 OK", "", "000 x",
-            "999 x", " 200 x",
-        ] {
+        for bad in [texts::BAD_STATUSES, &["200\tOK", "+20 OK", " 200 x"]].concat() {
             assert_eq!(parse_status(bad.as_bytes()), None, "{bad}");
         }
     }
@@ -488,18 +461,7 @@ mod tests {
         assert!(is_message_id(longest.as_bytes()));
         assert!(!is_message_id(format!("{longest}x").as_bytes()));
         assert!(is_message_id(b"callee-k_1-0A"));
-        for bad in [
-            "caller-kita-",
-            "caller-kita",
-            "caller--1",
-            "Caller-kita-1",
-            "desk-kita-1",
-            "caller-k-1",
-            "caller-kita-1-2",
-            "caller-kita-1.2",
-            "callerkita-1",
-            "",
-        ] {
+        for bad in texts::BAD_MESSAGE_IDS {
             assert!(!is_message_id(bad.as_bytes()), "{bad}");
         }
     }
@@ -516,10 +478,11 @@ mod tests {
 
     #[test]
     fn content_types() {
-        for (content_type, name) in ContentType::ALL {
+        for (content_type, name) in ContentType::ALL.into_iter().zip(ContentType::NAMES) {
+            assert_eq!(content_type.name(), name);
             let name = name.as_bytes();
             assert_eq!(ContentType::of_name(name), Some(content_type));
-            for (method, _) in Method::ALL {
+            for method in Method::ALL {
                 let own = match method {
                     Method::Message => content_type as u8 <= 2,
                     Method::Notify => content_type as u8 > 2,

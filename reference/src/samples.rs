@@ -9,15 +9,17 @@ pub struct Sample {
 
 pub const CALLER: &str = "\"net119:u1@nishi.caller\"";
 pub const CALLEE: &str = "\"net119:fire@kita.callee\"";
-const VIA: &str = r#"[{"host":"h1.nx","destination":"kita.callee","organization":"nx"}]"#;
+const HOP: &str = r#"{"host":"h1.nx","destination":"kita.callee","organization":"nx"}"#;
 
 impl Sample {
+    /// These fields, then a Via.
     fn new(tag: &'static str, fields: &[(&str, &str)]) -> Sample {
         let own = |(name, value): &(&str, &str)| (name.to_string(), value.to_string());
-        Sample {
+        let sample = Sample {
             tag,
             fields: fields.iter().map(own).collect(),
-        }
+        };
+        sample.with_via(1, &[])
     }
 
     fn exchange(tag: &'static str, cseq: &str) -> Sample {
@@ -35,7 +37,6 @@ impl Sample {
                 ("From", from),
                 ("Call-ID", "\"A1.nx\""),
                 ("Date", "\"2024-02-29T23:59:59+0900\""),
-                ("Via", VIA),
             ],
         )
     }
@@ -83,7 +84,6 @@ impl Sample {
             &[
                 ("Destination", "\"kita.callee\""),
                 ("Date", "\"2024-02-29T23:59:59+0900\""),
-                ("Via", VIA),
             ],
         )
     }
@@ -95,7 +95,6 @@ impl Sample {
                 ("Responded-By", "\"kita.callee\""),
                 ("Status", "\"available\""),
                 ("Date", "\"2024-02-29T23:59:59+0900\""),
-                ("Via", VIA),
             ],
         )
     }
@@ -137,8 +136,7 @@ impl Sample {
 
     /// A Via of so many like entries, then these.
     pub fn with_via(self, plain: usize, then: &[&str]) -> Sample {
-        let entry = r#"{"host":"h1.nx","destination":"kita.callee","organization":"nx"}"#;
-        let mut entries = vec![entry; plain];
+        let mut entries = vec![HOP; plain];
         entries.extend(then);
         self.with("Via", &format!("[{}]", entries.join(",")))
     }

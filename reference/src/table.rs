@@ -32,7 +32,7 @@ impl State {
     ];
 
     fn of_number(number: u8) -> Option<State> {
-        State::ALL.into_iter().find(|state| *state as u8 == number)
+        rules::numbered(&State::ALL, number.into())
     }
 }
 
@@ -62,13 +62,16 @@ pub fn length_for(count: usize) -> usize {
 
 /// A blank table; nothing for a wrong count or length (refused by 1).
 pub fn blank(count: usize, length: usize) -> Option<Vec<u8>> {
-    if !(1..=MAX_RECORDS).contains(&count) || length != length_for(count) {
-        return None;
-    }
-    let mut image = vec![0; length];
+    let good = (1..=MAX_RECORDS).contains(&count) && length == length_for(count);
+    good.then(|| blank_of(count))
+}
+
+/// A blank table of 1 to 255 records.
+pub fn blank_of(count: usize) -> Vec<u8> {
+    let mut image = vec![0; length_for(count)];
     image[..6].copy_from_slice(&MAGIC);
     image[6..8].copy_from_slice(&(count as u16).to_be_bytes());
-    Some(image)
+    image
 }
 
 /// 01 The table image, 'Well-formed'.
@@ -233,11 +236,11 @@ fn read_u16(bytes: &[u8], at: usize) -> u16 {
     u16::from_be_bytes([bytes[at], bytes[at + 1]])
 }
 
-fn read_u32(bytes: &[u8], at: usize) -> u32 {
+pub fn read_u32(bytes: &[u8], at: usize) -> u32 {
     u32::from_be_bytes(std::array::from_fn(|i| bytes[at + i]))
 }
 
-fn read_u64(bytes: &[u8], at: usize) -> u64 {
+pub fn read_u64(bytes: &[u8], at: usize) -> u64 {
     u64::from_be_bytes(std::array::from_fn(|i| bytes[at + i]))
 }
 
@@ -264,7 +267,7 @@ pub mod tests {
     }
 
     fn image_of(records: &[Record], count: usize) -> Vec<u8> {
-        let mut image = blank(count, length_for(count)).unwrap();
+        let mut image = blank_of(count);
         for (index, record) in records.iter().enumerate() {
             store(&mut image, index, Some(record));
         }
@@ -297,7 +300,7 @@ pub mod tests {
         assert_eq!(find(&image, b"A1.n"), None);
         assert_eq!(lowest_free(&image), Some(1));
         store(&mut image, 0, None);
-        assert_eq!(image, blank(2, length_for(2)).unwrap());
+        assert_eq!(image, blank_of(2));
     }
 
     #[test]
@@ -331,7 +334,7 @@ pub mod tests {
         let mut longer = good;
         longer.push(0);
         assert!(!well_formed(&longer));
-        let mut none = blank(1, 176).unwrap();
+        let mut none = blank_of(1);
         none[7] = 0;
         assert!(!well_formed(&none[..16]));
     }
@@ -404,7 +407,7 @@ pub mod tests {
     #[test]
     fn a_free_record_is_all_zero() {
         for at in 0..RECORD {
-            let mut image = blank(2, length_for(2)).unwrap();
+            let mut image = blank_of(2);
             image[HEADER + at] = 1;
             assert!(!well_formed(&image));
         }

@@ -44,6 +44,24 @@ impl Path<'_> {
     }
 }
 
+/// The same, with texts of its own.
+#[derive(Debug, Clone)]
+pub struct OwnPath {
+    pub host: Vec<u8>,
+    pub destination: Vec<u8>,
+    pub organization: Vec<u8>,
+}
+
+impl OwnPath {
+    pub fn lend(&self) -> Path<'_> {
+        Path {
+            host: &self.host,
+            destination: &self.destination,
+            organization: &self.organization,
+        }
+    }
+}
+
 /// Writes the reply to a request.
 pub fn reply(request: &[u8], code: u16, date: &[u8], out: &mut [u8]) -> Result<usize, u8> {
     let exchange = accepted_request(request)?;

@@ -60,25 +60,27 @@ fn rules_answers_questions() {
     assert_eq!(output(&["rules"], b""), b"");
 }
 
+/// A program's answers to 400 lines that are made for it.
+fn answers_to_made(kind: &str) -> Vec<u8> {
+    let cases = output(&["gen", kind, "4", "400"], b"");
+    assert_eq!(cases, output(&["gen", kind, "4", "400"], b""));
+    assert_eq!(cases.iter().filter(|byte| **byte == b'\n').count(), 400);
+    let answers = output(&[kind], &cases);
+    assert_eq!(answers.iter().filter(|byte| **byte == b'\n').count(), 400);
+    answers
+}
+
 #[test]
 fn gen_feeds_the_smaller_programs() {
     for kind in ["json", "rules"] {
-        let cases = output(&["gen", kind, "4", "400"], b"");
-        assert_eq!(cases, output(&["gen", kind, "4", "400"], b""));
-        assert_eq!(cases.iter().filter(|byte| **byte == b'\n').count(), 400);
-        let answers = output(&[kind], &cases);
-        assert_eq!(answers.iter().filter(|byte| **byte == b'\n').count(), 400);
+        answers_to_made(kind);
     }
 }
 
 #[test]
 fn gen_feeds_the_programs_and_count_counts() {
     for kind in ["keep", "probe"] {
-        let cases = output(&["gen", kind, "4", "400"], b"");
-        assert_eq!(cases, output(&["gen", kind, "4", "400"], b""));
-        assert_eq!(cases.iter().filter(|byte| **byte == b'\n').count(), 400);
-        let answers = output(&[kind], &cases);
-        assert_eq!(answers.iter().filter(|byte| **byte == b'\n').count(), 400);
+        let answers = answers_to_made(kind);
         let counts = String::from_utf8(output(&["count"], &answers)).unwrap();
         let numbers = counts.lines().map(|line| line.split_whitespace().next());
         let total: u64 = numbers

@@ -1,17 +1,22 @@
 -- The rule keeps a record sound: whatever an event does to a sound record, what is set is sound, and so is what an INVITE opens.
 -- By the rows of the rule, each of which sets one of few things. Assumes nothing.
 use Prim.Native.Nat.{ℕ, _≤_, _<_}
-use Rattle.call.specs.Answer.{quietWord, isQuiet}
-use Rattle.call.specs.Rule.{choose, chooseAdmitted, refused, unchanged, heard, chatAt, entered, stays, goes, since, waiting, codeOf, opened, invite, ackIn, ack, cancelIn, cancel, highestOf, numbered, chatted, inTalk, admitted, onward, bye, message, notify, refer, callbackIn, request, progress, success, failure, toInvite, settled, toWithin, toInviting, toCallback, response, tickIn, unheld, checked, held, unknown, decided}
-use Rattle.call.specs.Sound.{Sound, SoundHeld, SoundAfter, Numbered}
-use Rattle.call.specs.declared.answers.Reason.the-variants.{NoCall, OtherParty, Earlier, WrongNumber, NotNow, NotSecure, TooLate}
-use Rattle.call.specs.declared.answers.Reason.{Reason}
-use Rattle.call.specs.declared.answers.State.the-variants.{Calling, Ringing, Answered, Talking, Ended, Cancelling}
-use Rattle.call.specs.declared.answers.State.{State}
-use Rattle.call.specs.declared.answers.Waiting.the-variants.{Nobody, Requester, CallbackRequester}
-use Rattle.call.specs.declared.answers.Waiting.{Waiting}
-use Rattle.call.specs.declared.answers.Word.the-variants.{Pass, Repeat, Bye, Timeout, Idle, None}
-use Rattle.call.specs.declared.answers.Word.{Word}
+use Rattle.answers.specs.Answer.{quietWord, isQuiet}
+use Rattle.call.specs.Rule.{waiting, requestUnheld, firstChecks, decidedHeld, decidedUnheld, decided}
+use Rattle.call.specs.Outcomes.{refused, unchanged, withTimes, heard, chatOnEntering, entered, stays, goes, since}
+use Rattle.call.specs.Requests.{methodCode, newCall, invite, ackIn, ack, cancelIn, cancel, highestOf, numbered, chatted, inTalk, admitted, ifAdmitted, bye, message, notify}
+use Rattle.call.specs.Requests.{refer, callbackIn, request}
+use Rattle.call.specs.Responses.{progress, success, failure, toInvite, responseIn, toWithin, toInviting, toCallback, response}
+use Rattle.call.specs.Ticks.{tickIn}
+use Rattle.call.specs.inner.Sound.{Sound, SoundHeld, SoundAfter, Numbered}
+use Rattle.answers.specs.declared.Reason.the-variants.{NoCall, OtherParty, Earlier, WrongNumber, NotNow, NotSecure, TooLate}
+use Rattle.answers.specs.declared.Reason.{Reason}
+use Rattle.answers.specs.declared.State.the-variants.{Calling, Ringing, Answered, Talking, Ended, Cancelling}
+use Rattle.answers.specs.declared.State.{State}
+use Rattle.answers.specs.declared.Waiting.the-variants.{Nobody, Requester, CallbackRequester}
+use Rattle.answers.specs.declared.Waiting.{Waiting}
+use Rattle.answers.specs.declared.Word.the-variants.{Pass, Repeat, Bye, Timeout, Idle, None}
+use Rattle.answers.specs.declared.Word.{Word}
 use Rattle.call.specs.declared.events.Event.the-variants.{Asks, Replies, Tick}
 use Rattle.call.specs.declared.events.Event.{Event}
 use Rattle.call.specs.declared.events.Method.the-variants.{Invite, Bye as bye-, Cancel, Ack, Message, Callback, Refer, Notify}
@@ -42,64 +47,64 @@ pub record Fine (o : Outcome) : Type 0 where
 loud : {A : Type 0} {b : Bool} → b ≡ false → b ≡ true → A
 loud p q = absurd (let z : _≡_ {A = ℕ} 0 1 = ap {B = ℕ} (λ (b : Bool). cond b 1 0) (sym p ∙ q) in omega arith)
 
-either : (t : Bool) (a b : Outcome) → Fine a → Fine b → Fine (choose t a b)
+either : (t : Bool) (a b : Outcome) → Fine a → Fine b → Fine (cond t a b)
 either true a b p q = p
 either false a b p q = q
 
 -- where the first is not taken, that is known of the test
-unless : (t : Bool) (a b : Outcome) → Fine a → (t ≡ false → Fine b) → Fine (choose t a b)
+unless : (t : Bool) (a b : Outcome) → Fine a → (t ≡ false → Fine b) → Fine (cond t a b)
 unless true a b p q = p
 unless false a b p q = q refl
 
 -- no earlier than the last time, and a time of 64 bits
-record Timely (last now : ℕ) : Type 0 where
-  after : last ≤ now
-  clock : now < 18446744073709551616
+pub record Timely (last now : ℕ) : Type 0 where
+  pub after : last ≤ now
+  pub clock : now < 18446744073709551616
 
 -- what is set
 
+-- another state and other times, of which now is the last
+timed-sound : (c : Call) (x : State) (now entry chat : ℕ) → Sound c → now < 18446744073709551616 → entry ≤ now → chat ≤ now
+    → Sound (withTimes x now entry chat c)
+timed-sound c x now entry chat s clock e h =
+    record {
+      invited = s .invited;
+      not-below = s .not-below;
+      caller-method = s .caller-method;
+      caller-known = s .caller-known;
+      callee-known = s .callee-known;
+      callee-none = s .callee-none;
+      callee-some = s .callee-some;
+      entry-past = e;
+      chat-past = h;
+      caller-fits = s .caller-fits;
+      callee-fits = s .callee-fits;
+      last-fits = clock;
+    }
+
 module _ (c : Call) (now : ℕ) (s : Sound c) (later : Timely (c .last) now) where
+  entry-before : c .entry ≤ now
+  entry-before = omega (arith, s .entry-past, later .after)
+
+  chat-before : c .chat ≤ now
+  chat-before = omega (arith, s .chat-past, later .after)
+
   heard-sound : Sound (heard now c)
-  heard-sound =
-      record {
-        invited = s .invited;
-        not-below = s .not-below;
-        caller-method = s .caller-method;
-        caller-known = s .caller-known;
-        callee-known = s .callee-known;
-        callee-none = s .callee-none;
-        callee-some = s .callee-some;
-        entry-past = (let e = s .entry-past in let l = later .after in omega arith);
-        chat-past = (let e = s .chat-past in let l = later .after in omega arith);
-        caller-fits = s .caller-fits;
-        callee-fits = s .callee-fits;
-        last-fits = later .clock;
-      }
+  heard-sound = timed-sound c (c .state) now (c .entry) (c .chat) s (later .clock) entry-before chat-before
 
-  chat-before : (x : State) → chatAt x now (c .chat) ≤ now
-  chat-before Calling = let e = s .chat-past in let l = later .after in omega arith
-  chat-before Ringing = let e = s .chat-past in let l = later .after in omega arith
-  chat-before Answered = omega arith
-  chat-before Talking = let e = s .chat-past in let l = later .after in omega arith
-  chat-before Ended = let e = s .chat-past in let l = later .after in omega arith
-  chat-before Cancelling = let e = s .chat-past in let l = later .after in omega arith
+  chatted-sound : Sound (heard now (chatted now c))
+  chatted-sound = timed-sound c (c .state) now (c .entry) now s (later .clock) entry-before (omega arith)
 
-  entered-sound : (x : State) → Sound (entered x now c)
-  entered-sound x =
-      record {
-        invited = s .invited;
-        not-below = s .not-below;
-        caller-method = s .caller-method;
-        caller-known = s .caller-known;
-        callee-known = s .callee-known;
-        callee-none = s .callee-none;
-        callee-some = s .callee-some;
-        entry-past = omega arith;
-        chat-past = chat-before x;
-        caller-fits = s .caller-fits;
-        callee-fits = s .callee-fits;
-        last-fits = later .clock;
-      }
+  entered-chat : (x : State) → chatOnEntering x now (c .chat) ≤ now
+  entered-chat Calling = chat-before
+  entered-chat Ringing = chat-before
+  entered-chat Answered = omega arith
+  entered-chat Talking = chat-before
+  entered-chat Ended = chat-before
+  entered-chat Cancelling = chat-before
+
+  pub entered-sound : (x : State) → Sound (entered x now c)
+  entered-sound x = timed-sound c x now now (chatOnEntering x now (c .chat)) s (later .clock) (omega arith) (entered-chat x)
 
   stays-fine : (w : Word) → quietWord w ≡ false → Fine (stays w now c)
   stays-fine w l = record { fine = heard-sound; still = loud l }
@@ -115,7 +120,7 @@ unchanged-fine w c = record { fine = tt; still = λ e. refl }
 
 -- what a request within a call goes on with
 
-code-low : (m : Method) → 1 ≤ codeOf m
+code-low : (m : Method) → 1 ≤ methodCode m
 code-low Invite = omega arith
 code-low bye- = omega arith
 code-low Cancel = omega arith
@@ -125,7 +130,7 @@ code-low Callback = omega arith
 code-low Refer = omega arith
 code-low Notify = omega arith
 
-code-high : (m : Method) → codeOf m ≤ 8
+code-high : (m : Method) → methodCode m ≤ 8
 code-high Invite = omega arith
 code-high bye- = omega arith
 code-high Cancel = omega arith
@@ -135,7 +140,7 @@ code-high Callback = omega arith
 code-high Refer = omega arith
 code-high Notify = omega arith
 
-numbered-sound : (side : Side) (n : ℕ) (m : Method) (c : Call) → Sound c → highestOf side c .number < n → n < 4294967296 → Sound (numbered side n (codeOf m) c)
+numbered-sound : (side : Side) (n : ℕ) (m : Method) (c : Call) → Sound c → highestOf side c .number < n → n < 4294967296 → Sound (numbered side n (methodCode m) c)
 numbered-sound Caller n m c s h fits =
     record {
       invited = s .invited;
@@ -176,7 +181,7 @@ abbrev Onward : ℕ → Admitted → Type 0
 Onward now (Stops o) = Fine o
 Onward now (Goes d) = Sound d × (Timely (d .last) now)
 
-pick-onward : (now : ℕ) (t : Bool) (a b : Admitted) → (t ≡ true → Onward now a) → (t ≡ false → Onward now b) → Onward now (chooseAdmitted t a b)
+pick-onward : (now : ℕ) (t : Bool) (a b : Admitted) → (t ≡ true → Onward now a) → (t ≡ false → Onward now b) → Onward now (cond t a b)
 pick-onward now true a b p q = p refl
 pick-onward now false a b p q = q refl
 
@@ -184,36 +189,19 @@ module _ (c : Call) (now : ℕ) (s : Sound c) (later : Timely (c .last) now) whe
   admitted-onward : (r : Request) → r .number < 4294967296 → Onward now (admitted r c)
   unfolding admitted
   admitted-onward r fits =
-      pick-onward now (eqb (r .number) (highestOf (r .from) c .number) && eqb (codeOf (r .method)) (highestOf (r .from) c .method)) _ _
+      pick-onward now (eqb (r .number) (highestOf (r .from) c .number) && eqb (methodCode (r .method)) (highestOf (r .from) c .method)) _ _
       (λ e. unchanged-fine Repeat c)
       (λ e. pick-onward now (leb (r .number) (highestOf (r .from) c .number)) _ _ (λ f. refused-fine WrongNumber Requester)
       (λ f. pick-onward now (inTalk (c .state)) _ _
       (λ g. (
         numbered-sound (r .from) (r .number) (r .method) c s (leb-false _ _ f) fits,
-        rw (numbered-last (r .from) (r .number) (codeOf (r .method)) c) later,
+        rw (numbered-last (r .from) (r .number) (methodCode (r .method)) c) later,
       ))
       (λ g. refused-fine NotNow Requester)))
 
-onward-fine : (now : ℕ) (a : Admitted) (f : Call → Outcome) → Onward now a → ((d : Call) → Sound d → Timely (d .last) now → Fine (f d)) → Fine (onward a f)
+onward-fine : (now : ℕ) (a : Admitted) (f : Call → Outcome) → Onward now a → ((d : Call) → Sound d → Timely (d .last) now → Fine (f d)) → Fine (ifAdmitted a f)
 onward-fine now (Stops o) f p g = p
 onward-fine now (Goes d) f p g = g d (p .0) (p .1)
-
-chatted-sound : (c : Call) (now : ℕ) → Sound c → Timely (c .last) now → Sound (heard now (chatted now c))
-chatted-sound c now s later =
-    record {
-      invited = s .invited;
-      not-below = s .not-below;
-      caller-method = s .caller-method;
-      caller-known = s .caller-known;
-      callee-known = s .callee-known;
-      callee-none = s .callee-none;
-      callee-some = s .callee-some;
-      entry-past = (let e = s .entry-past in let l = later .after in omega arith);
-      chat-past = omega arith;
-      caller-fits = s .caller-fits;
-      callee-fits = s .callee-fits;
-      last-fits = later .clock;
-    }
 
 -- the rows of the rule, on a sound record that was last heard no later
 
@@ -251,7 +239,7 @@ module _ (c : Call) (now : ℕ) (s : Sound c) (later : Timely (c .last) now) whe
   callback-fine Ended = either (leb (since now (c .entry)) 3600000) _ _ (stay Pass refl) (refused-fine TooLate CallbackRequester)
   callback-fine Cancelling = rejected CallbackRequester
 
-  within-fine : (r : Request) (f : Call → Outcome) → r .number < 4294967296 → ((d : Call) → Sound d → Timely (d .last) now → Fine (f d)) → Fine (onward (admitted r c) f)
+  within-fine : (r : Request) (f : Call → Outcome) → r .number < 4294967296 → ((d : Call) → Sound d → Timely (d .last) now → Fine (f d)) → Fine (ifAdmitted (admitted r c) f)
   within-fine r f fits g = onward-fine now (admitted r c) f (admitted-onward c now s later r fits) g
 
   request-fine : (m : Method) (r : Request) → r .number < 4294967296 → Fine (request m r now c)
@@ -289,13 +277,13 @@ module _ (c : Call) (now : ℕ) (s : Sound c) (later : Timely (c .last) now) whe
   failure-fine Ended = rejected Nobody
   failure-fine Cancelling = go Pass Ended refl
 
-  settled-fine : (x : State) (six : Bool) → Fine (settled x six now c)
-  settled-fine Calling six = rejected Nobody
-  settled-fine Ringing six = rejected Nobody
-  settled-fine Answered six = stay Pass refl
-  settled-fine Talking six = stay Pass refl
-  settled-fine Ended six = stay Pass refl
-  settled-fine Cancelling six = either six _ _ (stay Pass refl) (rejected Nobody)
+  response-in-fine : (x : State) (six : Bool) → Fine (responseIn x six now c)
+  response-in-fine Calling six = rejected Nobody
+  response-in-fine Ringing six = rejected Nobody
+  response-in-fine Answered six = stay Pass refl
+  response-in-fine Talking six = stay Pass refl
+  response-in-fine Ended six = stay Pass refl
+  response-in-fine Cancelling six = either six _ _ (stay Pass refl) (rejected Nobody)
 
   to-callback-fine : (x : State) → Fine (toCallback x now c)
   to-callback-fine Calling = rejected Nobody
@@ -317,11 +305,11 @@ module _ (c : Call) (now : ℕ) (s : Sound c) (later : Timely (c .last) now) whe
 
   to-within-fine : (r : Response) → Fine (toWithin r now c)
   unfolding toWithin
-  to-within-fine r = either (ltb (highestOf (r .from) c .number) (r .number)) _ _ wrong (settled-fine (c .state) false)
+  to-within-fine r = either (ltb (highestOf (r .from) c .number) (r .number)) _ _ wrong (response-in-fine (c .state) false)
 
   to-inviting-fine : (six : Bool) (r : Response) → Fine (toInviting six r now c)
   unfolding toInviting
-  to-inviting-fine six r = either (eqb (r .number) (c .invite)) _ _ (settled-fine (c .state) six) wrong
+  to-inviting-fine six r = either (eqb (r .number) (c .invite)) _ _ (response-in-fine (c .state) six) wrong
 
   response-fine : (m : Method) (r : Response) → Fine (response m r now c)
   unfolding response
@@ -344,18 +332,19 @@ module _ (c : Call) (now : ℕ) (s : Sound c) (later : Timely (c .last) now) whe
 
 -- the checks 21 and 22 before them
 
-checked-fine : (agrees : Bool) (w : Waiting) (now : ℕ) (c : Call) (o : Outcome) → now < 18446744073709551616 → (Timely (c .last) now → Fine o) → Fine (checked agrees w now c o)
-checked-fine agrees w now c o t f =
+first-checks-fine : (agrees : Bool) (w : Waiting) (now : ℕ) (c : Call) (o : Outcome) → now < 18446744073709551616 → (Timely (c .last) now → Fine o)
+    → Fine (firstChecks agrees w now c o)
+first-checks-fine agrees w now c o t f =
     either agrees _ _ (unless (ltb now (c .last)) _ _ (refused-fine Earlier w) (λ e. f (record { after = ltb-false _ _ e; clock = t }))) (refused-fine OtherParty w)
 
-held-fine : (e : Event) (now : ℕ) (c : Call) → Sound c → Numbered e → now < 18446744073709551616 → Fine (held e now c)
-unfolding held
-held-fine (Asks r agrees) now c s n t = checked-fine agrees (waiting (r .method)) now c _ t (λ l. request-fine c now s l (r .method) r (n .1))
-held-fine (Replies r agrees) now c s n t = checked-fine agrees Nobody now c _ t (λ l. response-fine c now s l (r .method) r)
-held-fine Tick now c s n t = checked-fine true Nobody now c _ t (λ l. tick-fine c now s l (c .state))
+decided-held-fine : (e : Event) (now : ℕ) (c : Call) → Sound c → Numbered e → now < 18446744073709551616 → Fine (decidedHeld e now c)
+unfolding decidedHeld
+decided-held-fine (Asks r agrees) now c s n t = first-checks-fine agrees (waiting (r .method)) now c _ t (λ l. request-fine c now s l (r .method) r (n .1))
+decided-held-fine (Replies r agrees) now c s n t = first-checks-fine agrees Nobody now c _ t (λ l. response-fine c now s l (r .method) r)
+decided-held-fine Tick now c s n t = first-checks-fine true Nobody now c _ t (λ l. tick-fine c now s l (c .state))
 
-opened-sound : (number : ℕ) (secure : Bool) (now : ℕ) → 1 ≤ number → number < 4294967296 → now < 18446744073709551616 → Sound (opened number secure now)
-opened-sound number secure now h fits t =
+pub new-call-sound : (number : ℕ) (secure : Bool) (now : ℕ) → 1 ≤ number → number < 4294967296 → now < 18446744073709551616 → Sound (newCall number secure now)
+new-call-sound number secure now h fits t =
     record {
       invited = h;
       not-below = omega arith;
@@ -371,29 +360,29 @@ opened-sound number secure now h fits t =
       last-fits = t;
     }
 
-unheld-fine : (m : Method) (r : Request) (now : ℕ) → 1 ≤ r .number → r .number < 4294967296 → now < 18446744073709551616 → Fine (unheld m r now)
-unheld-fine Invite r now h fits t = record { fine = opened-sound (r .number) (r .secure) now h fits t; still = loud refl }
-unheld-fine bye- r now h fits t = refused-fine NoCall Requester
-unheld-fine Cancel r now h fits t = refused-fine NoCall Requester
-unheld-fine Ack r now h fits t = refused-fine NoCall Nobody
-unheld-fine Message r now h fits t = refused-fine NoCall Requester
-unheld-fine Callback r now h fits t = refused-fine NoCall CallbackRequester
-unheld-fine Refer r now h fits t = refused-fine NoCall Requester
-unheld-fine Notify r now h fits t = refused-fine NoCall Requester
+request-unheld-fine : (m : Method) (r : Request) (now : ℕ) → 1 ≤ r .number → r .number < 4294967296 → now < 18446744073709551616 → Fine (requestUnheld m r now)
+request-unheld-fine Invite r now h fits t = record { fine = new-call-sound (r .number) (r .secure) now h fits t; still = loud refl }
+request-unheld-fine bye- r now h fits t = refused-fine NoCall Requester
+request-unheld-fine Cancel r now h fits t = refused-fine NoCall Requester
+request-unheld-fine Ack r now h fits t = refused-fine NoCall Nobody
+request-unheld-fine Message r now h fits t = refused-fine NoCall Requester
+request-unheld-fine Callback r now h fits t = refused-fine NoCall CallbackRequester
+request-unheld-fine Refer r now h fits t = refused-fine NoCall Requester
+request-unheld-fine Notify r now h fits t = refused-fine NoCall Requester
 
-unknown-fine : (e : Event) (now : ℕ) → Numbered e → now < 18446744073709551616 → Fine (unknown e now)
-unfolding unknown
-unknown-fine (Asks r agrees) now h t = unheld-fine (r .method) r now (h .0) (h .1) t
-unknown-fine (Replies r agrees) now h t = refused-fine NoCall Nobody
-unknown-fine Tick now h t = refused-fine NoCall Nobody
+decided-unheld-fine : (e : Event) (now : ℕ) → Numbered e → now < 18446744073709551616 → Fine (decidedUnheld e now)
+unfolding decidedUnheld
+decided-unheld-fine (Asks r agrees) now h t = request-unheld-fine (r .method) r now (h .0) (h .1) t
+decided-unheld-fine (Replies r agrees) now h t = refused-fine NoCall Nobody
+decided-unheld-fine Tick now h t = refused-fine NoCall Nobody
 
 -- THE THEOREM: on a sound record, or on none, an event that carries a number of CSeq and a time of 64 bits sets nothing but a sound record
 pub decided-sound : (h : Held) (e : Event) (now : ℕ) → SoundHeld h → Numbered e → now < 18446744073709551616 → SoundAfter (decided h e now .after)
-decided-sound Nothing e now s n t = unknown-fine e now n t .fine
-decided-sound (Is c) e now s n t = held-fine e now c s n t .fine
+decided-sound Nothing e now s n t = decided-unheld-fine e now n t .fine
+decided-sound (Is c) e now s n t = decided-held-fine e now c s n t .fine
 
 -- and where its answer says that nothing changes, it leaves the record
 pub decided-still : (h : Held) (e : Event) (now : ℕ) → SoundHeld h → Numbered e → now < 18446744073709551616 → isQuiet (decided h e now .answer) ≡ true
     → decided h e now .after ≡ Same
-decided-still Nothing e now s n t = unknown-fine e now n t .still
-decided-still (Is c) e now s n t = held-fine e now c s n t .still
+decided-still Nothing e now s n t = decided-unheld-fine e now n t .still
+decided-still (Is c) e now s n t = decided-held-fine e now c s n t .still

@@ -1,3 +1,6 @@
-pub mod Answer
 pub mod Rule
-pub mod Sound
+pub mod Requests
+pub mod Responses
+pub mod Ticks
+pub mod Outcomes
+pub mod inner

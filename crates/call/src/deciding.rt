@@ -1,10 +1,4 @@
 // The rule, checked in the order of the table (01 Events): 20, 21, 22, then by the kind of event.
-use crate::answers::Answer;
-use crate::answers::Reason;
-use crate::answers::Shown;
-use crate::answers::State;
-use crate::answers::Waiting;
-use crate::answers::Word;
 use crate::events::Event;
 use crate::events::Method;
 use crate::events::Request;
@@ -18,10 +12,19 @@ use crate::records::refused;
 use crate::requests::request;
 use crate::responses::response;
 use crate::ticks::tick_in;
+use answers::Answer;
+use answers::Reason;
+use answers::Shown;
+use answers::State;
+use answers::Waiting;
+use answers::Word;
 ghost use mathlib.Core.Path.{_≡_};
 ghost use mathlib.Core.Bool.{true};
-ghost use Rattle.call.specs.declared.answers.Waiting.the-variants.{Nobody};
-ghost use Rattle.call.specs.Rule.{checked, decided, held, opened, request, response, tickIn, unheld, unknown, waiting};
+ghost use Rattle.answers.specs.declared.Waiting.the-variants.{Nobody};
+ghost use Rattle.call.specs.Rule.{firstChecks, decided, decidedHeld, requestUnheld, decidedUnheld, waiting};
+ghost use Rattle.call.specs.Requests.{newCall, request};
+ghost use Rattle.call.specs.Responses.{response};
+ghost use Rattle.call.specs.Ticks.{tickIn};
 
 // Who waits for the reply to a request.
 fn waiting(m: Method) -> Waiting
@@ -40,8 +43,8 @@ fn waiting(m: Method) -> Waiting
 }
 
 // The record of a new call.
-fn opened(number: u32, secure: bool, now: u64) -> Call
-    ensures { λ c. ⌜ c ≡ opened number secure now ⌝ }
+fn new_call(number: u32, secure: bool, now: u64) -> Call
+    ensures { λ c. ⌜ c ≡ newCall number secure now ⌝ }
 {
     let caller = Highest { number, method: 1 };
     let callee = Highest {
@@ -61,13 +64,13 @@ fn opened(number: u32, secure: bool, now: u64) -> Call
 }
 
 // A request of method m that names no call: an INVITE opens one, any other is 20.
-fn unheld(m: Method, r: Request, now: u64) -> Outcome
-    ensures { λ o. ⌜ o ≡ unheld m r now ⌝ }
+fn request_unheld(m: Method, r: Request, now: u64) -> Outcome
+    ensures { λ o. ⌜ o ≡ requestUnheld m r now ⌝ }
 {
     match m {
         Method::Invite => Outcome {
             answer: Answer::Accepted(Word::Pass, Shown::In(State::Calling)),
-            after: After::Set(opened(r.number, r.secure, now)),
+            after: After::Set(new_call(r.number, r.secure, now)),
         },
         Method::Bye => refused(Reason::NoCall, Waiting::Requester),
         Method::Cancel => refused(Reason::NoCall, Waiting::Requester),
@@ -81,7 +84,7 @@ fn unheld(m: Method, r: Request, now: u64) -> Outcome
 
 // 21 and 22 before what the request's method says.
 fn asked(m: Method, r: Request, agrees: bool, now: u64, c: Call) -> Outcome
-    ensures { λ o. ⌜ o ≡ checked agrees (waiting m) now c (request m r now c) ⌝ }
+    ensures { λ o. ⌜ o ≡ firstChecks agrees (waiting m) now c (request m r now c) ⌝ }
 {
     let w = waiting(m);
     if !agrees {
@@ -94,7 +97,7 @@ fn asked(m: Method, r: Request, agrees: bool, now: u64, c: Call) -> Outcome
 }
 
 fn replied(m: Method, r: Response, agrees: bool, now: u64, c: Call) -> Outcome
-    ensures { λ o. ⌜ o ≡ checked agrees Nobody now c (response m r now c) ⌝ }
+    ensures { λ o. ⌜ o ≡ firstChecks agrees Nobody now c (response m r now c) ⌝ }
 {
     if !agrees {
         return refused(Reason::OtherParty, Waiting::Nobody);
@@ -106,7 +109,7 @@ fn replied(m: Method, r: Response, agrees: bool, now: u64, c: Call) -> Outcome
 }
 
 fn ticked(s: State, now: u64, c: Call) -> Outcome
-    ensures { λ o. ⌜ o ≡ checked true Nobody now c (tickIn s now c) ⌝ }
+    ensures { λ o. ⌜ o ≡ firstChecks true Nobody now c (tickIn s now c) ⌝ }
 {
     if now < c.last {
         return refused(Reason::Earlier, Waiting::Nobody);
@@ -115,8 +118,8 @@ fn ticked(s: State, now: u64, c: Call) -> Outcome
 }
 
 // An event on a call's record.
-fn held(e: Event, now: u64, c: Call) -> Outcome
-    ensures { λ o. ⌜ o ≡ held e now c ⌝ }
+fn decide_held(e: Event, now: u64, c: Call) -> Outcome
+    ensures { λ o. ⌜ o ≡ decidedHeld e now c ⌝ }
 {
     match e {
         Event::Asks(r, agrees) => {
@@ -135,13 +138,13 @@ fn held(e: Event, now: u64, c: Call) -> Outcome
 }
 
 // An event that names no call on record.
-fn unknown(e: Event, now: u64) -> Outcome
-    ensures { λ o. ⌜ o ≡ unknown e now ⌝ }
+fn decide_unheld(e: Event, now: u64) -> Outcome
+    ensures { λ o. ⌜ o ≡ decidedUnheld e now ⌝ }
 {
     match e {
         Event::Asks(r, _) => {
             let m = r.method;
-            unheld(m, r, now)
+            request_unheld(m, r, now)
         }
         Event::Replies(_, _) => refused(Reason::NoCall, Waiting::Nobody),
         Event::Tick => refused(Reason::NoCall, Waiting::Nobody),
@@ -153,7 +156,7 @@ pub fn decide(h: Held, e: Event, now: u64) -> Outcome
     ensures { λ o. ⌜ o ≡ decided h e now ⌝ }
 {
     match h {
-        Held::Nothing => unknown(e, now),
-        Held::Is(c) => held(e, now, c),
+        Held::Nothing => decide_unheld(e, now),
+        Held::Is(c) => decide_held(e, now, c),
     }
 }

@@ -1,13 +1,13 @@
 // A call as its rule sees it: the numbers of its record (its texts stay with the keeper), and what an event brings.
-use crate::answers::Answer;
-use crate::answers::Reason;
-use crate::answers::Refusal;
-use crate::answers::Shown;
-use crate::answers::State;
-use crate::answers::Waiting;
-use crate::answers::Word;
+use answers::Answer;
+use answers::Reason;
+use answers::Refusal;
+use answers::Shown;
+use answers::State;
+use answers::Waiting;
+use answers::Word;
 ghost use mathlib.Core.Path.{_≡_};
-ghost use Rattle.call.specs.Rule.{chatAt, entered, freed, goes, heard, refused, since, stays, unchanged};
+ghost use Rattle.call.specs.Outcomes.{chatOnEntering, entered, freed, goes, heard, refused, since, stays, unchanged};
 
 // The highest number of one side, and its method's code (0 and 0: none).
 pub struct Highest {
@@ -63,8 +63,8 @@ pub fn heard(now: u64, c: Call) -> Call
 }
 
 // The chat time on entering state s.
-fn chat_at(s: State, now: u64, old: u64) -> u64
-    ensures { λ r. ⌜ r ≡ chatAt s now old ⌝ }
+fn chat_on_entering(s: State, now: u64, old: u64) -> u64
+    ensures { λ r. ⌜ r ≡ chatOnEntering s now old ⌝ }
 {
     match s {
         State::Answered => now,
@@ -90,7 +90,7 @@ pub fn entered(s: State, now: u64, c: Call) -> Call
         callee: callee,
         last: now,
         entry: now,
-        chat: chat_at(s, now, c.chat),
+        chat: chat_on_entering(s, now, c.chat),
     }
 }
 

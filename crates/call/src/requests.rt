@@ -1,8 +1,4 @@
 // Requests on a call that has a record (01 Events).
-use crate::answers::Reason;
-use crate::answers::State;
-use crate::answers::Waiting;
-use crate::answers::Word;
 use crate::events::Method;
 use crate::events::Request;
 use crate::events::Side;
@@ -14,8 +10,12 @@ use crate::records::refused;
 use crate::records::since;
 use crate::records::stays;
 use crate::records::unchanged;
+use answers::Reason;
+use answers::State;
+use answers::Waiting;
+use answers::Word;
 ghost use mathlib.Core.Path.{_≡_};
-ghost use Rattle.call.specs.Rule.{ack, ackIn, admitted, bye, callbackIn, cancel, cancelIn, chatted, codeOf, highestOf, inTalk, invite, message, notify, numbered, refer, request};
+ghost use Rattle.call.specs.Requests.{ack, ackIn, admitted, bye, callbackIn, cancel, cancelIn, chatted, methodCode, highestOf, inTalk, invite, message, notify, numbered, refer, request};
 
 // Whether a request within a call goes on, with its side's number and method set, or what it stops with.
 pub enum Admitted {
@@ -23,8 +23,8 @@ pub enum Admitted {
     Goes(Call),
 }
 
-fn code(m: Method) -> u8
-    ensures { λ r. ⌜ r ≡ codeOf m ⌝ }
+fn method_code(m: Method) -> u8
+    ensures { λ r. ⌜ r ≡ methodCode m ⌝ }
 {
     match m {
         Method::Invite => 1,
@@ -154,7 +154,7 @@ fn admit(r: Request, c: Call) -> Admitted
     let h = highest(from, c);
     let method = r.method;
     let s = c.state;
-    let m = code(method);
+    let m = method_code(method);
     if r.number == h.number {
         if m == h.method {
             return Admitted::Stops(unchanged(Word::Repeat, c));

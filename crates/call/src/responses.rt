@@ -1,8 +1,4 @@
 // Responses on a call that has a record (01 Events). Nobody waits for a reply to a response.
-use crate::answers::Reason;
-use crate::answers::State;
-use crate::answers::Waiting;
-use crate::answers::Word;
 use crate::events::Method;
 use crate::events::Response;
 use crate::records::Call;
@@ -11,10 +7,15 @@ use crate::records::goes;
 use crate::records::refused;
 use crate::records::stays;
 use crate::requests::highest;
+use answers::Reason;
+use answers::State;
+use answers::Waiting;
+use answers::Word;
 ghost use mathlib.Core.Path.{_≡_};
-ghost use Rattle.call.specs.declared.answers.Reason.the-variants.{NotNow};
-ghost use Rattle.call.specs.declared.answers.Waiting.the-variants.{Nobody};
-ghost use Rattle.call.specs.Rule.{failure, progress, refused, response, settled, success, toCallback, toInvite, toInviting, toWithin};
+ghost use Rattle.answers.specs.declared.Reason.the-variants.{NotNow};
+ghost use Rattle.answers.specs.declared.Waiting.the-variants.{Nobody};
+ghost use Rattle.call.specs.Outcomes.{refused};
+ghost use Rattle.call.specs.Responses.{failure, progress, response, responseIn, success, toCallback, toInvite, toInviting, toWithin};
 
 fn not_now() -> Outcome
     ensures { λ o. ⌜ o ≡ refused NotNow Nobody ⌝ }
@@ -89,8 +90,8 @@ fn to_invite(r: Response, now: u64, c: Call) -> Outcome
 }
 
 // 3, 4, 5 pass; 6 where `six`; else 24.
-fn settled(s: State, six: bool, now: u64, c: Call) -> Outcome
-    ensures { λ o. ⌜ o ≡ settled s six now c ⌝ }
+fn response_in(s: State, six: bool, now: u64, c: Call) -> Outcome
+    ensures { λ o. ⌜ o ≡ responseIn s six now c ⌝ }
 {
     match s {
         State::Calling => not_now(),
@@ -118,7 +119,7 @@ fn to_within(r: Response, now: u64, c: Call) -> Outcome
     if h.number < r.number {
         refused(Reason::WrongNumber, Waiting::Nobody)
     } else {
-        settled(s, false, now, c)
+        response_in(s, false, now, c)
     }
 }
 
@@ -128,7 +129,7 @@ fn to_inviting(six: bool, r: Response, now: u64, c: Call) -> Outcome
 {
     let s = c.state;
     if r.number == c.invite {
-        settled(s, six, now, c)
+        response_in(s, six, now, c)
     } else {
         refused(Reason::WrongNumber, Waiting::Nobody)
     }

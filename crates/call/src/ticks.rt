@@ -1,21 +1,23 @@
 // Ticks (01 Events).
-use crate::answers::State;
-use crate::answers::Word;
 use crate::records::Call;
 use crate::records::Outcome;
 use crate::records::freed;
 use crate::records::goes;
 use crate::records::since;
 use crate::records::unchanged;
+use answers::State;
+use answers::Word;
+ghost use mathlib.Core.Bool.{cond};
 ghost use mathlib.Core.Path.{_≡_};
-ghost use Rattle.call.specs.Rule.{choose, goes, since, tickIn, unchanged};
-ghost use Rattle.call.specs.declared.answers.State.the-variants.{Ended};
-ghost use Rattle.call.specs.declared.answers.Word.the-variants.{None};
+ghost use Rattle.call.specs.Outcomes.{goes, since, unchanged};
+ghost use Rattle.call.specs.Ticks.{tickIn};
+ghost use Rattle.answers.specs.declared.State.the-variants.{Ended};
+ghost use Rattle.answers.specs.declared.Word.the-variants.{None};
 ghost use lib.Dec.{leb};
 
 // A limit that has passed ends the call with a word.
 fn expires(word: Word, limit: u64, then: u64, now: u64, c: Call) -> Outcome
-    ensures { λ r. ⌜ r ≡ choose (leb limit (since now then)) (goes word Ended now c) (unchanged None c) ⌝ }
+    ensures { λ r. ⌜ r ≡ cond (leb limit (since now then)) (goes word Ended now c) (unchanged None c) ⌝ }
 {
     if limit <= since(now, then) {
         goes(word, State::Ended, now, c)

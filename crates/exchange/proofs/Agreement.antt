@@ -1,11 +1,11 @@
 -- What `lifting` says of an event on a well-formed table is what the keeper's contracts say. Assumes nothing.
 use Prim.Native.Nat.{ℕ, _<_}
 use Rattle.call.specs.Rule.{decided}
-use Rattle.call.specs.declared.answers.Answer.the-variants.{Refused}
-use Rattle.call.specs.declared.answers.Answer.{Answer}
-use Rattle.call.specs.declared.answers.Reason.the-variants.{NoRoom}
-use Rattle.call.specs.declared.answers.Refusal.the-variants.{Call as Ruled}
-use Rattle.call.specs.declared.answers.Waiting.the-variants.{Requester}
+use Rattle.answers.specs.declared.Answer.the-variants.{Refused}
+use Rattle.answers.specs.declared.Answer.{Answer}
+use Rattle.answers.specs.declared.Reason.the-variants.{NoRoom}
+use Rattle.answers.specs.declared.Refusal.the-variants.{Call as Ruled}
+use Rattle.answers.specs.declared.Waiting.the-variants.{Requester}
 use Rattle.call.specs.declared.events.Event.the-variants.{Tick}
 use Rattle.call.specs.declared.records.After.the-variants.{Same, Set, Free}
 use Rattle.call.specs.declared.records.After.{After}
@@ -16,9 +16,9 @@ use Rattle.exchange.proofs.Parts.{opened, altered, toOld, rule, isAt, o
 use Rattle.exchange.proofs.Rules.{first-is, first-none}
 use Rattle.exchange.specs.Sequence.{Time, Event, message, tick, step, nameOf, recordIn, recordNamed}
 use Rattle.keeper.specs.Facts.{eventOf}
-use Rattle.keeper.specs.Keeping.{Step, kept, callAt, recordFor, takenAt, taken, agreesAt, askedAt, tickedAt, onRead, onMessage, onTick}
-use Rattle.lifting.specs.First.{first}
-use Rattle.lifting.specs.Keeper as lifted
+use Rattle.keeper.specs.Keeping.{Step, tableAfter, callAt, recordFor, takenAt, taken, agreesAt, askedAt, tickedAt, onReading, onMessage, onTick}
+use Rattle.lifting.specs.inner.First.{first}
+use Rattle.lifting.specs.inner.Keeper as lifted
 use Rattle.message.specs.Parties.{callIdOf}
 use Rattle.message.specs.Reading.{reading}
 use Rattle.message.specs.declared.facts.Message.{Message}
@@ -29,7 +29,7 @@ use Rattle.table.proofs.ImageLaws.{with-itself}
 use Rattle.table.proofs.LookupLaws.{found, not-found, free-found}
 use Rattle.table.specs.Image.{size, recordAt, withRecord}
 use Rattle.table.specs.Record.{isFree, isNamed}
-use Rattle.table.specs.Search.{placeOf, freePlace}
+use Rattle.table.specs.Search.{placeNamed, freePlace}
 use Rattle.table.specs.WellFormed.{wellFormed}
 use Rattle.table.specs.declared.searching.Found.the-variants.{At, Nothing}
 use Rattle.table.specs.declared.searching.Found.{Found}
@@ -42,20 +42,20 @@ use mathlib.Core.Path.{_≡_, refl}
 
 -- the same place, and the same record, by either search
 module _ (id t : List ℕ) where
-  place-at : (k : ℕ) → placeOf id t ≡ At k → lifted.place ours id t ≡ k
+  place-at : (k : ℕ) → placeNamed id t ≡ At k → lifted.place ours id t ≡ k
   place-at k e = first-is (λ j. isNamed id (recordAt t j)) (size t) k (found id t k e)
 
-  look-at : (k : ℕ) → placeOf id t ≡ At k → lifted.look ours id t ≡ some (recordAt t k)
+  look-at : (k : ℕ) → placeNamed id t ≡ At k → lifted.look ours id t ≡ some (recordAt t k)
   look-at k e = rw (place-at k e, lt-ltb k (size t) (found id t k e .inside))
 
-  look-none : placeOf id t ≡ Nothing → lifted.look ours id t ≡ none
+  look-none : placeNamed id t ≡ Nothing → lifted.look ours id t ≡ none
   look-none e = rw (le-ltb (first (λ j. isNamed id (recordAt t j)) (size t)) (size t) (first-none (λ j. isNamed id (recordAt t j)) (size t) (not-found id t e)))
 
   pub look-is : lifted.look ours id t ≡ recordNamed id t
   unfolding recordNamed
-  look-is = go (placeOf id t) refl
+  look-is = go (placeNamed id t) refl
     where
-      go : (f : Found) → placeOf id t ≡ f → lifted.look ours id t ≡ recordIn t f
+      go : (f : Found) → placeNamed id t ≡ f → lifted.look ours id t ≡ recordIn t f
       go (At k) e = look-at k e
       go Nothing e = look-none e
 
@@ -66,14 +66,14 @@ pub record Agrees (t : List ℕ) (e : Event) (s : Step) : Type 0 where
 
 module _ (t : List ℕ) (e : Event) (id : List ℕ) (by : nameOf e ≡ some id) where
   -- on the call's record
-  store-kept : (k h : ℕ) (b : Bool) → k < size t → (after : After) → lifted.store ours t k h (some (recordAt t k)) (altered (recordAt t k) after) b ≡ kept t k after
+  store-kept : (k h : ℕ) (b : Bool) → k < size t → (after : After) → lifted.store ours t k h (some (recordAt t k)) (altered (recordAt t k) after) b ≡ tableAfter t k after
   store-kept k h b i Same = with-itself t k i
   store-kept k h b i (Set c) = refl
   store-kept k h b i Free = refl
 
-  on-old : (k : ℕ) (o : Outcome) → placeOf id t ≡ At k → rule e (some (recordAt t k)) ≡ toOld (recordAt t k) o
-      → Agrees t e (record { answer = o .answer; table = kept t k (o .after) })
-  unfolding lifted.answer lifted.next lifted.answerTo lifted.nextOf
+  on-old : (k : ℕ) (o : Outcome) → placeNamed id t ≡ At k → rule e (some (recordAt t k)) ≡ toOld (recordAt t k) o
+      → Agrees t e (record { answer = o .answer; table = tableAfter t k (o .after) })
+  unfolding lifted.answer lifted.next lifted.answerTo lifted.nextTo
   on-old k o p r =
       record {
         answers = rw (by, look-at id t k p, r);
@@ -81,21 +81,21 @@ module _ (t : List ℕ) (e : Event) (id : List ℕ) (by : nameOf e ≡ some id) 
       }
 
   -- on none, where none is opened
-  on-none : (a : Answer) → placeOf id t ≡ Nothing → rule e none ≡ (a, none) → Agrees t e (record { answer = a; table = t })
-  unfolding lifted.answer lifted.next lifted.answerTo lifted.nextOf
+  on-none : (a : Answer) → placeNamed id t ≡ Nothing → rule e none ≡ (a, none) → Agrees t e (record { answer = a; table = t })
+  unfolding lifted.answer lifted.next lifted.answerTo lifted.nextTo
   on-none a p r = record { answers = rw (by, look-none id t p, r); tables = rw (by, look-none id t p, r) }
 
   -- on none, where one is opened: at the lowest free record, or turned away
-  on-room : (a : Answer) (x : List ℕ) (k : ℕ) → placeOf id t ≡ Nothing → rule e none ≡ (a, some x) → freePlace t ≡ At k
+  on-room : (a : Answer) (x : List ℕ) (k : ℕ) → placeNamed id t ≡ Nothing → rule e none ≡ (a, some x) → freePlace t ≡ At k
       → Agrees t e (record { answer = a; table = withRecord t k x })
-  unfolding lifted.answer lifted.next lifted.answerTo lifted.nextOf
+  unfolding lifted.answer lifted.next lifted.answerTo lifted.nextTo
   on-room a x k p r f =
       let h : lifted.hole ours t ≡ k = first-is (λ j. isFree (recordAt t j)) (size t) k (free-found t k f) in
       record { answers = rw (by, look-none id t p, r, f); tables = rw (by, look-none id t p, r, f, h) }
 
-  on-full : (a : Answer) (x : List ℕ) → placeOf id t ≡ Nothing → rule e none ≡ (a, some x) → freePlace t ≡ Nothing
+  on-full : (a : Answer) (x : List ℕ) → placeNamed id t ≡ Nothing → rule e none ≡ (a, some x) → freePlace t ≡ Nothing
       → Agrees t e (record { answer = Refused (Ruled NoRoom Requester); table = t })
-  unfolding lifted.answer lifted.next lifted.answerTo lifted.nextOf
+  unfolding lifted.answer lifted.next lifted.answerTo lifted.nextTo
   on-full a x p r f = record { answers = rw (by, look-none id t p, r, f); tables = rw (by, look-none id t p, r, f) }
 
 -- an event that names no call
@@ -108,11 +108,11 @@ module _ (t : List ℕ) (now : Time) (s : List ℕ) (m : Message) (is : reading 
   event = message now s
 
   abbrev outcome : Outcome
-  outcome = decided Unheld (eventOf m false) (now .value)
+  outcome = decided Unheld (eventOf m false) (now .milliseconds)
 
-  on-asked : nameOf event ≡ some (callIdOf s m) → (f : Found) → placeOf (callIdOf s m) t ≡ f → Agrees t event (askedAt t (now .value) s m f)
+  on-asked : nameOf event ≡ some (callIdOf s m) → (f : Found) → placeNamed (callIdOf s m) t ≡ f → Agrees t event (askedAt t (now .milliseconds) s m f)
   on-asked by (At k) p =
-      on-old t event (callIdOf s m) by k (decided (Is (callAt t k)) (eventOf m (agreesAt t s m k)) (now .value)) p (rw is)
+      on-old t event (callIdOf s m) by k (decided (Is (callAt t k)) (eventOf m (agreesAt t s m k)) (now .milliseconds)) p (rw is)
   on-asked by Nothing p = go (outcome .answer) (outcome .after) (rw is)
     where
       room : (a : Answer) (c : Call) → rule event none ≡ (a, some (recordFor s m c)) → (f : Found) → freePlace t ≡ f → Agrees t event (takenAt t s m a c f)
@@ -124,30 +124,30 @@ module _ (t : List ℕ) (now : Time) (s : List ℕ) (m : Message) (is : reading 
       go a (Set c) r = room a c r (freePlace t) refl
       go a Free r = on-none t event (callIdOf s m) by a p r
 
-on-read : (t : List ℕ) (now : Time) (s : List ℕ) (r : Reading) → reading s ≡ r → Agrees t (message now s) (onRead t (now .value) s r)
+on-read : (t : List ℕ) (now : Time) (s : List ℕ) (r : Reading) → reading s ≡ r → Agrees t (message now s) (onReading t (now .milliseconds) s r)
 unfolding nameOf
 on-read t now s (readings.Refused n p) e = on-mute t (message now s) _ (rw e) (rw e)
 on-read t now s (readings.Read m) e = go (ltb 2 (m .tag)) refl
   where
-    go : (b : Bool) → ltb 2 (m .tag) ≡ b → Agrees t (message now s) (onRead t (now .value) s (readings.Read m))
+    go : (b : Bool) → ltb 2 (m .tag) ≡ b → Agrees t (message now s) (onReading t (now .milliseconds) s (readings.Read m))
     go true w = rw w (on-mute t (message now s) _ (rw (e, w)) (rw e))
-    go false w = rw w (on-asked t now s m e (rw (e, w)) (placeOf (callIdOf s m) t) refl)
+    go false w = rw w (on-asked t now s m e (rw (e, w)) (placeNamed (callIdOf s m) t) refl)
 
-on-ticked : (t : List ℕ) (now : Time) (id : List ℕ) → callIdRule id ≡ true → (f : Found) → placeOf id t ≡ f → Agrees t (tick now id) (tickedAt t (now .value) f)
+on-ticked : (t : List ℕ) (now : Time) (id : List ℕ) → callIdRule id ≡ true → (f : Found) → placeNamed id t ≡ f → Agrees t (tick now id) (tickedAt t (now .milliseconds) f)
 unfolding nameOf
-on-ticked t now id b (At k) p = on-old t (tick now id) id (rw b) k (decided (Is (callAt t k)) Tick (now .value)) p refl
-on-ticked t now id b Nothing p = on-none t (tick now id) id (rw b) (decided Unheld Tick (now .value) .answer) p refl
+on-ticked t now id b (At k) p = on-old t (tick now id) id (rw b) k (decided (Is (callAt t k)) Tick (now .milliseconds)) p refl
+on-ticked t now id b Nothing p = on-none t (tick now id) id (rw b) (decided Unheld Tick (now .milliseconds) .answer) p refl
 
-on-message : (t : List ℕ) (now : Time) (s : List ℕ) → wellFormed t ≡ true → Agrees t (message now s) (onMessage t (now .value) s)
+on-message : (t : List ℕ) (now : Time) (s : List ℕ) → wellFormed t ≡ true → Agrees t (message now s) (onMessage t (now .milliseconds) s)
 unfolding onMessage
 on-message t now s w = rw w (on-read t now s (reading s) refl)
 
-on-tick : (t : List ℕ) (now : Time) (id : List ℕ) → wellFormed t ≡ true → Agrees t (tick now id) (onTick t (now .value) id)
+on-tick : (t : List ℕ) (now : Time) (id : List ℕ) → wellFormed t ≡ true → Agrees t (tick now id) (onTick t (now .milliseconds) id)
 unfolding nameOf onTick
 on-tick t now id w = go (callIdRule id) refl
   where
-    go : (b : Bool) → callIdRule id ≡ b → Agrees t (tick now id) (onTick t (now .value) id)
-    go true e = rw (w, e) (on-ticked t now id e (placeOf id t) refl)
+    go : (b : Bool) → callIdRule id ≡ b → Agrees t (tick now id) (onTick t (now .milliseconds) id)
+    go true e = rw (w, e) (on-ticked t now id e (placeNamed id t) refl)
     go false e = rw (w, e) (on-mute t (tick now id) _ (rw e) refl)
 
 -- on a well-formed table both say the same

@@ -1,7 +1,9 @@
 -- Both sides of the mark (01), proved together. Assumes nothing.
-use Rattle.call.specs.Rule.{held, request}
+use Rattle.call.specs.Rule.{decidedHeld}
+use Rattle.call.specs.Requests.{request}
 use Rattle.exchange.specs.Marks.{Every, marks}
-use Rattle.json.specs.Machine.{from, walk, step, isWs, begin, opens, point, expo, ends}
+use Rattle.json.specs.inner.Machine.{from, walk, step, begin, opens, point, expo, ends}
+use Rattle.json.specs.Places.{isWs}
 use Rattle.message.specs.Reading.{reading}
 use Rattle.message.specs.declared.reading.Reading.the-variants.{Refused}
 use Rattle.octets.specs.Ascii.{ascii}
@@ -15,6 +17,6 @@ unfolding reading octets charAt begins among goesOn from walk step isWs begin op
 number = refl
 
 pub both-sides : Every marks
-unfolding Every held request
+unfolding Every decidedHeld request
 both-sides =
     (call-ids .0, (call-ids .1, (sequences .0, (sequences .1 .0, (sequences .1 .1, (dates .0, (dates .1, (number, (refl, (refl, (refl, (refl, tt))))))))))))

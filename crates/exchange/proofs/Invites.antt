@@ -1,20 +1,19 @@
 -- Two INVITEs that differ in their Call-ID alone, and what is read of them, by computation. Assumes nothing.
 use Prim.Native.Nat.{ℕ}
-use Rattle.json.specs.Ends.{lastOf, prevOf}
-use Rattle.json.specs.Machine.{isWs, opens, begin, due, ends, step, stops, walk, from, point, expo}
-use Rattle.json.specs.Places.{part, spaces, past, isOpen, isShut, isMark, left, unmarked, size, behind, closing, raw, next}
+use Rattle.json.specs.inner.Machine.{opens, begin, due, ends, step, stops, walk, from, point, expo}
+use Rattle.json.specs.Places.{part, spaces, past, isOpen, isShut, isMark, left, unmarked, size, behind, closing, raw, next, isWs, lastOf, prevOf}
 use Rattle.json.specs.Places.{valueOf, follows, more, memberAt, membersFrom, members, elementsFrom, elements}
 use Rattle.message.specs.Checks.{lacks, breaks, lowest, checked}
-use Rattle.message.specs.Field.{oneOf, addressRule, laterRule, textRule, kindRule, byKind, keeps}
-use Rattle.message.specs.Known.{numberAt, has, note, noted, repeated}
+use Rattle.fields.specs.Field.{oneOf, addressRule, keeps}
+use Rattle.fields.specs.Known.{numberAt, has, note, noted, repeated}
 use Rattle.message.specs.Message.{numberOf, methodOf, fromCaller, toCaller, contentAt, codeOf, secureOf, settingOf, messageOf}
 use Rattle.message.specs.Message.{sameSide, wrongSide, wrongNumber, sidesDisagree, callbackTraining, requestDisagrees, disagrees, callerAt, calleeAt}
 use Rattle.message.specs.Reading.{agreed, settled, judged, known, shaped, reading}
-use Rattle.message.specs.Route.{routeOf, routeIn, moved}
+use Rattle.fields.specs.Trail.{trailOf, trailIn, moved}
 use Rattle.message.specs.Shape.{tagAt, tagOf, objectOf}
-use Rattle.message.specs.Spans.{textAt, spanIn, textSpan}
-use Rattle.message.specs.Value.{isString, isArray, isObject, textOf, freely, ruled}
-use Rattle.message.specs.Via.{hopPlaces, hopRule, hopKeeps, isHop, viaRule}
+use Rattle.fields.specs.Spans.{textAt, spanIn, textSpan}
+use Rattle.fields.specs.Value.{isString, isArray, isObject, textOf, freely, ruled}
+use Rattle.fields.specs.Via.{hopPlaces, hopRule, hopKeeps, isHop, viaRule}
 use Rattle.message.specs.declared.facts.Message.{Message}
 use Rattle.message.specs.declared.reading.Reading.the-variants.{Read}
 use Rattle.octets.specs.Ascii.{ascii}
@@ -25,7 +24,7 @@ use Rattle.rules.specs.Classes.{holds}
 use Rattle.rules.specs.Date.{leap, daysIn, dateRule}
 use Rattle.rules.specs.Fields.{isIn, tagAsks, methodAsks}
 use Rattle.rules.specs.Pieces as pieces
-use Rattle.rules.specs.Pieces.{span, digits, value, placeFrom, within, reads}
+use Rattle.rules.specs.Pieces.{runLength, digits, decimalAt, wordNumberFrom, within, reads}
 use Rattle.rules.specs.Sequence as sequence
 use Rattle.rules.specs.Sequence.{sequenceRule, numberEnd, sequenceOf}
 use Rattle.rules.specs.Texts.{callIdRule, hostRule, destinationRule, organizationRule, languageRule, unescaped}
@@ -62,16 +61,16 @@ invite =
       user = record { start = 76; end = 78 };
       callerfire = record { start = 79; end = 84 };
       calleefire = record { start = 48; end = 52 };
-      route = record { count = 1; last = 152; end = 216; seam = 151; host = record { start = 151; end = 151 } };
+      trail = record { count = 1; last = 152; end = 216; seam = 151; host = record { start = 151; end = 151 } };
     }
 
 pub invites-read : (reading (inviteOf (ascii "A1.nx")) ≡ Read invite) × (reading (inviteOf (ascii "B2.nx")) ≡ Read invite)
 unfolding among isDigit isLower isUpper isLetter isAlnum all same standsAt begins goesOn charAt octets isWs opens begin due ends step stops walk from point expo
     part spaces past isOpen isShut isMark left unmarked size behind closing raw next valueOf follows more memberAt membersFrom members elementsFrom elements
-    sequenceRule numberEnd sequenceOf span digits value placeFrom within reads leap daysIn dateRule callerRule calleeRule userEnd callerEnd calleeEnd addressOf
+    sequenceRule numberEnd sequenceOf runLength digits decimalAt wordNumberFrom within reads leap daysIn dateRule callerRule calleeRule userEnd callerEnd calleeEnd addressOf
     callIdRule hostRule destinationRule organizationRule languageRule unescaped holds isIn tagAsks methodAsks textAt spanIn textSpan numberOf methodOf
     fromCaller toCaller contentAt codeOf secureOf settingOf sameSide wrongSide wrongNumber sidesDisagree callbackTraining requestDisagrees disagrees callerAt
     calleeAt messageOf agreed settled judged known shaped reading lacks breaks lowest checked isString isArray isObject textOf freely ruled tagAt tagOf objectOf
-    oneOf addressRule laterRule textRule kindRule byKind keeps hopPlaces hopRule hopKeeps isHop viaRule numberAt has note noted repeated pieces.behind
-    pieces.keeps sequence.numberOf sequence.methodOf lastOf prevOf routeOf routeIn moved
+    oneOf addressRule keeps hopPlaces hopRule hopKeeps isHop viaRule numberAt has note noted repeated pieces.behind
+    pieces.hasPiece sequence.cseqNumber sequence.cseqMethod lastOf prevOf trailOf trailIn moved
 invites-read = (refl, refl)

@@ -1,20 +1,21 @@
 -- The keeper's table and rule, put in for the parameters of `lifting`. Assumes nothing.
 use Prim.Native.Nat.{ℕ}
 use Rattle.call.specs.Rule.{decided}
-use Rattle.call.specs.declared.answers.Answer.the-variants.{Refused}
-use Rattle.call.specs.declared.answers.Answer.{Answer}
-use Rattle.call.specs.declared.answers.Reason.the-variants.{NoRoom}
-use Rattle.call.specs.declared.answers.Refusal.the-variants.{Reading as Unread, PingPong, Call as Ruled}
-use Rattle.call.specs.declared.answers.Waiting.the-variants.{Requester}
+use Rattle.answers.specs.declared.Answer.the-variants.{Refused}
+use Rattle.answers.specs.declared.Answer.{Answer}
+use Rattle.answers.specs.declared.Reason.the-variants.{NoRoom}
+use Rattle.answers.specs.declared.Refusal.the-variants.{Reading as Unread, PingPong, Call as Ruled}
+use Rattle.answers.specs.declared.Waiting.the-variants.{Requester}
 use Rattle.call.specs.declared.events.Event.the-variants.{Tick}
 use Rattle.call.specs.declared.records.After.the-variants.{Same, Set, Free}
 use Rattle.call.specs.declared.records.After.{After}
 use Rattle.call.specs.declared.records.Held.the-variants.{Nothing as Unheld, Is}
 use Rattle.call.specs.declared.records.Outcome.{Outcome}
 use Rattle.exchange.specs.Sequence.{Event, message, tick, nameOf}
-use Rattle.keeper.specs.Facts.{callOf, Fitting, eventOf, fieldsFrom}
+use Rattle.keeper.specs.Facts.{callOf, eventOf, fieldsFrom}
+use Rattle.keeper.specs.inner.Known.{Fitting}
 use Rattle.keeper.specs.Keeping.{recordFor}
-use Rattle.lifting.specs.Keeper.{Keeper}
+use Rattle.lifting.specs.inner.Keeper.{Keeper}
 use Rattle.message.specs.Parties.{userOf, callerFireOf, calleeFireOf}
 use Rattle.message.specs.Reading.{reading}
 use Rattle.message.specs.declared.facts.Message.{Message}
@@ -70,8 +71,8 @@ ruleTick now none = (decided Unheld Tick now .answer, none)
 ruleTick now (some r) = toOld r (decided (Is (callOf (fieldsOf r))) Tick now)
 
 abbrev pub rule : Event → Option (List ℕ) → Answer × Option (List ℕ)
-rule (message now s) r = ruleRead (now .value) s (reading s) r
-rule (tick now id) r = ruleTick (now .value) r
+rule (message now s) r = ruleRead (now .milliseconds) s (reading s) r
+rule (tick now id) r = ruleTick (now .milliseconds) r
 
 -- a new call is admitted where some record is free
 abbrev pub isAt : Found → Bool

@@ -2,7 +2,7 @@
 use Prim.Native.Nat.{ℕ, zero, suc, _+_, _≤_, _<_}
 use Rattle.call.proofs.Soundness.{decided-sound}
 use Rattle.call.specs.Rule.{decided}
-use Rattle.call.specs.Sound.{Sound, SoundAfter}
+use Rattle.call.specs.inner.Sound.{Sound, SoundAfter}
 use Rattle.call.specs.declared.events.Event.the-variants.{Tick}
 use Rattle.call.specs.declared.records.After.the-variants.{Same, Set, Free}
 use Rattle.call.specs.declared.records.After.{After}
@@ -12,18 +12,20 @@ use Rattle.exchange.proofs.Parts.{Fit, opened, altered, rule, isAt, our
 use Rattle.exchange.specs.Sequence.{Event, message, tick, nameRead, nameOf}
 use Rattle.keeper.proofs.FactLaws.{sound-call, sound-fields, fit-fields, numbered}
 use Rattle.keeper.proofs.StepLaws.{named-used, read-named}
-use Rattle.keeper.specs.Facts.{callOf, Fitting, fieldsFrom, eventOf}
-use Rattle.keeper.specs.Keeping.{Named, recordFor}
+use Rattle.keeper.specs.Facts.{callOf, fieldsFrom, eventOf}
+use Rattle.keeper.specs.inner.Known.{Fitting}
+use Rattle.keeper.specs.Keeping.{recordFor}
+use Rattle.keeper.specs.inner.Known.{Named}
 use Rattle.lifting.proofs.FirstLaws.{first-before, first-hit}
-use Rattle.lifting.specs.First.{first, count, bit}
-use Rattle.lifting.specs.Keeper as lifted
+use Rattle.lifting.specs.inner.First.{first, count, bit}
+use Rattle.lifting.specs.inner.Keeper as lifted
 use Rattle.message.specs.Parties.{callIdOf, userOf, callerFireOf, calleeFireOf}
 use Rattle.message.specs.Reading.{reading}
 use Rattle.message.specs.declared.facts.Message.{Message}
 use Rattle.message.specs.declared.reading.Reading.the-variants as readings
 use Rattle.message.specs.declared.reading.Reading.{Reading}
-use Rattle.octets.proofs.TextLaws.{and-parts, same-eq, same-self}
-use Rattle.octets.specs.Class.{all}
+use Rattle.octets.proofs.TextLaws.{same-eq, same-self}
+use Rattle.octets.proofs.TestLaws.{and-parts, clash}
 use Rattle.octets.specs.Number.{onto}
 use Rattle.octets.specs.Text.{same}
 use Rattle.rules.proofs.PartLaws.{call-id-length, user-length, fire-length}
@@ -32,18 +34,19 @@ use Rattle.table.proofs.ImageLaws.{length-with, size-with, with-same, with-othe
 use Rattle.table.proofs.KeepLaws.{Ruled, call-id-kept, fields-stored, stored-sound, call-id-new, fields-new, new-sound, used-not-free, sound-used, free-sound}
 use Rattle.table.proofs.LookupLaws.{named-own}
 use Rattle.table.proofs.RecordLaws.{length-withFields, length-newRecord}
-use Rattle.table.proofs.SearchLaws.{Is as Lowest, bool-clash, Searched, at, nowhere, searched}
+use Rattle.table.proofs.RoomLaws.{zeros-are}
+use Rattle.table.proofs.SearchLaws.{Is as Lowest, Searched, at, nowhere, searched}
 use Rattle.table.proofs.SoundLaws.{record-used}
 use Rattle.table.specs.Image.{size, recordAt, recordSize, withRecord, freeRecord}
-use Rattle.table.specs.Record.{callIdOf as idOf, fieldsOf, isFree, isNamed, newRecord, sameParties, withFields}
+use Rattle.table.specs.Record.{recordCallId as idOf, fieldsOf, isFree, isNamed, newRecord, sameParties, withFields}
 use Rattle.table.specs.Search.{freePlace, lowest}
-use Rattle.table.specs.WellFormed.{zeros, usedSound, recordSound, frameSound, isZero}
+use Rattle.table.specs.WellFormed.{zeros, usedSound, recordSound, frameSound}
 use Rattle.table.specs.declared.numbers.Fields.{Fields}
-use borrow.Author.Tests.{eqb-true, ltb-false, lt-ltb}
+use borrow.Author.Tests.{ltb-false, lt-ltb}
 use lib.Dec.{ltb}
 use lib.ListN.{length, replicate, length-replicate}
 use mathlib.Core.Bool.{Bool, true, false, not, cond}
-use mathlib.Core.List.{List, [], _∷_}
+use mathlib.Core.List.{List}
 use mathlib.Core.Option.{none, some}
 use mathlib.Core.Path.{_≡_, refl, sym, ap, _∙_}
 use native.Mathlib.Decide.{ℕ-discrete, decLt}
@@ -55,7 +58,7 @@ same-id a b = go (same a b) refl
   where
     go : (v : Bool) → same a b ≡ v → Dec (a ≡ b)
     go true e = yes (same-eq a b e)
-    go false e = no (λ w. bool-clash (ap (same a) (sym w) ∙ same-self a) e)
+    go false e = no (λ w. clash (ap (same a) (sym w) ∙ same-self a) e)
 
 -- Records.
 
@@ -63,24 +66,17 @@ frame-with : (t : List ℕ) (k : ℕ) (x : List ℕ) → frameSound t ≡ true �
 unfolding frameSound
 frame-with t k x f h fit = rw (length-with t k h x (fit .long), with-header t k h x (fit .long)) f
 
-all-zero : (r : List ℕ) → zeros r ≡ true → r ≡ replicate (length r) 0
-unfolding all
-all-zero [] e = refl
-all-zero (x ∷ r) e =
-    let p = and-parts (isZero x) (zeros r) e in
-    rw (eqb-true x 0 (p .0), sym (all-zero r (p .1)))
-
 free-zeros : (r : List ℕ) → recordSound r ≡ true → isFree r ≡ true → zeros r ≡ true
 unfolding recordSound
 free-zeros r s e = go (zeros r) (usedSound r) refl refl
   where
     go : (a b : Bool) → zeros r ≡ a → usedSound r ≡ b → zeros r ≡ true
     go true b p q = p
-    go false true p q = absurd (bool-clash e (used-not-free r q))
-    go false false p q = absurd (bool-clash s (rw (p, q)))
+    go false true p q = absurd (clash e (used-not-free r q))
+    go false false p q = absurd (clash s (rw (p, q)))
 
 free-blank : (r : List ℕ) → Fit r → isFree r ≡ true → r ≡ freeRecord
-free-blank r f e = all-zero r (free-zeros r (f .sound) e) ∙ ap (λ n. replicate n 0) (f .long)
+free-blank r f e = zeros-are r (free-zeros r (f .sound) e) ∙ ap (λ n. replicate n 0) (f .long)
 
 free-nameless : (i r : List ℕ) → isFree r ≡ true → isNamed i r ≡ false
 unfolding isNamed
@@ -99,7 +95,7 @@ fitting f h = record { caller = h .caller; callee = h .callee; last = h .last }
 
 used-fit : (r : List ℕ) → length r ≡ recordSize → usedSound r ≡ true → Fitting (fieldsOf r) → Fit r
 used-fit r l u f =
-    record { long = l; sound = sym (record-used r (λ w. bool-clash (rw w) (used-not-free r u)) (sym u)); fitting = f }
+    record { long = l; sound = sym (record-used r (λ w. clash (rw w) (used-not-free r u)) (sym u)); fitting = f }
 
 blank-fit : Fit freeRecord
 unfolding fieldsOf onto
@@ -193,8 +189,8 @@ new-own (message now s) i x w r =
     let y = says s i w in
     let m = y .said in
     let n = read-named s m (y .read) (y .low) in
-    rw (sym (y .is)) (opened-own s m n (decided Unheld (eventOf m false) (now .value) .after)
-    (decided-sound Unheld (eventOf m false) (now .value) tt (numbered m false (n .low) (n .high)) (now .fits)) x (rw (y .read) at r))
+    rw (sym (y .is)) (opened-own s m n (decided Unheld (eventOf m false) (now .milliseconds) .after)
+    (decided-sound Unheld (eventOf m false) (now .milliseconds) tt (numbered m false (n .low) (n .high)) (now .fits)) x (rw (y .read) at r))
 new-own (tick now id) i x w r = none-some r
 
 keep-own : (e : Event) (i r x : List ℕ) → nameOf e ≡ some i → Fit r → isNamed i r ≡ true → rule e (some r) .1 ≡ some x → Fit x × (isNamed i x ≡ true)
@@ -204,11 +200,11 @@ keep-own (message now s) i r x w fit own q =
     let m = y .said in
     let n = read-named s m (y .read) (y .low) in
     let b = sameParties (userOf s m) (callerFireOf s m) (calleeFireOf s m) r in
-    altered-own i r fit own (decided (Is (callOf (fieldsOf r))) (eventOf m b) (now .value) .after)
-    (decided-sound (Is (callOf (fieldsOf r))) (eventOf m b) (now .value) (old-sound i r fit own) (numbered m b (n .low) (n .high)) (now .fits)) x (rw (y .read) at q)
+    altered-own i r fit own (decided (Is (callOf (fieldsOf r))) (eventOf m b) (now .milliseconds) .after)
+    (decided-sound (Is (callOf (fieldsOf r))) (eventOf m b) (now .milliseconds) (old-sound i r fit own) (numbered m b (n .low) (n .high)) (now .fits)) x (rw (y .read) at q)
 keep-own (tick now id) i r x w fit own q =
-    altered-own i r fit own (decided (Is (callOf (fieldsOf r))) Tick (now .value) .after)
-    (decided-sound (Is (callOf (fieldsOf r))) Tick (now .value) (old-sound i r fit own) tt (now .fits)) x q
+    altered-own i r fit own (decided (Is (callOf (fieldsOf r))) Tick (now .milliseconds) .after)
+    (decided-sound (Is (callOf (fieldsOf r))) Tick (now .milliseconds) (old-sound i r fit own) tt (now .fits)) x q
 
 -- The two searches, `lowest` of the table and `first` of `lifting`, find the same.
 
@@ -216,15 +212,15 @@ pub first-is : (p : ℕ → Bool) (n k : ℕ) → Lowest p n k → first p n ≡
 first-is p n k l = go (decLt (first p n) k) (decLt k (first p n))
   where
     go : Dec (first p n < k) → Dec (k < first p n) → first p n ≡ k
-    go (yes a) d = absurd (bool-clash (first-hit p n (let i = l .inside in omega arith)) (l .before (first p n) a))
-    go (no a) (yes b) = absurd (bool-clash (l .passes) (first-before p n k b))
+    go (yes a) d = absurd (clash (first-hit p n (let i = l .inside in omega arith)) (l .before (first p n) a))
+    go (no a) (yes b) = absurd (clash (l .passes) (first-before p n k b))
     go (no a) (no b) = omega arith
 
 pub first-none : (p : ℕ → Bool) (n : ℕ) → ((k : ℕ) → k < n → p k ≡ false) → n ≤ first p n
 first-none p n f = go (decLt (first p n) n)
   where
     go : Dec (first p n < n) → n ≤ first p n
-    go (yes a) = absurd (bool-clash (first-hit p n a) (f (first p n) a))
+    go (yes a) = absurd (clash (first-hit p n a) (f (first p n) a))
     go (no a) = omega arith
 
 count-none : (p : ℕ → Bool) (n : ℕ) → ((k : ℕ) → k < n → p k ≡ false) → count p n ≡ 0
@@ -247,7 +243,7 @@ admits-room t e w = go (searched (λ k. isFree (recordAt t k)) (size t))
   where
     go : Searched (λ k. isFree (recordAt t k)) (size t) → first (λ k. isFree (recordAt t k)) (size t) < size t
     go (at i q l) = rw (first-is (λ k. isFree (recordAt t k)) (size t) i l) (l .inside)
-    go (nowhere q f) = absurd (bool-clash w (rw q))
+    go (nowhere q f) = absurd (clash w (rw q))
 
 admits-count : (t : List ℕ) → isAt (freePlace t) ≡ ltb 0 (count (λ k. isFree (recordAt t k)) (size t))
 unfolding freePlace

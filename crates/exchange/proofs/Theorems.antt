@@ -1,28 +1,29 @@
 -- Demand 3 and its kin, over the keeper's public contracts: an event leaves a well-formed table well-formed, every other call's record as it
 -- was and where it was, and the header; two neighbours that do not name the same Call-ID may change places. By `lifting`. Assumes nothing.
+use Rattle.octets.proofs.TestLaws.{and-both, and-parts, clash}
 use Prim.Native.Nat.{ℕ, _+_, _-_, _*_, _≤_, _<_}
-use Rattle.call.specs.Answer.{isQuiet}
+use Rattle.answers.specs.Answer.{isQuiet}
 use Rattle.exchange.proofs.Agreement.{agrees, look-is}
 use Rattle.exchange.proofs.Parts.{ours}
 use Rattle.exchange.proofs.Quiet.{Quiet, message-quiet, tick-quiet}
 use Rattle.exchange.proofs.Rules.{laws}
 use Rattle.exchange.specs.Paper.{refused, paperOf}
-use Rattle.exchange.specs.Sequence.{Event, message, tick, step, answer, next, run, answers, nameOf, Apart, isNoRoom, Roomy, Exchanged, Bytes}
-use Rattle.keeper.specs.Facts.{Fitting}
+use Rattle.exchange.specs.Sequence.{Event, message, tick, step, answer, next, afterAll, answers, nameOf, Apart, isNoRoom, Roomy, Exchanged, AllBytes}
+use Rattle.keeper.specs.inner.Known.{Fitting}
 use Rattle.keeper.specs.Keeping.{onMessage, onTick}
 use Rattle.lifting.proofs.Exchange as exchanges
 use Rattle.lifting.proofs.Steps as steps
-use Rattle.lifting.specs.Keeper as lifted
-use Rattle.octets.proofs.NumberLaws.{Octets, number-below}
-use Rattle.octets.proofs.TextLaws.{and-parts, same-eq, same-self}
+use Rattle.lifting.specs.inner.Keeper as lifted
+use Rattle.octets.proofs.NumberLaws.{Octets, capacity, number-below}
+use Rattle.octets.proofs.TextLaws.{same-eq, same-self}
 use Rattle.octets.specs.Class.{among}
-use Rattle.octets.specs.Number.{numberOf, span}
+use Rattle.octets.specs.Number.{bigEndian}
 use Rattle.octets.specs.Text.{same}
 use Rattle.table.proofs.ImageLaws.{length-record, byte-at}
 use Rattle.table.proofs.KeepLaws.{frame-of, distinct-of, record-of, one-record}
-use Rattle.table.proofs.SearchLaws.{bool-clash, and-both, all-every}
+use Rattle.table.proofs.SearchLaws.{all-every}
 use Rattle.table.specs.Image.{size, recordAt, recordSize, headerSize, headerOf}
-use Rattle.table.specs.Record.{callIdOf, fieldsOf, isFree, isNamed}
+use Rattle.table.specs.Record.{recordCallId, fieldsOf, isFree, isNamed}
 use Rattle.table.specs.WellFormed.{apart, apartBefore, distinct, frameSound, recordsSound, recordSound, wellFormed}
 use borrow.Author.Tests.{eqb-true}
 use lib.Dec.{eqb}
@@ -36,7 +37,7 @@ use native.Mathlib.Omega.{arith}
 
 -- Well-formed, in the words of `lifting` and of the table.
 
-module _ (t : List ℕ) (bytes : Bytes t) (k : ℕ) (h : k < size t) where
+module _ (t : List ℕ) (bytes : AllBytes t) (k : ℕ) (h : k < size t) where
   -- n bytes of record k are bytes
   octets : (off n : ℕ) → off + n ≤ 160 → Octets (take n (drop off (recordAt t k)))
   octets off n g =
@@ -49,17 +50,17 @@ module _ (t : List ℕ) (bytes : Bytes t) (k : ℕ) (h : k < size t) where
             (bytes .each (16 + 160 * k + (off + j)) (omega arith));
       }
 
-  below : (off n : ℕ) → off + n ≤ 160 → numberOf (take n (drop off (recordAt t k))) < span n
+  below : (off n : ℕ) → off + n ≤ 160 → bigEndian (take n (drop off (recordAt t k))) < capacity n
   below off n g =
       let l : length (recordAt t k) ≡ 160 = length-record t k h in
       let e : length (drop off (recordAt t k)) ≡ length (recordAt t k) - off = length-drop off (recordAt t k) in
       number-below n (take n (drop off (recordAt t k))) (length-take-le n (drop off (recordAt t k)) (omega arith)) (octets off n g)
 
   fitting : Fitting (fieldsOf (recordAt t k))
-  unfolding fieldsOf span
+  unfolding fieldsOf capacity
   fitting = record { caller = below 120 4 (omega arith); callee = below 124 4 (omega arith); last = below 128 8 (omega arith) }
 
-well-good : (t : List ℕ) → Bytes t → wellFormed t ≡ true → lifted.Good ours t
+well-good : (t : List ℕ) → AllBytes t → wellFormed t ≡ true → lifted.Good ours t
 well-good t b w =
     record {
       frame = frame-of t w;
@@ -70,14 +71,14 @@ well-good t b w =
 -- records that are nobody's twice are apart
 apart-of : (r s : List ℕ) → ((i : List ℕ) → isNamed i r ≡ true → isNamed i s ≡ true → ⊥) → apart r s ≡ true
 unfolding apart isNamed
-apart-of r s f = go (isFree r) (isFree s) (same (callIdOf r) (callIdOf s)) refl refl refl
+apart-of r s f = go (isFree r) (isFree s) (same (recordCallId r) (recordCallId s)) refl refl refl
   where
-    go : (a b c : Bool) → isFree r ≡ a → isFree s ≡ b → same (callIdOf r) (callIdOf s) ≡ c → (isFree r || (isFree s || not (same (callIdOf r) (callIdOf s)))) ≡ true
+    go : (a b c : Bool) → isFree r ≡ a → isFree s ≡ b → same (recordCallId r) (recordCallId s) ≡ c → (isFree r || (isFree s || not (same (recordCallId r) (recordCallId s)))) ≡ true
     go true b c p q e = rw p
     go false true c p q e = rw (p, q)
     go false false false p q e = rw (p, q, e)
     go false false true p q e =
-        absurd (f (callIdOf s) (rw (p, e)) (rw q (same-self (callIdOf s))))
+        absurd (f (recordCallId s) (rw (p, e)) (rw q (same-self (recordCallId s))))
 
 good-well : (t : List ℕ) → lifted.Good ours t → wellFormed t ≡ true
 unfolding wellFormed recordsSound distinct apartBefore
@@ -93,7 +94,7 @@ step-good : (t : List ℕ) (e : Event) → lifted.Good ours t → lifted.Good ou
 step-good t e g = rw (sym (agrees t e (good-well t g) .tables)) (steps.step ours laws t e g .good)
 
 -- an event leaves a well-formed table well-formed
-pub stays-well-formed : (t : List ℕ) (e : Event) → Bytes t → wellFormed t ≡ true → wellFormed (next t e) ≡ true
+pub stays-well-formed : (t : List ℕ) (e : Event) → AllBytes t → wellFormed t ≡ true → wellFormed (next t e) ≡ true
 stays-well-formed t e b w = good-well (next t e) (step-good t e (well-good t b w))
 
 ill-message : (t : List ℕ) (now : ℕ) (s : List ℕ) → wellFormed t ≡ false → (paperOf (onMessage t now s .answer) ≡ refused 1 0 0) × (onMessage t now s .table ≡ t)
@@ -106,15 +107,15 @@ ill-tick t now id w = rw w (refl, refl)
 
 -- an image that is not well-formed is answered 1, and is left as it was
 pub ill-formed : (t : List ℕ) (e : Event) → wellFormed t ≡ false → (paperOf (answer t e) ≡ refused 1 0 0) × (next t e ≡ t)
-ill-formed t (message now s) w = ill-message t (now .value) s w
-ill-formed t (tick now id) w = ill-tick t (now .value) id w
+ill-formed t (message now s) w = ill-message t (now .milliseconds) s w
+ill-formed t (tick now id) w = ill-tick t (now .milliseconds) id w
 
 -- a refusal, a repeat and a none leave the table byte for byte as it was, whatever it was
 well-quiet : (t : List ℕ) (e : Event) → lifted.Good ours t → Quiet t (step t e)
 well-quiet t (message now s) g = message-quiet t g now s
 well-quiet t (tick now id) g = tick-quiet t g now id
 
-pub changes-nothing : (t : List ℕ) (e : Event) → Bytes t → isQuiet (answer t e) ≡ true → next t e ≡ t
+pub changes-nothing : (t : List ℕ) (e : Event) → AllBytes t → isQuiet (answer t e) ≡ true → next t e ≡ t
 changes-nothing t e b q = go (wellFormed t) refl
   where
     go : (v : Bool) → wellFormed t ≡ v → next t e ≡ t
@@ -123,10 +124,10 @@ changes-nothing t e b q = go (wellFormed t) refl
 
 -- Sequences.
 
-runs : (t : List ℕ) (es : List Event) → lifted.Good ours t → lifted.run ours t es ≡ run t es
-unfolding lifted.run run
+runs : (t : List ℕ) (es : List Event) → lifted.Good ours t → lifted.afterAll ours t es ≡ afterAll t es
+unfolding lifted.afterAll afterAll
 runs t [] g = refl
-runs t (e ∷ es) g = ap (λ (u : List ℕ). lifted.run ours u es) (agrees t e (good-well t g) .tables) ∙ runs (next t e) es (step-good t e g)
+runs t (e ∷ es) g = ap (λ (u : List ℕ). lifted.afterAll ours u es) (agrees t e (good-well t g) .tables) ∙ runs (next t e) es (step-good t e g)
 
 answered : (t : List ℕ) (es : List Event) → lifted.Good ours t → lifted.answers ours t es ≡ answers t es
 unfolding lifted.answers answers
@@ -135,23 +136,23 @@ answered t (e ∷ es) g =
     let a = agrees t e (good-well t g) in
     rw (a .answers, a .tables, answered (next t e) es (step-good t e g))
 
-run-good : (t : List ℕ) (es : List Event) → lifted.Good ours t → lifted.Good ours (run t es)
-unfolding run
+run-good : (t : List ℕ) (es : List Event) → lifted.Good ours t → lifted.Good ours (afterAll t es)
+unfolding afterAll
 run-good t [] g = g
 run-good t (e ∷ es) g = run-good (next t e) es (step-good t e g)
 
 -- any sequence leaves a well-formed table well-formed
-pub run-well-formed : (t : List ℕ) (es : List Event) → Bytes t → wellFormed t ≡ true → wellFormed (run t es) ≡ true
-run-well-formed t es b w = good-well (run t es) (run-good t es (well-good t b w))
+pub run-well-formed : (t : List ℕ) (es : List Event) → AllBytes t → wellFormed t ≡ true → wellFormed (afterAll t es) ≡ true
+run-well-formed t es b w = good-well (afterAll t es) (run-good t es (well-good t b w))
 
 -- In a sequence no event alters a byte of another call's record, which stays in its place.
 untouched-by : (t : List ℕ) (e : Event) → lifted.Good ours t → (k : ℕ) → k < size t → (id : List ℕ) → isNamed id (recordAt t k) ≡ true
     → (nameOf e ≡ some id → ⊥) → recordAt (next t e) k ≡ recordAt t k
 untouched-by t e g k h id n ne = rw (sym (agrees t e (good-well t g) .tables)) (steps.step ours laws t e g .bytes k h id ne n)
 
-pub untouched : (t : List ℕ) (xs : List Event) (e : Event) → Bytes t → wellFormed t ≡ true → (k : ℕ) → k < size (run t xs) → (id : List ℕ)
-    → isNamed id (recordAt (run t xs) k) ≡ true → (nameOf e ≡ some id → ⊥) → recordAt (next (run t xs) e) k ≡ recordAt (run t xs) k
-untouched t xs e b w k h id n ne = untouched-by (run t xs) e (run-good t xs (well-good t b w)) k h id n ne
+pub untouched : (t : List ℕ) (xs : List Event) (e : Event) → AllBytes t → wellFormed t ≡ true → (k : ℕ) → k < size (afterAll t xs) → (id : List ℕ)
+    → isNamed id (recordAt (afterAll t xs) k) ≡ true → (nameOf e ≡ some id → ⊥) → recordAt (next (afterAll t xs) e) k ≡ recordAt (afterAll t xs) k
+untouched t xs e b w k h id n ne = untouched-by (afterAll t xs) e (run-good t xs (well-good t b w)) k h id n ne
 
 header-of : (t : List ℕ) → frameSound t ≡ true → (take headerSize t ≡ headerOf (size t)) × (length t ≡ headerSize + recordSize * size t)
 unfolding frameSound
@@ -160,20 +161,20 @@ header-of t f =
     let b = and-parts (among 1 255 (size t)) (same (take headerSize t) (headerOf (size t))) (a .1) in
     (same-eq (take headerSize t) (headerOf (size t)) (b .1), eqb-true (length t) (headerSize + recordSize * size t) (a .0))
 
-size-run : (t : List ℕ) (es : List Event) → lifted.Good ours t → size (run t es) ≡ size t
-unfolding run
+size-run : (t : List ℕ) (es : List Event) → lifted.Good ours t → size (afterAll t es) ≡ size t
+unfolding afterAll
 size-run t [] g = refl
 size-run t (e ∷ es) g =
     let s : size (next t e) ≡ size t = rw (sym (agrees t e (good-well t g) .tables)) (steps.step ours laws t e g .size-kept) in
     size-run (next t e) es (step-good t e g) ∙ s
 
 -- nor does a sequence alter the header, or the table's length
-pub header-kept : (t : List ℕ) (es : List Event) → Bytes t → wellFormed t ≡ true → (take headerSize (run t es) ≡ take headerSize t) × (length (run t es) ≡ length t)
+pub header-kept : (t : List ℕ) (es : List Event) → AllBytes t → wellFormed t ≡ true → (take headerSize (afterAll t es) ≡ take headerSize t) × (length (afterAll t es) ≡ length t)
 header-kept t es b w =
     let g = well-good t b w in
     let s = size-run t es g in
     let p = header-of t (g .frame) in
-    let q = header-of (run t es) (run-good t es g .frame) in
+    let q = header-of (afterAll t es) (run-good t es g .frame) in
     (q .0 ∙ ap headerOf s ∙ sym (p .0), q .1 ∙ ap (λ n. headerSize + recordSize * n) s ∙ sym (p .1))
 
 -- an event that is turned away is answered 'no room'
@@ -187,19 +188,19 @@ module _ (t : List ℕ) (a b : Event) (g : lifted.Good ours t) (r : Roomy t a b)
   roomy : lifted.Roomy ours t a b
   roomy =
       record {
-        first-a = λ w. bool-clash (away-no-room t a g w) (r .first-a);
-        then-b = λ w. bool-clash (away-no-room (next t a) b (step-good t a g) (rw (agrees t a (good-well t g) .tables) at w)) (r .then-b);
-        first-b = λ w. bool-clash (away-no-room t b g w) (r .first-b);
-        then-a = λ w. bool-clash (away-no-room (next t b) a (step-good t b g) (rw (agrees t b (good-well t g) .tables) at w)) (r .then-a);
+        first-a = λ w. clash (away-no-room t a g w) (r .first-a);
+        then-b = λ w. clash (away-no-room (next t a) b (step-good t a g) (rw (agrees t a (good-well t g) .tables) at w)) (r .then-b);
+        first-b = λ w. clash (away-no-room t b g w) (r .first-b);
+        then-a = λ w. clash (away-no-room (next t b) a (step-good t b g) (rw (agrees t b (good-well t g) .tables) at w)) (r .then-a);
       }
 
 -- DEMAND 3: on a well-formed table, two neighbours that do not name the same Call-ID, neither of which is answered 'no room' in either
 -- order, may change places: every answer of the whole sequence and each call's final record stay
-pub exchange : (t : List ℕ) (xs : List Event) (a b : Event) (ys : List Event) → Bytes t → wellFormed t ≡ true → Apart a b
-    → Roomy (run t xs) a b → Exchanged t xs a b ys
+pub exchange : (t : List ℕ) (xs : List Event) (a b : Event) (ys : List Event) → AllBytes t → wellFormed t ≡ true → Apart a b
+    → Roomy (afterAll t xs) a b → Exchanged t xs a b ys
 exchange t xs a b ys bytes w apart r =
     let g = well-good t bytes w in
-    let h : lifted.Roomy ours (lifted.run ours t xs) a b = rw (runs t xs g) (roomy (run t xs) a b (run-good t xs g) r) in
+    let h : lifted.Roomy ours (lifted.afterAll ours t xs) a b = rw (runs t xs g) (roomy (afterAll t xs) a b (run-good t xs g) r) in
     let x = exchanges.exchange ours laws t xs a b ys g apart h in
     record {
       before = x .before;
@@ -210,6 +211,6 @@ exchange t xs a b ys bytes w apart r =
       answers-ba = sym (answered t (xs ++ b ∷ a ∷ ys) g) ∙ x .answers-ba;
       as-many = x .as-many;
       records = λ id.
-          sym (look-is id (run t (xs ++ a ∷ b ∷ ys))) ∙ ap (lifted.look ours id) (sym (runs t (xs ++ a ∷ b ∷ ys) g)) ∙ x .records id
-          ∙ ap (lifted.look ours id) (runs t (xs ++ b ∷ a ∷ ys) g) ∙ look-is id (run t (xs ++ b ∷ a ∷ ys));
+          sym (look-is id (afterAll t (xs ++ a ∷ b ∷ ys))) ∙ ap (lifted.look ours id) (sym (runs t (xs ++ a ∷ b ∷ ys) g)) ∙ x .records id
+          ∙ ap (lifted.look ours id) (runs t (xs ++ b ∷ a ∷ ys) g) ∙ look-is id (afterAll t (xs ++ b ∷ a ∷ ys));
     }

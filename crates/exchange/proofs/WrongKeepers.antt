@@ -1,10 +1,10 @@
 -- Keepers of one entry, of messages or of ticks, and the wrong ones among them (01 What contracts say). Assumes nothing.
 use Prim.Native.Nat.{ℕ, zero, suc, _<_}
 use Rattle.exchange.specs.Paper.{Paper, accepted, refused, paperOf}
-use Rattle.exchange.specs.Sequence.{Bytes}
+use Rattle.exchange.specs.Sequence.{AllBytes}
 use Rattle.keeper.proofs.Determined.{Allowed}
 use Rattle.keeper.specs.Keeping.{Step}
-use Rattle.octets.proofs.TextLaws.{and-parts}
+use Rattle.octets.proofs.TestLaws.{and-parts}
 use Rattle.octets.specs.Ascii.{ascii}
 use Rattle.octets.specs.Class.{all}
 use Rattle.octets.specs.Text.{same}
@@ -18,9 +18,9 @@ use native.Mathlib.Omega.{arith}
 
 -- what an entry can be handed: a table of bytes, a time of 64 bits, and bytes
 pub record Handed (t : List ℕ) (now : ℕ) (x : List ℕ) : Type 0 where
-  pub table : Bytes t
+  pub table : AllBytes t
   pub clock : now < 18446744073709551616
-  pub text : Bytes x
+  pub text : AllBytes x
 
 -- a keeper: what it answers, and the table that it leaves
 abbrev pub Keeper : Type 0
@@ -57,5 +57,5 @@ each-below [] e k h = absurd (omega arith)
 each-below (x ∷ t) e zero h = ltb-true x 256 (and-parts (ltb x 256) (all (λ b. ltb b 256) t) e .0)
 each-below (x ∷ t) e (suc k) h = each-below t (and-parts (ltb x 256) (all (λ b. ltb b 256) t) e .1) k (omega arith)
 
-pub each-byte : (t : List ℕ) → all (λ b. ltb b 256) t ≡ true → Bytes t
+pub each-byte : (t : List ℕ) → all (λ b. ltb b 256) t ≡ true → AllBytes t
 each-byte t e = record { each = each-below t e }

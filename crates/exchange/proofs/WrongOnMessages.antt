@@ -2,12 +2,12 @@
 -- never alters the table, and one that acts on the first event and only answers later. Shown on a blank table of two records: an INVITE is
 -- passed and takes the first, one of another Call-ID is passed and takes the second, and a message of no bytes is refused. Assumes nothing.
 use Prim.Native.Nat.{ℕ, _<_}
-use Rattle.call.specs.Rule.{unknown}
-use Rattle.call.specs.declared.answers.Answer.the-variants.{Accepted}
-use Rattle.call.specs.declared.answers.Answer.{Answer}
-use Rattle.call.specs.declared.answers.Shown.the-variants.{In}
-use Rattle.call.specs.declared.answers.State.the-variants.{Calling}
-use Rattle.call.specs.declared.answers.Word.the-variants.{Pass}
+use Rattle.call.specs.Rule.{decidedUnheld}
+use Rattle.answers.specs.declared.Answer.the-variants.{Accepted}
+use Rattle.answers.specs.declared.Answer.{Answer}
+use Rattle.answers.specs.declared.Shown.the-variants.{In}
+use Rattle.answers.specs.declared.State.the-variants.{Calling}
+use Rattle.answers.specs.declared.Word.the-variants.{Pass}
 use Rattle.exchange.proofs.Invites.{inviteOf, invite, invites-read}
 use Rattle.exchange.proofs.WrongKeepers.{Handed, Keeper, Meets, isRefused, isPass, RefusesAll, PassesAll, AltersNone, each-byte}
 use Rattle.exchange.proofs.WrongOnTicks.{calling, calling-sound}
@@ -15,9 +15,10 @@ use Rattle.exchange.specs.Paper.{refused, paperOf}
 use Rattle.json.specs.Places.{part}
 use Rattle.keeper.proofs.FactLaws.{sound-fields, fit-fields}
 use Rattle.keeper.proofs.StepLaws.{read-named}
-use Rattle.keeper.specs.Facts.{methodOf, eventOf, fieldsFrom}
+use Rattle.keeper.specs.Facts.{methodOfCode, eventOf, fieldsFrom}
 use Rattle.keeper.specs.Keeping.{Step, recordFor, onMessage}
-use Rattle.message.specs.Parties.{cut, callIdOf, userOf, callerFireOf, calleeFireOf}
+use Rattle.fields.specs.Spans.{cut}
+use Rattle.message.specs.Parties.{callIdOf, userOf, callerFireOf, calleeFireOf}
 use Rattle.message.specs.Reading.{reading}
 use Rattle.message.specs.declared.reading.Reading.the-variants.{Read}
 use Rattle.octets.specs.Ascii.{ascii}
@@ -25,16 +26,16 @@ use Rattle.octets.specs.Class.{all}
 use Rattle.octets.specs.Number.{bytesOf}
 use Rattle.octets.specs.Splice.{splice}
 use Rattle.octets.specs.Text.{same}
+use Rattle.octets.proofs.TestLaws.{clash}
 use Rattle.rules.proofs.PartLaws.{call-id-length, user-length, fire-length}
 use Rattle.table.proofs.ImageLaws.{with-same}
 use Rattle.table.proofs.KeepLaws.{Ruled, blank-sound, open-keeps, fields-new}
 use Rattle.table.proofs.LookupLaws.{free-found, not-found}
 use Rattle.table.proofs.RecordLaws.{length-newRecord}
-use Rattle.table.proofs.SearchLaws.{bool-clash}
 use Rattle.table.specs.Blank.{blankOf}
 use Rattle.table.specs.Image.{size, headerOf, recordAt, withRecord}
 use Rattle.table.specs.Record.{countsOf, fieldsOf, isNamed, newRecord, recordOf, slotOf, textAt, timesOf}
-use Rattle.table.specs.Search.{lowest, placeOf, freePlace}
+use Rattle.table.specs.Search.{lowest, placeNamed, freePlace}
 use Rattle.table.specs.WellFormed.{wellFormed}
 use Rattle.table.specs.declared.numbers.Fields.{Fields}
 use Rattle.table.specs.declared.searching.Found.the-variants.{At, Nothing}
@@ -49,7 +50,7 @@ use native.Mathlib.Omega.{arith}
 abbrev state : List ℕ → ℕ → ℕ
 state t k = fieldsOf (recordAt t k) .state
 
-module _ (t s : List ℕ) (k : ℕ) (w : wellFormed t ≡ true) (read : reading s ≡ Read invite) (nobody : placeOf (callIdOf s invite) t ≡ Nothing)
+module _ (t s : List ℕ) (k : ℕ) (w : wellFormed t ≡ true) (read : reading s ≡ Read invite) (nobody : placeNamed (callIdOf s invite) t ≡ Nothing)
     (free : freePlace t ≡ At k) where
   abbrev r : List ℕ
   r = recordFor s invite calling
@@ -63,7 +64,7 @@ module _ (t s : List ℕ) (k : ℕ) (w : wellFormed t ≡ true) (read : reading 
   inside = free-found t k free .inside
 
   passed : onMessage t 1000 s ≡ record { answer = Accepted Pass (In Calling); table = withRecord t k r }
-  unfolding onMessage eventOf methodOf unknown
+  unfolding onMessage eventOf methodOfCode decidedUnheld
   passed = rw (w, read, nobody, free)
 
   well : wellFormed (withRecord t k r) ≡ true
@@ -114,8 +115,8 @@ w0 : wellFormed t0 ≡ true
 w0 = blank-sound 2 (omega arith) (omega arith)
 
 -- neither Call-ID stands where its INVITE comes, and which record is free then
-searched : ((placeOf (callIdOf s1 invite) t0 ≡ Nothing) × (freePlace t0 ≡ At 0)) × ((placeOf (callIdOf s2 invite) t1 ≡ Nothing) × (freePlace t1 ≡ At 1))
-unfolding placeOf freePlace lowest isNamed same blankOf headerOf bytesOf splice recordFor newRecord recordOf fieldsFrom textAt slotOf countsOf timesOf
+searched : ((placeNamed (callIdOf s1 invite) t0 ≡ Nothing) × (freePlace t0 ≡ At 0)) × ((placeNamed (callIdOf s2 invite) t1 ≡ Nothing) × (freePlace t1 ≡ At 1))
+unfolding placeNamed freePlace lowest isNamed same blankOf headerOf bytesOf splice recordFor newRecord recordOf fieldsFrom textAt slotOf countsOf timesOf
     callIdOf userOf callerFireOf calleeFireOf cut part
 searched = ((refl, refl), (refl, refl))
 
@@ -150,10 +151,10 @@ module _ (f : Keeper) (meets : Meets onMessage f) where
 
   pub refuses-not-all : RefusesAll f → ⊥
   refuses-not-all h =
-      bool-clash (h t0 1000 s1 (handed .1 .0)) (ap (λ (a : Answer). isRefused (paperOf a)) (meets t0 1000 s1 (handed .1 .0) .0 ∙ ap (λ (x : Step). x .answer) first))
+      clash (h t0 1000 s1 (handed .1 .0)) (ap (λ (a : Answer). isRefused (paperOf a)) (meets t0 1000 s1 (handed .1 .0) .0 ∙ ap (λ (x : Step). x .answer) first))
 
   pub passes-not-all : PassesAll f → ⊥
-  passes-not-all h = bool-clash (h t0 1000 [] (handed .0)) (ap (λ (a : Answer). isPass (paperOf a)) (meets t0 1000 [] (handed .0) .0) ∙ ap isPass empty)
+  passes-not-all h = clash (h t0 1000 [] (handed .0)) (ap (λ (a : Answer). isPass (paperOf a)) (meets t0 1000 [] (handed .0) .0) ∙ ap isPass empty)
 
   pub alters-some : AltersNone f → ⊥
   alters-some h = altered t0 s1 0 w0 (invites-read .0) (searched .0 .0) (searched .0 .1) (sym leaves ∙ h t0 1000 s1 (handed .1 .0))

@@ -1,40 +1,42 @@
 -- Keepers that the contract of `tick` shuts out (01 What contracts say): one that refuses everything, one that always answers pass, one that
 -- never alters the table, and one that acts on the first event and only answers later. Shown on a table of one call. Assumes nothing.
 use Prim.Native.Nat.{ℕ, _≤_, _<_}
-use Rattle.call.specs.Rule.{decided, held, entered as enters}
-use Rattle.call.specs.Sound.{Sound}
-use Rattle.call.specs.declared.answers.Answer.the-variants.{Accepted}
-use Rattle.call.specs.declared.answers.Answer.{Answer}
-use Rattle.call.specs.declared.answers.Shown.the-variants.{In, Free}
-use Rattle.call.specs.declared.answers.State.the-variants.{Calling, Ended}
-use Rattle.call.specs.declared.answers.Word.the-variants.{Timeout, Freed}
+use Rattle.call.proofs.Soundness.{entered-sound, new-call-sound}
+use Rattle.call.specs.Rule.{decided, decidedHeld}
+use Rattle.call.specs.Outcomes.{entered as enters}
+use Rattle.call.specs.inner.Sound.{Sound}
+use Rattle.answers.specs.declared.Answer.the-variants.{Accepted}
+use Rattle.answers.specs.declared.Answer.{Answer}
+use Rattle.answers.specs.declared.Shown.the-variants.{In, Free}
+use Rattle.answers.specs.declared.State.the-variants.{Calling, Ended}
+use Rattle.answers.specs.declared.Word.the-variants.{Timeout, Freed}
 use Rattle.call.specs.declared.events.Event.the-variants.{Tick}
 use Rattle.call.specs.declared.records.Call.{Call}
 use Rattle.call.specs.declared.records.Held.the-variants.{Is}
 use Rattle.exchange.proofs.WrongKeepers.{Handed, Keeper, Meets, isRefused, isPass, RefusesAll, PassesAll, AltersNone, each-byte}
-use Rattle.exchange.specs.Marks.{entered}
+use Rattle.exchange.specs.Marks.{callIn}
 use Rattle.exchange.specs.Paper.{paperOf}
 use Rattle.keeper.proofs.FactLaws.{sound-fields, fit-fields}
 use Rattle.keeper.specs.Facts.{stateOf, callOf, fieldsFrom}
-use Rattle.keeper.specs.Keeping.{Step, callAt, settled, onTick}
+use Rattle.keeper.specs.Keeping.{Step, callAt, stepOf, onTick}
 use Rattle.octets.specs.Ascii.{ascii}
 use Rattle.octets.specs.Class.{among, isAlnum, isDigit, isLetter, isLower, isUpper, all}
 use Rattle.octets.specs.Number.{bytesOf}
 use Rattle.octets.specs.Splice.{splice}
 use Rattle.octets.specs.Text.{same}
+use Rattle.octets.proofs.TestLaws.{clash}
 use Rattle.rules.proofs.PartLaws.{call-id-length, user-length, fire-length}
 use Rattle.rules.specs.Classes.{holds}
-use Rattle.rules.specs.Pieces.{behind, keeps, reads, span, within}
+use Rattle.rules.specs.Pieces.{behind, hasPiece, reads, runLength, within}
 use Rattle.rules.specs.Texts.{callIdRule, userRule, fireRule}
 use Rattle.table.proofs.ImageLaws.{with-same, size-with}
 use Rattle.table.proofs.KeepLaws.{Ruled, blank-sound, open-keeps, store-keeps, call-id-kept, call-id-new, fields-new, fields-stored, new-sound, stored-sound, used-not-free}
 use Rattle.table.proofs.LookupLaws.{named-own, place-kept, place-new, not-found}
 use Rattle.table.proofs.RecordLaws.{length-newRecord, length-withFields}
-use Rattle.table.proofs.SearchLaws.{bool-clash}
 use Rattle.table.specs.Blank.{blankOf}
 use Rattle.table.specs.Image.{size, headerOf, recordAt, recordSize, withRecord, freeRecord}
 use Rattle.table.specs.Record.{countsOf, fieldsOf, isNamed, newRecord, recordOf, slotOf, timesOf, withFields}
-use Rattle.table.specs.Search.{lowest, placeOf}
+use Rattle.table.specs.Search.{lowest, placeNamed}
 use Rattle.table.specs.WellFormed.{usedSound, wellFormed}
 use Rattle.table.specs.declared.numbers.Fields.{Fields}
 use Rattle.table.specs.declared.searching.Found.the-variants.{At, Nothing}
@@ -59,48 +61,20 @@ abbrev b : List ℕ
 b = ascii "kita"
 
 ruled : Ruled i u a b
-unfolding callIdRule userRule fireRule reads keeps behind within span holds among isAlnum isDigit isLetter isLower isUpper
+unfolding callIdRule userRule fireRule reads hasPiece behind within runLength holds among isAlnum isDigit isLetter isLower isUpper
 ruled = record { call-id = refl; user = refl; caller-fire = refl; callee-fire = refl }
 
 abbrev pub calling : Call
-calling = entered Calling 1000
+calling = callIn Calling 1000
 
 abbrev ended : Call
 ended = enters Ended 16000 calling
 
 pub calling-sound : Sound calling
-calling-sound =
-    record {
-      invited = omega arith;
-      not-below = omega arith;
-      caller-method = omega arith;
-      caller-known = omega arith;
-      callee-known = omega arith;
-      callee-none = λ e. refl;
-      callee-some = λ e. refl;
-      entry-past = omega arith;
-      chat-past = omega arith;
-      caller-fits = omega arith;
-      callee-fits = omega arith;
-      last-fits = omega arith;
-    }
+calling-sound = new-call-sound 1 false 1000 (omega arith) (omega arith) (omega arith)
 
 ended-sound : Sound ended
-ended-sound =
-    record {
-      invited = omega arith;
-      not-below = omega arith;
-      caller-method = omega arith;
-      caller-known = omega arith;
-      callee-known = omega arith;
-      callee-none = λ e. refl;
-      callee-some = λ e. refl;
-      entry-past = omega arith;
-      chat-past = omega arith;
-      caller-fits = omega arith;
-      callee-fits = omega arith;
-      last-fits = omega arith;
-    }
+ended-sound = entered-sound calling 16000 calling-sound (record { after = omega arith; clock = omega arith }) Ended
 
 abbrev f0 : Fields
 f0 = fieldsFrom calling
@@ -142,15 +116,15 @@ one : size (blankOf 1) ≡ 1
 unfolding blankOf headerOf bytesOf
 one = refl
 
-nobody : placeOf i (blankOf 1) ≡ Nothing
-unfolding placeOf lowest isNamed blankOf headerOf bytesOf
+nobody : placeNamed i (blankOf 1) ≡ Nothing
+unfolding placeNamed lowest isNamed blankOf headerOf bytesOf
 nobody = refl
 
 -- the call stands at record 0 of a well-formed table
 record Stands (t r : List ℕ) (c : Call) : Type 0 where
   well : wellFormed t ≡ true
   inside : 0 < size t
-  place : placeOf i t ≡ At 0
+  place : placeNamed i t ≡ At 0
   record-is : recordAt t 0 ≡ r
   fields : fieldsOf r ≡ fieldsFrom c
 
@@ -196,18 +170,18 @@ stands1 =
     }
 
 -- a tick there
-ticked : (t r : List ℕ) (c : Call) (now : ℕ) → Stands t r c → callOf (fieldsFrom c) ≡ c → onTick t now i ≡ settled t 0 (decided (Is c) Tick now)
+ticked : (t r : List ℕ) (c : Call) (now : ℕ) → Stands t r c → callOf (fieldsFrom c) ≡ c → onTick t now i ≡ stepOf t 0 (decided (Is c) Tick now)
 unfolding onTick
 ticked t r c now s back =
     let e : callAt t 0 ≡ c = ap (λ (x : List ℕ). callOf (fieldsOf x)) (s .record-is) ∙ ap callOf (s .fields) ∙ back in
     rw (s .well, ruled .call-id, s .place, e)
 
 times-out : onTick t0 16000 i ≡ record { answer = Accepted Timeout (In Ended); table = withRecord t0 0 (withFields (recordAt t0 0) f1) }
-unfolding held callOf fieldsFrom stateOf
+unfolding decidedHeld callOf fieldsFrom stateOf
 times-out = ticked t0 r0 calling 16000 stands0 refl
 
 frees : onTick t1 3616001 i ≡ record { answer = Accepted Freed Free; table = withRecord t1 0 freeRecord }
-unfolding held callOf fieldsFrom stateOf
+unfolding decidedHeld callOf fieldsFrom stateOf
 frees = ticked t1 r1 ended 3616001 stands1 refl
 
 -- the table after the first tick is another, and after the second another again
@@ -246,11 +220,11 @@ module _ (f : Keeper) (meets : Meets onTick f) where
   leaves = meets t0 16000 i (handed .0) .1 ∙ first-table
 
   pub refuses-not-all : RefusesAll f → ⊥
-  refuses-not-all h = bool-clash (h t0 16000 i (handed .0)) (ap (λ (a : Answer). isRefused (paperOf a)) answers)
+  refuses-not-all h = clash (h t0 16000 i (handed .0)) (ap (λ (a : Answer). isRefused (paperOf a)) answers)
 
   pub passes-not-all : PassesAll f → ⊥
   unfolding same
-  passes-not-all h = bool-clash (h t0 16000 i (handed .0)) (ap (λ (a : Answer). isPass (paperOf a)) answers)
+  passes-not-all h = clash (h t0 16000 i (handed .0)) (ap (λ (a : Answer). isPass (paperOf a)) answers)
 
   pub alters-some : AltersNone f → ⊥
   alters-some h = let e : _≡_ {A = ℕ} 5 1 = sym state1 ∙ ap state (sym leaves ∙ h t0 16000 i (handed .0)) ∙ state0 in omega arith

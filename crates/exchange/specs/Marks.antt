@@ -2,9 +2,9 @@
 -- the rule of one call. Assumes nothing.
 use Prim.Native.Nat.{ℕ}
 use Rattle.call.specs.Rule.{decided}
-use Rattle.call.specs.declared.answers.Answer.{Answer}
-use Rattle.call.specs.declared.answers.State.the-variants.{Calling, Ended}
-use Rattle.call.specs.declared.answers.State.{State}
+use Rattle.answers.specs.declared.Answer.{Answer}
+use Rattle.answers.specs.declared.State.the-variants.{Calling, Ended}
+use Rattle.answers.specs.declared.State.{State}
 use Rattle.call.specs.declared.events.Event.the-variants.{Asks, Tick}
 use Rattle.call.specs.declared.events.Event.{Event}
 use Rattle.call.specs.declared.events.Method.the-variants.{Callback}
@@ -25,12 +25,12 @@ use mathlib.Core.Path.{_≡_}
 
 -- what a definition gives, and what the paper says: of a text and its rule, of a reading, of an event, in the paper's words and numbers
 pub data Mark : Type 0 where
-  keeps : Bool → Bool → Mark
+  judges : Bool → Bool → Mark
   reads : Reading → (number : ℕ) → (place : ℕ) → Mark
   answers-to : Answer → Paper → Mark
 
 abbrev pub Holds : Mark → Type 0
-Holds (keeps a b) = a ≡ b
+Holds (judges a b) = a ≡ b
 Holds (reads a n p) = a ≡ readings.Refused n p
 Holds (answers-to a b) = paperOf a ≡ b
 
@@ -39,8 +39,8 @@ Every [] = Unit
 Every (m ∷ ms) = Holds m × Every ms
 
 -- a call that entered a state at a time, and was not heard of since
-abbrev pub entered : State → ℕ → Call
-entered s at =
+abbrev pub callIn : State → ℕ → Call
+callIn s at =
     record {
       state = s;
       secure = false;
@@ -59,16 +59,16 @@ callback = Asks (record { method = Callback; number = 1; from = Callee; secure =
 -- the paper's list, in its order
 abbrev pub marks : List Mark
 marks =
-    keeps (callIdRule (ascii "A1")) true
-    ∷ keeps (callIdRule (ascii "A.")) false
-    ∷ keeps (sequenceRule (ascii "4294967295 BYE")) true
-    ∷ keeps (sequenceRule (ascii "4294967296 BYE")) false
-    ∷ keeps (sequenceRule (ascii "01 BYE")) false
-    ∷ keeps (dateRule (ascii "2000-02-29T12:00:00+0900")) true
-    ∷ keeps (dateRule (ascii "1900-02-29T12:00:00+0900")) false
+    judges (callIdRule (ascii "A1")) true
+    ∷ judges (callIdRule (ascii "A.")) false
+    ∷ judges (sequenceRule (ascii "4294967295 BYE")) true
+    ∷ judges (sequenceRule (ascii "4294967296 BYE")) false
+    ∷ judges (sequenceRule (ascii "01 BYE")) false
+    ∷ judges (dateRule (ascii "2000-02-29T12:00:00+0900")) true
+    ∷ judges (dateRule (ascii "1900-02-29T12:00:00+0900")) false
     ∷ reads (reading (ascii "[01]")) 4 2
-    ∷ answers-to (decided (Is (entered Calling 1000)) Tick 15999 .answer) (accepted (ascii "none") 1)
-    ∷ answers-to (decided (Is (entered Calling 1000)) Tick 16000 .answer) (accepted (ascii "timeout") 5)
-    ∷ answers-to (decided (Is (entered Ended 0)) callback 3600000 .answer) (accepted (ascii "pass") 5)
-    ∷ answers-to (decided (Is (entered Ended 0)) callback 3600001 .answer) (refused 26 0 404)
+    ∷ answers-to (decided (Is (callIn Calling 1000)) Tick 15999 .answer) (accepted (ascii "none") 1)
+    ∷ answers-to (decided (Is (callIn Calling 1000)) Tick 16000 .answer) (accepted (ascii "timeout") 5)
+    ∷ answers-to (decided (Is (callIn Ended 0)) callback 3600000 .answer) (accepted (ascii "pass") 5)
+    ∷ answers-to (decided (Is (callIn Ended 0)) callback 3600001 .answer) (refused 26 0 404)
     ∷ []

@@ -1,10 +1,9 @@
 -- An answer as document 01 gives it (01 Events): 'accepted, with its word and the new state, or refused, with number, place and reply'.
 -- The promises say answers so. Assumes nothing.
 use Prim.Native.Nat.{ℕ}
-use Rattle.call.specs.Answer.{numberOf, placeOf, replyOf, shownOf}
-use Rattle.call.specs.declared.answers.Answer.the-variants.{Accepted, Refused}
-use Rattle.call.specs.declared.answers.Answer.{Answer}
-use Rattle.lines.specs.Program.{spelling}
+use Rattle.answers.specs.Answer.{refusalNumber, refusalPlace, refusalReply, shownOf, spelling}
+use Rattle.answers.specs.declared.Answer.the-variants.{Accepted, Refused}
+use Rattle.answers.specs.declared.Answer.{Answer}
 use mathlib.Core.List.{List}
 
 pub data Paper : Type 0 where
@@ -13,4 +12,4 @@ pub data Paper : Type 0 where
 
 abbrev pub paperOf : Answer → Paper
 paperOf (Accepted w s) = accepted (spelling w) (shownOf s)
-paperOf (Refused f) = refused (numberOf f) (placeOf f) (replyOf f)
+paperOf (Refused f) = refused (refusalNumber f) (refusalPlace f) (refusalReply f)

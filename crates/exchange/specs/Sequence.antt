@@ -1,8 +1,8 @@
 -- Sequences of events on a lent table, and what demand 3 says of them, in the words of the keeper's public contracts. Assumes nothing.
 use Prim.Native.Nat.{ℕ, _<_}
-use Rattle.call.specs.Answer.{numberOf}
-use Rattle.call.specs.declared.answers.Answer.the-variants.{Accepted, Refused}
-use Rattle.call.specs.declared.answers.Answer.{Answer}
+use Rattle.answers.specs.Answer.{refusalNumber}
+use Rattle.answers.specs.declared.Answer.the-variants.{Accepted, Refused}
+use Rattle.answers.specs.declared.Answer.{Answer}
 use Rattle.keeper.specs.Keeping.{Step, onMessage, onTick}
 use Rattle.message.specs.Parties.{callIdOf}
 use Rattle.message.specs.Reading.{reading}
@@ -10,7 +10,7 @@ use Rattle.message.specs.declared.reading.Reading.the-variants as readings
 use Rattle.message.specs.declared.reading.Reading.{Reading}
 use Rattle.rules.specs.Texts.{callIdRule}
 use Rattle.table.specs.Image.{recordAt}
-use Rattle.table.specs.Search.{placeOf}
+use Rattle.table.specs.Search.{placeNamed}
 use Rattle.table.specs.declared.searching.Found.the-variants.{At, Nothing}
 use Rattle.table.specs.declared.searching.Found.{Found}
 use lib.Dec.{eqb, ltb}
@@ -22,8 +22,8 @@ use mathlib.Core.Path.{_≡_}
 
 -- a time: any 64-bit number of milliseconds
 pub record Time : Type 0 where
-  pub value : ℕ
-  pub fits : value < 18446744073709551616
+  pub milliseconds : ℕ
+  pub fits : milliseconds < 18446744073709551616
 
 -- an event is a message or a tick for a Call-ID, with a time (01 Events)
 pub data Event : Type 0 where
@@ -32,8 +32,8 @@ pub data Event : Type 0 where
 
 -- what the public entry does with it
 abbrev pub step : List ℕ → Event → Step
-step t (message now s) = onMessage t (now .value) s
-step t (tick now id) = onTick t (now .value) id
+step t (message now s) = onMessage t (now .milliseconds) s
+step t (tick now id) = onTick t (now .milliseconds) id
 
 abbrev pub answer : List ℕ → Event → Answer
 answer t e = step t e .answer
@@ -42,9 +42,9 @@ abbrev pub next : List ℕ → Event → List ℕ
 next t e = step t e .table
 
 -- one event after the other: the table at the end, and every answer
-unfoldable pub run : List ℕ → List Event → List ℕ
-run t [] = t
-run t (e ∷ es) = run (next t e) es
+unfoldable pub afterAll : List ℕ → List Event → List ℕ
+afterAll t [] = t
+afterAll t (e ∷ es) = afterAll (next t e) es
 
 unfoldable pub answers : List ℕ → List Event → List Answer
 answers t [] = []
@@ -69,12 +69,12 @@ recordIn t (At k) = some (recordAt t k)
 recordIn t Nothing = none
 
 unfoldable pub recordNamed : List ℕ → List ℕ → Option (List ℕ)
-recordNamed id t = recordIn t (placeOf id t)
+recordNamed id t = recordIn t (placeNamed id t)
 
 -- an answer that is 'no room', number 27
 abbrev pub isNoRoom : Answer → Bool
 isNoRoom (Accepted w s) = false
-isNoRoom (Refused f) = eqb (numberOf f) 27
+isNoRoom (Refused f) = eqb (refusalNumber f) 27
 
 -- neither order answers 'no room' to either of the two
 pub record Roomy (t : List ℕ) (a b : Event) : Type 0 where
@@ -92,8 +92,8 @@ pub record Exchanged (t : List ℕ) (xs : List Event) (a b : Event) (ys : List E
   pub answers-ab : answers t (xs ++ a ∷ b ∷ ys) ≡ before ++ to-a ∷ to-b ∷ behind
   pub answers-ba : answers t (xs ++ b ∷ a ∷ ys) ≡ before ++ to-b ∷ to-a ∷ behind
   pub as-many : length before ≡ length xs
-  pub records : (id : List ℕ) → recordNamed id (run t (xs ++ a ∷ b ∷ ys)) ≡ recordNamed id (run t (xs ++ b ∷ a ∷ ys))
+  pub records : (id : List ℕ) → recordNamed id (afterAll t (xs ++ a ∷ b ∷ ys)) ≡ recordNamed id (afterAll t (xs ++ b ∷ a ∷ ys))
 
 -- a list of bytes, as every lent table is
-pub record Bytes (t : List ℕ) : Type 0 where
+pub record AllBytes (t : List ℕ) : Type 0 where
   pub each : (k : ℕ) → k < length t → getD t k 0 < 256

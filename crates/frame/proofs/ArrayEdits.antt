@@ -8,10 +8,9 @@ use Prim.Native.Nat.{ℕ, _+_}
 use native.Mathlib.Omega.{arith}
 use lib.ListN.{length, take, drop, length-append}
 use lib.Seq.{drop-append-seam, take-append-seam, drop-append-add}
-use Rattle.json.specs.Places.{behind, elements, bytes}
+use Rattle.json.specs.Places.{behind, elements, bytes, lastOf, prevOf}
 use Rattle.json.proofs.Listing.{Blank, Item, item, items, Good, Goods, values, stopsAt, array-read, array-stops}
-use Rattle.frame.specs.Edit.{added, removed}
-use Rattle.json.specs.Ends.{lastOf, prevOf, stopsOf}
+use Rattle.frame.specs.Edit.{added, removed, stopsOf}
 use Rattle.frame.proofs.Standing.{Val, Piece, piece-val}
 use Rattle.frame.proofs.Written.{items-append}
 
@@ -102,7 +101,9 @@ prev-snoc (x ∷ (y ∷ (w ∷ ws))) z = prev-snoc (y ∷ (w ∷ ws)) z
 stops-grow : (a : ℕ) (i : Item) (is : List Item) (x : List ℕ) → stopsAt a (grow₁ i is) (grow i is x) ≡ stopsAt a i is ++ ((a + length (front i is) + 1 + length x) ∷ [])
 unfolding stopsAt grow₁ grow front
 stops-grow a i [] x = ap (λ (n : ℕ). (a + length (i .w) + length (i .v)) ∷ (n ∷ [])) (simp length-append (omega arith))
-stops-grow a i (j ∷ js) x = ap (λ (l : List ℕ). (a + length (i .w) + length (i .v)) ∷ l) (stops-grow (a + length (i .w) + length (i .v) + length (i .u) + 1) j js x ∙ ap (λ (n : ℕ). stopsAt (a + length (i .w) + length (i .v) + length (i .u) + 1) j js ++ (n ∷ [])) (simp length-append (omega arith)))
+stops-grow a i (j ∷ js) x = ap (λ (l : List ℕ). (a + length (i .w) + length (i .v)) ∷ l)
+    (stops-grow (a + length (i .w) + length (i .v) + length (i .u) + 1) j js x
+    ∙ ap (λ (n : ℕ). stopsAt (a + length (i .w) + length (i .v) + length (i .u) + 1) j js ++ (n ∷ [])) (simp length-append (omega arith)))
 
 -- byte edits at a seam
 put-in : (f b y : List ℕ) (e : ℕ) → e ≡ length f → take e (f ++ b) ++ (y ++ drop e (f ++ b)) ≡ f ++ (y ++ b)
@@ -131,7 +132,8 @@ module _ (d : ℕ) (p : List ℕ) (i : Item) (is : List Item) (t : List ℕ) (h 
   unfolding added
   added-is x =
       let e = last-is in
-      rw (array-split) (put-in (p ++ (91 ∷ front i is)) (back i is ++ (93 ∷ t)) (44 ∷ x) _ (ap (λ (s : List ℕ). lastOf (stopsOf s (length p))) (sym array-split) ∙ e) ∙ simp (append-assoc, items-grow i is x t))
+      rw (array-split) (put-in (p ++ (91 ∷ front i is)) (back i is ++ (93 ∷ t)) (44 ∷ x) _ (ap (λ (s : List ℕ). lastOf (stopsOf s (length p))) (sym array-split) ∙ e)
+      ∙ simp (append-assoc, items-grow i is x t))
 
   grown-split : (x : List ℕ) → p ++ (91 ∷ items (grow₁ i is) (grow i is x) t) ≡ (p ++ (91 ∷ front i is)) ++ ((44 ∷ x) ++ (back i is ++ (93 ∷ t)))
   grown-split x = simp (append-assoc, items-grow i is x t)
@@ -141,7 +143,8 @@ module _ (d : ℕ) (p : List ℕ) (i : Item) (is : List Item) (t : List ℕ) (h 
   grown-stops = stops-are d p (grow₁ i is) (grow i is x) t (grow-solid d i is x h g) ∙ stops-grow (length p + 1) i is x
 
   -- the elements are the old ones and the new one
-  pub grown-elements : map (bytes (added (p ++ (91 ∷ items i is t)) (length p) x)) (elements (added (p ++ (91 ∷ items i is t)) (length p) x) (length p)) ≡ values (i ∷ is) ++ (x ∷ [])
+  pub grown-elements : map (bytes (added (p ++ (91 ∷ items i is t)) (length p) x)) (elements (added (p ++ (91 ∷ items i is t)) (length p) x) (length p)) ≡ values (i ∷ is)
+      ++ (x ∷ [])
   grown-elements = rw (added-is d p i is t h x) (array-elements d p (grow₁ i is) (grow i is x) t (grow-solid d i is x h g) ∙ grow-values i is x)
 
   -- and taking it off restores the text
@@ -151,8 +154,10 @@ module _ (d : ℕ) (p : List ℕ) (i : Item) (is : List Item) (t : List ℕ) (h 
       let s′ = p ++ (91 ∷ items (grow₁ i is) (grow i is x) t) in
       let f = p ++ (91 ∷ front i is) in
       let e₂ : prevOf (stopsOf s′ (length p)) ≡ length f = ap prevOf grown-stops ∙ prev-snoc _ _ ∙ stops-last (length p + 1) i is ∙ simp length-append (omega arith) in
-      let e₁ : lastOf (stopsOf s′ (length p)) ≡ length f + length (44 ∷ x) = ap lastOf grown-stops ∙ last-snoc (stopsAt (length p + 1) i is) (length p + 1 + length (front i is) + 1 + length x) ∙ simp length-append (omega arith) in
-      rw (added-is d p i is t h x) (ap (λ (r : List ℕ). take (prevOf (stopsOf s′ (length p))) r ++ drop (lastOf (stopsOf s′ (length p))) r) (grown-split d p i is t h x) ∙ take-out f (44 ∷ x) (back i is ++ (93 ∷ t)) _ _ e₂ e₁ ∙ sym (array-split d p i is t h))
+      let e₁ : lastOf (stopsOf s′ (length p)) ≡ length f + length (44 ∷ x) = ap lastOf grown-stops
+      ∙ last-snoc (stopsAt (length p + 1) i is) (length p + 1 + length (front i is) + 1 + length x) ∙ simp length-append (omega arith) in
+      rw (added-is d p i is t h x) (ap (λ (r : List ℕ). take (prevOf (stopsOf s′ (length p))) r ++ drop (lastOf (stopsOf s′ (length p))) r) (grown-split d p i is t h x)
+      ∙ take-out f (44 ∷ x) (back i is ++ (93 ∷ t)) _ _ e₂ e₁ ∙ sym (array-split d p i is t h))
 
 -- In any text around it: a and b stand for the rest of a message or of a reply.
 module _ (d : ℕ) (a b : List ℕ) (i : Item) (is : List Item) (h : Solids d i is) (x : List ℕ) (g : Piece d x) where
@@ -161,11 +166,13 @@ module _ (d : ℕ) (a b : List ℕ) (i : Item) (is : List Item) (h : Solids d i 
 
   -- adding to the array is adding to the text around it
   pub added-framed : a ++ (added (91 ∷ items i is []) 0 x ++ b) ≡ added (a ++ ((91 ∷ items i is []) ++ b)) (length a) x
-  added-framed = ap (λ (r : List ℕ). a ++ (r ++ b)) (added-is d [] i is [] h x) ∙ framed (grow₁ i is) (grow i is x) ∙ sym (added-is d a i is b h x) ∙ ap (λ (r : List ℕ). added r (length a) x) (sym (framed i is))
+  added-framed = ap (λ (r : List ℕ). a ++ (r ++ b)) (added-is d [] i is [] h x) ∙ framed (grow₁ i is) (grow i is x) ∙ sym (added-is d a i is b h x)
+      ∙ ap (λ (r : List ℕ). added r (length a) x) (sym (framed i is))
 
   -- and what was added to the array is taken off the text
   pub removed-framed : removed (a ++ (added (91 ∷ items i is []) 0 x ++ b)) (length a) ≡ a ++ ((91 ∷ items i is []) ++ b)
-  removed-framed = ap (λ (r : List ℕ). removed r (length a)) (added-framed ∙ ap (λ (r : List ℕ). added r (length a) x) (framed i is)) ∙ removed-added d a i is b h x g ∙ sym (framed i is)
+  removed-framed = ap (λ (r : List ℕ). removed r (length a)) (added-framed ∙ ap (λ (r : List ℕ). added r (length a) x) (framed i is)) ∙ removed-added d a i is b h x g
+      ∙ sym (framed i is)
 
 -- Taking the last element off, of two or more: i, j and js. Up to the end of the last but one; from there to the end of the last; and what is left.
 unfoldable pub prior : Item → Item → List Item → List ℕ
@@ -233,10 +240,14 @@ module _ (d : ℕ) (p : List ℕ) (i j : Item) (js : List Item) (t : List ℕ) (
       let f = p ++ (91 ∷ prior i j js) in
       let q = stops-are d p i (j ∷ js) t h in
       let e₂ : prevOf (stopsOf s (length p)) ≡ length f = ap prevOf q ∙ stops-prior (length p + 1) i j js ∙ simp length-append (omega arith) in
-      let e₁ : lastOf (stopsOf s (length p)) ≡ length f + length (gap i j js) = ap lastOf q ∙ stops-last (length p + 1) i (j ∷ js) ∙ ap (λ (x : List ℕ). length p + 1 + length x) (front-gap i j js) ∙ simp length-append (omega arith) in
-      let c : s ≡ f ++ (gap i j js ++ (back i (j ∷ js) ++ (93 ∷ t))) = array-split d p i (j ∷ js) t h ∙ ap (λ (x : List ℕ). (p ++ (91 ∷ x)) ++ (back i (j ∷ js) ++ (93 ∷ t))) (front-gap i j js) ∙ simp append-assoc in
-      ap (λ (r : List ℕ). take (prevOf (stopsOf s (length p))) r ++ drop (lastOf (stopsOf s (length p))) r) c ∙ take-out f (gap i j js) (back i (j ∷ js) ++ (93 ∷ t)) _ _ e₂ e₁ ∙ simp (append-assoc, items-shrink i j js t)
+      let e₁ : lastOf (stopsOf s (length p)) ≡ length f + length (gap i j js) = ap lastOf q ∙ stops-last (length p + 1) i (j ∷ js)
+      ∙ ap (λ (x : List ℕ). length p + 1 + length x) (front-gap i j js) ∙ simp length-append (omega arith) in
+      let c : s ≡ f ++ (gap i j js ++ (back i (j ∷ js) ++ (93 ∷ t))) = array-split d p i (j ∷ js) t h
+      ∙ ap (λ (x : List ℕ). (p ++ (91 ∷ x)) ++ (back i (j ∷ js) ++ (93 ∷ t))) (front-gap i j js) ∙ simp append-assoc in
+      ap (λ (r : List ℕ). take (prevOf (stopsOf s (length p))) r ++ drop (lastOf (stopsOf s (length p))) r) c ∙ take-out f (gap i j js) (back i (j ∷ js) ++ (93 ∷ t)) _ _ e₂ e₁
+      ∙ simp (append-assoc, items-shrink i j js t)
 
   -- the elements left are the old ones but the last
-  pub less-elements : map (bytes (removed (p ++ (91 ∷ items i (j ∷ js) t)) (length p))) (elements (removed (p ++ (91 ∷ items i (j ∷ js) t)) (length p)) (length p)) ≡ butLast (values (i ∷ j ∷ js))
+  pub less-elements : map (bytes (removed (p ++ (91 ∷ items i (j ∷ js) t)) (length p))) (elements (removed (p ++ (91 ∷ items i (j ∷ js) t)) (length p)) (length p)) ≡ butLast
+      (values (i ∷ j ∷ js))
   less-elements = rw removed-is (array-elements d p (shrink₁ i j js) (shrink i j js) t (shrink-solid d i j js h) ∙ shrink-values i j js)

@@ -9,7 +9,7 @@ use Prim.Native.Nat.{ℕ, suc, _+_}
 use native.Mathlib.Omega.{arith}
 use lib.ListN.{length, drop, length-append}
 use lib.Seq.{drop-append-seam}
-use Rattle.json.specs.Machine.{text, answer, value, after}
+use Rattle.json.specs.inner.Machine.{text, answer, value, after}
 use Rattle.json.specs.Places.{members, elements, spell, bytes}
 use Rattle.json.specs.declared.Walked.the-variants.{End}
 use Rattle.json.proofs.Listing.{Field, entry, body, Fine, Fines, Item, item, items, Goods, readAll, object-read, array-read, array-starts, startsAt}
@@ -70,7 +70,8 @@ told-all p (q ∷ qs) = ap (λ (l : List (List ℕ × List ℕ)). told p ∷ l) 
 module _ (d : ℕ) (p : Pair) (ps : List Pair) (h : Sounds d p ps) where
   -- THE LAW: wherever it stands, its members are those written
   pub compact-members : (s t : List ℕ) (o : ℕ) → drop o s ≡ compact p ps t → map (spell s) (members s o) ≡ map told (p ∷ ps)
-  compact-members s t o e = object-read (Val d) Named (λ v r x. x .sized) (λ n x. x .listed) s o (fieldOf p) (map fieldOf ps) t (fines-of d p ps h) (e ∙ ap (λ (r : List ℕ). 123 ∷ r) (compact-is p ps t)) ∙ told-all p ps
+  compact-members s t o e = object-read (Val d) Named (λ v r x. x .sized) (λ n x. x .listed) s o (fieldOf p) (map fieldOf ps) t (fines-of d p ps h)
+      (e ∙ ap (λ (r : List ℕ). 123 ∷ r) (compact-is p ps t)) ∙ told-all p ps
 
   -- and it stands by itself
   pub compact-piece : Piece (d + 1) (compact p ps [])
@@ -96,15 +97,20 @@ module _ (tag : List ℕ) (p : Pair) (ps : List Pair) (ht : plainly tag ≡ true
 
   tagged-items : tagged tag p ps ≡ 91 ∷ items tagItem (objectItem ∷ []) []
   unfolding tagged items item tagItem objectItem
-  tagged-items = ap (λ (r : List ℕ). 91 ∷ (34 ∷ (tag ++ (34 ∷ (44 ∷ r))))) (sym (compact-append 6 p ps h (93 ∷ []))) ∙ ap (λ (r : List ℕ). 91 ∷ (34 ∷ r)) (sym (append-assoc tag (34 ∷ []) (44 ∷ (compact p ps [] ++ (93 ∷ [])))))
+  tagged-items = ap (λ (r : List ℕ). 91 ∷ (34 ∷ (tag ++ (34 ∷ (44 ∷ r))))) (sym (compact-append 6 p ps h (93 ∷ [])))
+      ∙ ap (λ (r : List ℕ). 91 ∷ (34 ∷ r)) (sym (append-assoc tag (34 ∷ []) (44 ∷ (compact p ps [] ++ (93 ∷ [])))))
 
   both-good : Goods (Val 7) tagItem (objectItem ∷ [])
   unfolding tagItem objectItem
-  both-good = (record { before = tt; val = λ t. piece-val 7 (inQuotes tag) (44 ∷ t) (text-piece 7 tag ht); behind = tt }, record { before = tt; val = λ t. piece-val 7 (compact p ps []) (93 ∷ t) (compact-piece 6 p ps h); behind = tt })
+  both-good = (
+    record { before = tt; val = λ t. piece-val 7 (inQuotes tag) (44 ∷ t) (text-piece 7 tag ht); behind = tt },
+    record { before = tt; val = λ t. piece-val 7 (compact p ps []) (93 ∷ t) (compact-piece 6 p ps h); behind = tt },
+  )
 
   -- it is accepted
   pub tagged-accepted : answer (tagged tag p ps) ≡ End (length (tagged tag p ps))
-  tagged-accepted = whole (tagged tag p ps) (subst (λ (s : List ℕ). Reach s value (text 8) [] after (text 8)) (sym tagged-items) (array-goes 7 tagItem (objectItem ∷ []) [] (text 8) both-good (omega arith)))
+  tagged-accepted = whole (tagged tag p ps)
+      (subst (λ (s : List ℕ). Reach s value (text 8) [] after (text 8)) (sym tagged-items) (array-goes 7 tagItem (objectItem ∷ []) [] (text 8) both-good (omega arith)))
 
   -- its elements stand behind the bracket and at the object's place, and are the tag and the object
   pub tagged-places : elements (tagged tag p ps) 0 ≡ 1 ∷ objectAt tag ∷ []
@@ -122,7 +128,8 @@ module _ (tag : List ℕ) (p : Pair) (ps : List Pair) (ht : plainly tag ≡ true
   object-there =
       let e : tagged tag p ps ≡ (91 ∷ (34 ∷ (tag ++ (34 ∷ (44 ∷ []))))) ++ compact p ps (93 ∷ []) = simp append-assoc in
       let z : length tag + 4 ≡ length (91 ∷ (34 ∷ (tag ++ (34 ∷ (44 ∷ []))))) = simp length-append (omega arith) in
-      ap (λ (n : ℕ). drop n (tagged tag p ps)) z ∙ ap (drop (length (91 ∷ (34 ∷ (tag ++ (34 ∷ (44 ∷ []))))))) e ∙ drop-append-seam (91 ∷ (34 ∷ (tag ++ (34 ∷ (44 ∷ []))))) (compact p ps (93 ∷ []))
+      ap (λ (n : ℕ). drop n (tagged tag p ps)) z ∙ ap (drop (length (91 ∷ (34 ∷ (tag ++ (34 ∷ (44 ∷ []))))))) e
+      ∙ drop-append-seam (91 ∷ (34 ∷ (tag ++ (34 ∷ (44 ∷ []))))) (compact p ps (93 ∷ []))
 
   -- and the object's members those written
   pub tagged-members : map (spell (tagged tag p ps)) (members (tagged tag p ps) (objectAt tag)) ≡ map told (p ∷ ps)

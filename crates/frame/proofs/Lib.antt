@@ -5,3 +5,4 @@ pub mod ArrayEdits
 pub mod Parsed
 pub mod MessageShape
 pub mod Forwarding
+pub mod Marks

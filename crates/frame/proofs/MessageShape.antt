@@ -3,7 +3,7 @@
 -- `message-members`, `swap-read`). Cited by Forwarding. Assumes nothing.
 use mathlib.Core.Path.{_≡_, refl, sym, ap, subst, _∙_}
 use mathlib.Core.Logic.{_⊎_, inl, inr}
-use mathlib.Core.Bool.{Bool, true, false, _||_}
+use mathlib.Core.Bool.{Bool, true, false, _||_, cond}
 use mathlib.Core.List.{List, [], _∷_, _++_, append-assoc, append-nil, map}
 use Prim.Native.Nat.{ℕ, zero, suc, _+_, _≤_, _<_}
 use native.Mathlib.Omega.{arith}
@@ -11,18 +11,17 @@ use lib.ListN.{length, getD, drop, length-append}
 use lib.Seq.{drop-append-seam, getD-drop}
 use lib.Dec.{eqb}
 use borrow.Author.Tests.{eqb-true, eqb-false}
-use Rattle.json.specs.Machine.{text, value, after, isWs, answer}
-use Rattle.json.specs.Places.{pickL, spaces, past, follows, valueOf, membersFrom, members, elementsFrom, elements, bytes, spell}
+use Rattle.json.specs.inner.Machine.{text, value, after, answer}
+use Rattle.json.specs.Places.{spaces, past, follows, valueOf, membersFrom, members, elementsFrom, elements, bytes, spell, isWs}
 use Rattle.json.specs.declared.Walked.the-variants.{End}
-use Rattle.json.proofs.Listing.{Ink, Blank, Starts, Field, entry, aheadOf, body, Fine, Fines, Item, item, items, Good, Goods, read, readAll, startsAt, at-skip, at-next, at-byte, past-is, past-at, ws-44, ws-93, ws-125, more-on, member-is, entry-read, item-read, array-read, array-starts, array-long, elements-at, object-read, body-long}
+use Rattle.json.proofs.Listing.{Ink, Blank, Starts, Field, entry, aheadOf, body, Fine, Fines, Item, item, items, Good, Goods, read, readAll, startsAt, at-skip}
+use Rattle.json.proofs.Listing.{at-next, at-byte, past-is, past-at, ws-44, ws-93, ws-125, more-on, member-is, entry-read, item-read, array-read, array-starts}
+use Rattle.json.proofs.Listing.{array-long, elements-at, object-read, body-long, ws-91}
+use Rattle.json.proofs.StepLaws.{ws-value, ws-text}
 use Rattle.json.proofs.ScanLaws.{Opened}
 use Rattle.frame.proofs.Standing.{Reach, trans, Val, Piece, val-piece, piece-val}
-use Rattle.frame.proofs.Written.{ws-value, over-blank, Named, body-append, object-piece, array-goes, whole}
-use Rattle.frame.proofs.Parsed.{spaced, top-of, text-ws, piece-object}
-
-ws-91 : isWs 91 ≡ false
-unfolding isWs
-ws-91 = refl
+use Rattle.frame.proofs.Written.{over-blank, Named, body-append, object-piece, array-goes, whole}
+use Rattle.frame.proofs.Parsed.{spaced, top-of, piece-object}
 
 -- The value of member n, counted from 0, changed to v.
 abbrev pub swap₁ : ℕ → List ℕ → Field → Field
@@ -124,7 +123,8 @@ beyond-front (suc n) d f [] t h l = absurd (omega arith)
 beyond-front (suc n) d f (g ∷ gs) t h l = beyond-front n d g gs t (h .1) (omega arith)
 
 -- its place
-value-place : (n N d : ℕ) (s : List ℕ) (a : ℕ) (f : Field) (fs : List Field) (t : List ℕ) → Fines (Val d) Named f fs → length fs < N → n ≤ length fs → drop a s ≡ body f fs t → valueOf s (getD (membersFrom N s a) n 0) ≡ a + length (before n f fs)
+value-place : (n N d : ℕ) (s : List ℕ) (a : ℕ) (f : Field) (fs : List Field) (t : List ℕ) → Fines (Val d) Named f fs → length fs < N → n ≤ length fs → drop a s ≡ body f fs t
+    → valueOf s (getD (membersFrom N s a) n 0) ≡ a + length (before n f fs)
 unfolding membersFrom body before
 value-place n zero d s a f fs t h c m e = absurd (omega arith)
 value-place zero (suc N) d s a f [] t h c m e =
@@ -138,7 +138,9 @@ value-place (suc n) (suc N) d s a f (g ∷ gs) t h c m e =
     let r = entry-read (Val d) Named (λ v q x. x .sized) (λ n x. x .listed) 44 s a f (body g gs t) (h .0) ws-44 e in
     let y = follows s (valueOf s (past s a)) in
     let ih = value-place n N d s (y + 1) g gs t (h .1) (omega arith) (omega arith) (at-next 44 _ s y (r .rest)) in
-    ap (λ (z : List ℕ). valueOf s (getD z (suc n) 0)) (member-is s (membersFrom N s) (past s a) (r .quote) ∙ ap (λ (z : List ℕ). past s a ∷ z) (more-on s (body g gs t) (membersFrom N s) (valueOf s (past s a)) (r .rest))) ∙ ih ∙ simp length-append (omega (arith, r .next))
+    ap (λ (z : List ℕ). valueOf s (getD z (suc n) 0))
+    (member-is s (membersFrom N s) (past s a) (r .quote) ∙ ap (λ (z : List ℕ). past s a ∷ z) (more-on s (body g gs t) (membersFrom N s) (valueOf s (past s a)) (r .rest))) ∙ ih
+    ∙ simp length-append (omega (arith, r .next))
 
 -- The message: white space w, a tag i, white space jw and ju around its object, white space t.
 pub record Around : Type 0 where
@@ -193,8 +195,10 @@ module _ (m : Around) where
     unfolding message
     message-accepted =
         let r = array-goes 7 (m .i) (object f fs ∷ []) (m .t) (text 8) goods (omega arith) in
-        let e = over-blank (m .t) [] after (text 8) (a .ht) text-ws in
-        whole (m .w ++ (91 ∷ items (m .i) (object f fs ∷ []) (m .t))) (trans (over-blank (m .w) _ value (text 8) (a .hw) (ws-value (text 8))) (trans r (subst (λ (x : List ℕ). Reach x after (text 8) [] after (text 8)) (append-nil (m .t)) e)))
+        let e = over-blank (m .t) [] after (text 8) (a .ht) (λ b h. ws-text b h 8) in
+        whole (m .w ++ (91 ∷ items (m .i) (object f fs ∷ []) (m .t)))
+        (trans (over-blank (m .w) _ value (text 8) (a .hw) (ws-value (text 8)))
+        (trans r (subst (λ (x : List ℕ). Reach x after (text 8) [] after (text 8)) (append-nil (m .t)) e)))
 
     object-there : drop (length head) (message f fs) ≡ 123 ∷ body f fs tail
     object-there = ap (drop (length head)) (message-is f fs) ∙ drop-append-seam head (123 ∷ body f fs tail)
@@ -207,7 +211,9 @@ module _ (m : Around) where
     pub value-there : (n : ℕ) → n ≤ length fs → valueOf (message f fs) (getD (members (message f fs) (length head)) n 0) ≡ length (upTo n f fs)
     unfolding members
     value-there n l =
-        value-place n (length (message f fs)) 6 (message f fs) (length head + 1) f fs tail h (omega (arith, ap length (message-is f fs), length-append head (123 ∷ body f fs tail), body-long f fs tail)) l (at-next 123 _ (message f fs) (length head) object-there) ∙ simp length-append (omega arith)
+        value-place n (length (message f fs)) 6 (message f fs) (length head + 1) f fs tail h
+        (omega (arith, ap length (message-is f fs), length-append head (123 ∷ body f fs tail), body-long f fs tail)) l
+        (at-next 123 _ (message f fs) (length head) object-there) ∙ simp length-append (omega arith)
 
     array-there : drop (length (m .w)) (message f fs) ≡ 91 ∷ items (m .i) (object f fs ∷ []) (m .t)
     unfolding message
@@ -221,14 +227,18 @@ module _ (m : Around) where
     pub message-elements : elements (message f fs) (length (m .w)) ≡ (length (m .w) + 1 + length (m .i .w)) ∷ length head ∷ []
     unfolding head item startsAt
     message-elements =
-        let z : length (m .w) + 1 + length (m .i .w) + length (m .i .v) + length (m .i .u) + 1 + length (m .jw) ≡ length (m .w ++ (91 ∷ (m .i .w ++ (m .i .v ++ (m .i .u ++ (44 ∷ m .jw)))))) = simp length-append (omega arith) in
-        array-starts (Val 7) (λ v q x. x .sized) (message f fs) (length (m .w)) (m .i) (object f fs ∷ []) (m .t) goods array-there ∙ ap (λ (n : ℕ). (length (m .w) + 1 + length (m .i .w)) ∷ (n ∷ [])) z
+        let z : length (m .w) + 1 + length (m .i .w) + length (m .i .v) + length (m .i .u) + 1 + length (m .jw) ≡ length
+        (m .w ++ (91 ∷ (m .i .w ++ (m .i .v ++ (m .i .u ++ (44 ∷ m .jw)))))) = simp length-append (omega arith) in
+        array-starts (Val 7) (λ v q x. x .sized) (message f fs) (length (m .w)) (m .i) (object f fs ∷ []) (m .t) goods array-there
+        ∙ ap (λ (n : ℕ). (length (m .w) + 1 + length (m .i .w)) ∷ (n ∷ [])) z
 
     -- its tag is the one written
     pub message-tag : bytes (message f fs) (length (m .w) + 1 + length (m .i .w)) ≡ m .i .v
     message-tag =
-        let q : map (bytes (message f fs)) (elements (message f fs) (length (m .w))) ≡ m .i .v ∷ (123 ∷ body f fs []) ∷ [] = array-read (Val 7) (λ v q x. x .sized) (message f fs) (length (m .w)) (m .i) (object f fs ∷ []) (m .t) goods array-there in
-        let p : bytes (message f fs) (length (m .w) + 1 + length (m .i .w)) ∷ bytes (message f fs) (length head) ∷ [] ≡ m .i .v ∷ (123 ∷ body f fs []) ∷ [] = ap (map (bytes (message f fs))) (sym message-elements) ∙ q in
+        let q : map (bytes (message f fs)) (elements (message f fs) (length (m .w))) ≡ m .i .v ∷ (123 ∷ body f fs []) ∷ [] = array-read (Val 7) (λ v q x. x .sized) (message f fs)
+        (length (m .w)) (m .i) (object f fs ∷ []) (m .t) goods array-there in
+        let p : bytes (message f fs) (length (m .w) + 1 + length (m .i .w)) ∷ bytes (message f fs) (length head) ∷ [] ≡ m .i .v ∷ (123 ∷ body f fs []) ∷ [] = ap
+        (map (bytes (message f fs))) (sym message-elements) ∙ q in
         cc
 
 -- An accepted text of the right shape is such a message.
@@ -240,12 +250,21 @@ pub record Shape (s : List ℕ) : Type 0 where
   pub eq : s ≡ message m f fs
   pub good : Fines (Val 6) Named f fs
 
-shape-as : (s w : List ℕ) (i j : Item) (t r : List ℕ) → s ≡ w ++ (91 ∷ items i (j ∷ []) t) → Blank w → Good (Val 7) i 44 → Good (Val 7) j 93 → Blank t → j .v ≡ 123 ∷ r → ((t′ : List ℕ) → spaced r .t ≡ 125 ∷ t′ → ⊥) → Shape s
+shape-as : (s w : List ℕ) (i j : Item) (t r : List ℕ) → s ≡ w ++ (91 ∷ items i (j ∷ []) t) → Blank w → Good (Val 7) i 44 → Good (Val 7) j 93 → Blank t → j .v ≡ 123 ∷ r
+    → ((t′ : List ℕ) → spaced r .t ≡ 125 ∷ t′ → ⊥) → Shape s
 unfolding message items item
 shape-as s w i j t r e hw hi gj ht b n =
     let p = val-piece 7 (j .v) (j .u ++ (93 ∷ [])) (gj .val []) (subst Opened (sym b) (inr (inr refl))) in
     let q = piece-object 7 r (subst (Piece 7) b p) n in
-    record { m = record { w = w; i = i; jw = j .w; ju = j .u; t = t }; fine = record { hw = hw; hi = hi; hj = gj .before; hu = gj .behind; ht = ht }; f = q .f; fs = q .fs; eq = e ∙ ap (λ (v : List ℕ). w ++ (91 ∷ (i .w ++ (i .v ++ (i .u ++ (44 ∷ (j .w ++ (v ++ (j .u ++ (93 ∷ t)))))))))) (b ∙ ap (λ (x : List ℕ). 123 ∷ x) (q .eq)); good = q .good }
+    record {
+      m = record { w = w; i = i; jw = j .w; ju = j .u; t = t };
+      fine = record { hw = hw; hi = hi; hj = gj .before; hu = gj .behind; ht = ht };
+      f = q .f;
+      fs = q .fs;
+      eq = e
+          ∙ ap (λ (v : List ℕ). w ++ (91 ∷ (i .w ++ (i .v ++ (i .u ++ (44 ∷ (j .w ++ (v ++ (j .u ++ (93 ∷ t)))))))))) (b ∙ ap (λ (x : List ℕ). 123 ∷ x) (q .eq));
+      good = q .good;
+    }
 
 -- the byte past the white space
 pub seen : (s w t : List ℕ) (a b : ℕ) → Blank w → (b ∷ t ≡ []) ⊎ Ink (b ∷ t) → drop a s ≡ w ++ (b ∷ t) → getD s (past s a) 0 ≡ b
@@ -277,14 +296,15 @@ at-end : (s : List ℕ) (x : ℕ) → drop x s ≡ [] → getD s x 0 ≡ 0
 at-end s x e = let z : x ≡ x + 0 = omega arith in ap (λ (y : ℕ). getD s y 0) z ∙ sym (getD-drop x s 0 0) ∙ ap (λ (l : List ℕ). getD l 0 0) e
 
 ahead-as : (s w t : List ℕ) (a b : ℕ) → Blank w → (t ≡ []) ⊎ Ink t → drop a s ≡ w ++ t → getD s (past s a) 0 ≡ b → 0 < b → (r : List ℕ) × (t ≡ b ∷ r)
-ahead-as s w [] a b h i e g o = let z : getD s (past s a) 0 ≡ 0 = ap (λ (x : ℕ). getD s x 0) (past-end s w a h e) ∙ at-end s (a + length w) (at-skip w [] s a e) in absurd (omega arith)
+ahead-as s w [] a b h i e g o = let z : getD s (past s a) 0 ≡ 0 = ap (λ (x : ℕ). getD s x 0) (past-end s w a h e) ∙ at-end s (a + length w) (at-skip w [] s a e) in
+    absurd (omega arith)
 ahead-as s w (x ∷ t) a b h i e g o = (t, ap (λ (y : ℕ). y ∷ t) (sym (seen s w t a x h i e) ∙ g))
 
 ahead-is : (s r : List ℕ) (a b : ℕ) → drop a s ≡ r → getD s (past s a) 0 ≡ b → 0 < b → (t : List ℕ) × (spaced r .t ≡ b ∷ t)
 ahead-is s r a b e g o = let p = spaced r in ahead-as s (p .w) (p .t) a b (p .ws) (p .ink) (e ∙ p .is) g o
 
 -- an array with elements does not close at once
-not-empty-by : (s : List ℕ) (o x : ℕ) (xs : List ℕ) (t : Bool) → pickL t [] (elementsFrom (length s) s (o + 1)) ≡ x ∷ xs → t ≡ false
+not-empty-by : (s : List ℕ) (o x : ℕ) (xs : List ℕ) (t : Bool) → cond t [] (elementsFrom (length s) s (o + 1)) ≡ x ∷ xs → t ≡ false
 not-empty-by s o x xs true e = let z : _≡_ {A = ℕ} 0 1 = cc in absurd (omega arith)
 not-empty-by s o x xs false e = refl
 
@@ -304,7 +324,8 @@ restAt zero i (j ∷ js) t = i .u ++ (44 ∷ items j js t)
 restAt (suc m) i [] t = []
 restAt (suc m) i (j ∷ js) t = restAt m j js t
 
-element-place : (m N d : ℕ) (s : List ℕ) (a : ℕ) (i : Item) (is : List Item) (t : List ℕ) → Goods (Val d) i is → length is < N → m ≤ length is → drop a s ≡ items i is t → drop (getD (elementsFrom N s a) m 0) s ≡ itemAt m i is .v ++ restAt m i is t
+element-place : (m N d : ℕ) (s : List ℕ) (a : ℕ) (i : Item) (is : List Item) (t : List ℕ) → Goods (Val d) i is → length is < N → m ≤ length is → drop a s ≡ items i is t
+    → drop (getD (elementsFrom N s a) m 0) s ≡ itemAt m i is .v ++ restAt m i is t
 unfolding elementsFrom items
 element-place m zero d s a i is t h c n e = absurd (omega arith)
 element-place zero (suc N) d s a i [] t h c n e = item-read (Val d) (λ v q x. x .sized) 93 s a i t h ws-93 e .start
@@ -313,7 +334,8 @@ element-place (suc m) (suc N) d s a i [] t h c n e = absurd (omega arith)
 element-place (suc m) (suc N) d s a i (j ∷ js) t h c n e =
     let r = item-read (Val d) (λ v q x. x .sized) 44 s a i (items j js t) (h .0) ws-44 e in
     let y = follows s (past s a) in
-    ap (λ (z : List ℕ). drop (getD z m 0) s) (more-on s (items j js t) (elementsFrom N s) (past s a) (r .rest)) ∙ element-place m N d s (y + 1) j js t (h .1) (omega arith) (omega arith) (at-next 44 _ s y (r .rest))
+    ap (λ (z : List ℕ). drop (getD z m 0) s) (more-on s (items j js t) (elementsFrom N s) (past s a) (r .rest))
+    ∙ element-place m N d s (y + 1) j js t (h .1) (omega arith) (omega arith) (at-next 44 _ s y (r .rest))
 
 -- two elements: the second, and what stands from it on
 record Second (s : List ℕ) (i : Item) (is : List Item) (t : List ℕ) (o y : ℕ) : Type 0 where
@@ -321,14 +343,17 @@ record Second (s : List ℕ) (i : Item) (is : List Item) (t : List ℕ) (o y : �
   is′ : is ≡ j ∷ []
   on : drop y s ≡ j .v ++ (j .u ++ (93 ∷ t))
 
-second : (s : List ℕ) (i : Item) (is : List Item) (t : List ℕ) (o x y : ℕ) → drop o s ≡ 91 ∷ items i is t → Goods (Val 7) i is → length is < length s → startsAt (o + 1) i is ≡ x ∷ (y ∷ []) → elementsFrom (length s) s (o + 1) ≡ x ∷ (y ∷ []) → Second s i is t o y
+second : (s : List ℕ) (i : Item) (is : List Item) (t : List ℕ) (o x y : ℕ) → drop o s ≡ 91 ∷ items i is t → Goods (Val 7) i is → length is < length s
+    → startsAt (o + 1) i is ≡ x ∷ (y ∷ []) → elementsFrom (length s) s (o + 1) ≡ x ∷ (y ∷ []) → Second s i is t o y
 unfolding startsAt
 second s i [] t o x y e g c q p = let z : _≡_ {A = ℕ} 0 1 = cc in absurd (omega arith)
-second s i (j ∷ []) t o x y e g c q p = record { j = j; is′ = refl; on = ap (λ (l : List ℕ). drop (getD l 1 0) s) (sym p) ∙ element-place 1 (length s) 7 s (o + 1) i (j ∷ []) t g c (omega arith) (at-next 91 _ s o e) }
+second s i (j ∷ []) t o x y e g c q p = record
+    { j = j; is′ = refl; on = ap (λ (l : List ℕ). drop (getD l 1 0) s) (sym p) ∙ element-place 1 (length s) 7 s (o + 1) i (j ∷ []) t g c (omega arith) (at-next 91 _ s o e) }
 second s i (j ∷ (k ∷ [])) t o x y e g c q p = let z : _≡_ {A = ℕ} 0 1 = cc in absurd (omega arith)
 second s i (j ∷ (k ∷ (l ∷ ls))) t o x y e g c q p = let z : _≡_ {A = ℕ} 0 1 = cc in absurd (omega arith)
 
-second-of : (s : List ℕ) (i : Item) (is : List Item) (t : List ℕ) (o x y : ℕ) → drop o s ≡ 91 ∷ items i is t → Goods (Val 7) i is → elements s o ≡ x ∷ (y ∷ []) → Second s i is t o y
+second-of : (s : List ℕ) (i : Item) (is : List Item) (t : List ℕ) (o x y : ℕ) → drop o s ≡ 91 ∷ items i is t → Goods (Val 7) i is → elements s o ≡ x ∷ (y ∷ [])
+    → Second s i is t o y
 second-of s i is t o x y e g h =
     let c = array-long (Val 7) (λ v q x. x .sized) s o i is t g e in
     second s i is t o x y e g c (sym (array-starts (Val 7) (λ v q x. x .sized) s o i is t g e) ∙ h) (sym (elements-at (Val 7) (λ v q x. x .sized) s o i is t g e) ∙ h)
@@ -337,11 +362,13 @@ second-of s i is t o x y e g h =
 pub full : (s r q : List ℕ) (y : ℕ) → drop y s ≡ (123 ∷ r) ++ q → (getD s (past s (y + 1)) 0 ≡ 125 → ⊥) → (t : List ℕ) → spaced r .t ≡ 125 ∷ t → ⊥
 full s r q y e n t g =
     let p = spaced r in
-    let d : drop (y + 1) s ≡ p .w ++ (125 ∷ (t ++ q)) = at-next 123 _ s y e ∙ ap (λ (z : List ℕ). z ++ q) (p .is ∙ ap (λ (z : List ℕ). p .w ++ z) g) ∙ append-assoc (p .w) (125 ∷ t) q in
+    let d : drop (y + 1) s ≡ p .w ++ (125 ∷ (t ++ q)) = at-next 123 _ s y e ∙ ap (λ (z : List ℕ). z ++ q) (p .is ∙ ap (λ (z : List ℕ). p .w ++ z) g)
+    ∙ append-assoc (p .w) (125 ∷ t) q in
     n (seen s (p .w) (t ++ q) (y + 1) 125 (p .ws) (inr ws-125) d)
 
 -- THE CONVERSE, in the reader's words: an accepted text that is an array of two, the second an object with members, has the form of a message
-pub accepted : (s : List ℕ) (e x y : ℕ) → answer s ≡ End e → getD s (past s 0) 0 ≡ 91 → elements s (past s 0) ≡ x ∷ (y ∷ []) → getD s y 0 ≡ 123 → (getD s (past s (y + 1)) 0 ≡ 125 → ⊥) → Shape s
+pub accepted : (s : List ℕ) (e x y : ℕ) → answer s ≡ End e → getD s (past s 0) 0 ≡ 91 → elements s (past s 0) ≡ x ∷ (y ∷ []) → getD s y 0 ≡ 123
+    → (getD s (past s (y + 1)) 0 ≡ 125 → ⊥) → Shape s
 accepted s e x y h b el g n =
     let r = ahead-is s s 0 91 refl b (omega arith) in
     let p = spaced s in
@@ -351,12 +378,14 @@ accepted s e x y h b el g n =
     let m = second-of s (top .i) (top .is) (top .t) (past s 0) x y d₁ (top .good) el in
     let gj = subst (λ (z : List Item). Goods (Val 7) (top .i) z) (m .is′) (top .good) in
     let v = starts-with (m .j .v) _ s y 123 (gj .1 .val [] .sized .starts) (m .on) g in
-    shape-as s (top .w) (top .i) (m .j) (top .t) (v .0) (top .eq ∙ ap (λ (z : List Item). top .w ++ (91 ∷ items (top .i) z (top .t))) (m .is′)) (top .before) (gj .0) (gj .1) (top .behind) (v .1) (full s (v .0) _ y (m .on ∙ ap (λ (z : List ℕ). z ++ (m .j .u ++ (93 ∷ top .t))) (v .1)) n)
+    shape-as s (top .w) (top .i) (m .j) (top .t) (v .0) (top .eq ∙ ap (λ (z : List Item). top .w ++ (91 ∷ items (top .i) z (top .t))) (m .is′)) (top .before) (gj .0) (gj .1)
+    (top .behind) (v .1) (full s (v .0) _ y (m .on ∙ ap (λ (z : List ℕ). z ++ (m .j .u ++ (93 ∷ top .t))) (v .1)) n)
 
 -- Its object stands behind its head.
 pub shape-place : (s : List ℕ) (h : Shape s) (x y : ℕ) → elements s (past s 0) ≡ x ∷ (y ∷ []) → y ≡ length (head (h .m))
 shape-place s h x y el =
     let q : elements s (past s 0) ≡ (length (h .m .w) + 1 + length (h .m .i .w)) ∷ length (head (h .m)) ∷ [] =
-    ap (λ (r : List ℕ). elements r (past r 0)) (h .eq) ∙ ap (elements (message (h .m) (h .f) (h .fs))) (message-start (h .m) (h .fine) (h .f) (h .fs) (h .good)) ∙ message-elements (h .m) (h .fine) (h .f) (h .fs) (h .good) in
+    ap (λ (r : List ℕ). elements r (past r 0)) (h .eq) ∙ ap (elements (message (h .m) (h .f) (h .fs))) (message-start (h .m) (h .fine) (h .f) (h .fs) (h .good))
+    ∙ message-elements (h .m) (h .fine) (h .f) (h .fs) (h .good) in
     let p : _≡_ {A = List ℕ} (x ∷ (y ∷ [])) ((length (h .m .w) + 1 + length (h .m .i .w)) ∷ length (head (h .m)) ∷ []) = sym el ∙ q in
     cc

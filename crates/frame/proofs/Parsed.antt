@@ -3,7 +3,7 @@
 -- that is an array (`top-of`). Cited by Forwarding. Assumes nothing.
 use mathlib.Core.Path.{_≡_, refl, sym, ap, subst, _∙_}
 use mathlib.Core.Logic.{_⊎_, inl, inr}
-use mathlib.Core.Bool.{Bool, true, false, _||_}
+use mathlib.Core.Bool.{Bool, true, false, or-true}
 use mathlib.Core.List.{List, [], _∷_, _++_, append-nil}
 use Prim.Native.Nat.{ℕ, zero, suc, _+_, _-_, _≤_, _<_}
 use native.Mathlib.Omega.{arith}
@@ -11,8 +11,9 @@ use lib.ListN.{length, length-append}
 use lib.Dec.{eqb, ltb}
 use borrow.Author.Tests.{eqb-true}
 use Rattle.octets.specs.Class.{isDigit, among}
-use Rattle.json.specs.Machine.{Stack, alone, text, arr, obj, levels, label, Mode, value, first, name, name₁, colon, after, str, esc, hex, hexes, isHex, isEsc, Next, live, dead, deep, done, isWs, begin, opens, ends, step, over, stops, takes, walk, from, answer}
-use Rattle.json.specs.Places.{isShut, isMark, Inside, quoted, escaped, left}
+use Rattle.json.specs.inner.Machine.{Stack, alone, text, arr, obj, levels, label, Mode, value, first, name, name₁, colon, after, str, esc, hex, hexes}
+use Rattle.json.specs.inner.Machine.{isHexDigit, isEsc, Next, live, dead, deep, done, begin, opens, ends, step, over, stops, takes, walk, from, answer}
+use Rattle.json.specs.Places.{isShut, isMark, Inside, quoted, escaped, left, isWs}
 use Rattle.json.specs.declared.Walked.the-variants.{End}
 use Rattle.json.proofs.PlaceLaws.{left-none}
 use Rattle.json.proofs.Listing.{Ink, Blank, Starts, starts-ink, Field, entry, body, Fine, Fines, Item, item, items, Goods}
@@ -20,7 +21,10 @@ use Rattle.json.proofs.OwnBytes.{then, run, onto, In, Lifts, on, no, sunk, late
 use Rattle.json.proofs.ScanLaws.{left-closes, left-back, left-char, left-taken, hex-34, hex-92}
 use Rattle.json.proofs.EndLaws.{run-size, walk-over}
 use Rattle.frame.proofs.Standing.{Reach, here, trans, hop, ran, Val, Piece}
-use Rattle.frame.proofs.Written.{ws-colon, ws-value, ws-name, ws-name₁, ws-obj, ws-arr, ws-first, arr-comma, arr-close, obj-comma, obj-close, brace, bracket, at-colon, quote-label, name-quote, over-blank, Named, object-goes, array-goes, first-as}
+use Rattle.frame.proofs.Written.{over-blank, Named, object-goes, array-goes, first-as}
+use Rattle.json.proofs.MoveLaws.{trail}
+use Rattle.json.proofs.StepLaws.{ws-colon, ws-value, ws-name, ws-name₁, ws-text, ws-obj, ws-arr, ws-first, arr-comma, arr-close, obj-comma, obj-close}
+use Rattle.json.proofs.StepLaws.{value-arr, value-obj, str-quote, colon-hit, name-quote}
 
 -- the machine goes on to the end
 pub record Acc (bs : List ℕ) (m : Mode) (k : Stack) : Type 0 where
@@ -87,19 +91,31 @@ unfolding onto
 like-at d b m s a y g k l = ap (λ (x : Stack). step m (onto k x) b) (sym y) ∙ late-is (lift-step d k l m s a b) g
 
 module _ (d : ℕ) (k : Stack) (l : levels k ≡ d) (o : Within k) where
-  lead-next : (b : ℕ) (bs : List ℕ) (m : Mode) (s : Stack) (i e : ℕ) (n n′ : Next) → In d m s → step m s b ≡ n → Lifts d k m s b n n′ → ((m′ : Mode) (s′ : Stack) → In d m′ s′ → walk bs m′ (onto k s′) (i + 1) ≡ End e → Lead d bs m′ s′) → takes n′ (walk bs) i ≡ End e → Lead d (b ∷ bs) m s
+  lead-next : (b : ℕ) (bs : List ℕ) (m : Mode) (s : Stack) (i e : ℕ) (n n′ : Next) → In d m s → step m s b ≡ n → Lifts d k m s b n n′
+      → ((m′ : Mode) (s′ : Stack) → In d m′ s′ → walk bs m′ (onto k s′) (i + 1) ≡ End e → Lead d bs m′ s′) → takes n′ (walk bs) i ≡ End e → Lead d (b ∷ bs) m s
   unfolding run
   lead-next b bs m s i e (live m′ s′) n′ a g (on x h) ih q =
       let r = ih m′ s′ h (ap (λ (n : Next). takes n (walk bs) i) (sym x) ∙ q) in
-      record { v = b ∷ r .v; b = r .b; q = r .q; m′ = r .m′; is = ap (λ (z : List ℕ). b ∷ z) (r .is); runs = ap (λ (n : Next). then n (run (r .v))) g ∙ r .runs; fin = r .fin; like = r .like }
+      record {
+        v = b ∷ r .v;
+        b = r .b;
+        q = r .q;
+        m′ = r .m′;
+        is = ap (λ (z : List ℕ). b ∷ z) (r .is);
+        runs = ap (λ (n : Next). then n (run (r .v))) g ∙ r .runs;
+        fin = r .fin;
+        like = r .like;
+      }
   lead-next b bs m s i e dead n′ a g no ih q = let z : _≡_ {A = ℕ} 0 1 = cc in absurd (omega arith)
   lead-next b bs m s i e deep n′ a g (sunk f) ih q = let y = f l in let z : _≡_ {A = ℕ} 0 1 = cc in absurd (omega arith)
-  lead-next b bs m s i e done n′ a g (late x y w) ih q = record { v = []; b = b; q = bs; m′ = m; is = refl; runs = ap (live m) y; fin = x; like = λ k′ l′. like-at d b m s a y g k′ l′ }
+  lead-next b bs m s i e done n′ a g (late x y w) ih q = record
+      { v = []; b = b; q = bs; m′ = m; is = refl; runs = ap (live m) y; fin = x; like = λ k′ l′. like-at d b m s a y g k′ l′ }
 
   lead : (bs : List ℕ) (m : Mode) (s : Stack) (i e : ℕ) → In d m s → walk bs m (onto k s) i ≡ End e → Lead d bs m s
   unfolding walk
   lead [] m s i e h q = absurd (stops-onto m k s i e o q)
-  lead (b ∷ bs) m s i e h q = lead-next b bs m s i e (step m s b) (step m (onto k s) b) h refl (lift-step d k (omega arith) m s h b) (λ m₁ s₁ h₁ q₁. lead bs m₁ s₁ (i + 1) e h₁ q₁) q
+  lead (b ∷ bs) m s i e h q = lead-next b bs m s i e (step m s b) (step m (onto k s) b) h refl (lift-step d k (omega arith) m s h b) (λ m₁ s₁ h₁ q₁. lead bs m₁ s₁ (i + 1) e h₁ q₁)
+      q
 
   lead-in : (bs : List ℕ) → Acc bs value k → Lead d bs value (alone d)
   unfolding onto
@@ -128,7 +144,8 @@ value-close k = refl
 
 starts-by : (d b : ℕ) (v : List ℕ) (m′ : Mode) (x : Bool) → eqb b 93 ≡ x → run (b ∷ v) value (alone d) ≡ live m′ (alone d) → eqb b 93 ≡ false
 unfolding run
-starts-by d b v m′ true h e = let g = eqb-true b 93 h in let y : step value (alone d) b ≡ dead = ap (step value (alone d)) g ∙ value-close (alone d) in let f : dead ≡ live m′ (alone d) = sym (ap (λ (n : Next). then n (run v)) y) ∙ e in cc
+starts-by d b v m′ true h e = let g = eqb-true b 93 h in let y : step value (alone d) b ≡ dead = ap (step value (alone d)) g ∙ value-close (alone d) in
+    let f : dead ≡ live m′ (alone d) = sym (ap (λ (n : Next). then n (run v)) y) ∙ e in cc
 starts-by d b v m′ false h e = h
 
 lead-starts : (d : ℕ) (v q : List ℕ) (m′ : Mode) → Ink (v ++ q) → run v value (alone d) ≡ live m′ (alone d) → over m′ ≡ true → Starts v
@@ -168,10 +185,6 @@ arr-mark k b t false true z h₁ h₂ h₃ a = simp (h₁, h₂)
 arr-mark k b t false false true h₁ h₂ h₃ a = simp (h₁, h₂, h₃)
 arr-mark k b t false false false h₁ h₂ h₃ a = absurd (acc-dead b t after (arr k) (arr-dead k b h₁ h₂ h₃) a)
 
-or-true : (x : Bool) → (x || true) ≡ true
-or-true true = refl
-or-true false = refl
-
 obj-mark : (k : Stack) (b : ℕ) (t : List ℕ) (x y z : Bool) → isWs b ≡ x → eqb b 44 ≡ y → eqb b 125 ≡ z → Acc (b ∷ t) after (obj k) → isMark b ≡ true
 unfolding isMark isShut
 obj-mark k b t true y z h₁ h₂ h₃ a = simp h₁
@@ -193,8 +206,8 @@ behind-val d b v q (y ∷ u) x t g e t′ = let z : b ≡ y = cc in subst (λ (y
 ws-after : (k : Stack) → Within k → (b : ℕ) → isWs b ≡ true → step after k b ≡ live after k
 ws-after (alone d) o b h = absurd o
 ws-after (text d) o b h = absurd o
-ws-after (arr k) o b h = ws-arr k b h
-ws-after (obj k) o b h = ws-obj k b h
+ws-after (arr k) o b h = ws-arr b h k
+ws-after (obj k) o b h = ws-obj b h k
 
 -- a value inside a bracket, the white space around it and the byte behind that
 record Ahead (d : ℕ) (bs : List ℕ) (k : Stack) : Type 0 where
@@ -211,10 +224,12 @@ record Ahead (d : ℕ) (bs : List ℕ) (k : Stack) : Type 0 where
   acc : Acc (x ∷ t) after k
 
 module _ (d : ℕ) (k : Stack) (l : levels k ≡ d) (o : Within k) where
-  ahead-end : (w v : List ℕ) (b : ℕ) (q u t₂ : List ℕ) → Blank w → ((t : List ℕ) → Val d v (b ∷ t)) → b ∷ q ≡ u ++ t₂ → Blank u → (t₂ ≡ []) ⊎ Ink t₂ → Acc t₂ after k → Ahead d (w ++ (v ++ (b ∷ q))) k
+  ahead-end : (w v : List ℕ) (b : ℕ) (q u t₂ : List ℕ) → Blank w → ((t : List ℕ) → Val d v (b ∷ t)) → b ∷ q ≡ u ++ t₂ → Blank u → (t₂ ≡ []) ⊎ Ink t₂ → Acc t₂ after k
+      → Ahead d (w ++ (v ++ (b ∷ q))) k
   ahead-end w v b q u [] hw g e hu i a = absurd (no-stop after k o a)
   ahead-end w v b q u (x ∷ t) hw g e hu (inl i) a = let z : _≡_ {A = ℕ} 0 1 = cc in absurd (omega arith)
-  ahead-end w v b q u (x ∷ t) hw g e hu (inr i) a = record { w = w; v = v; u = u; x = x; t = t; is = ap (λ (r : List ℕ). w ++ (v ++ r)) e; before = hw; val = behind-val d b v q u x t g e; behind = hu; ink = i; acc = a }
+  ahead-end w v b q u (x ∷ t) hw g e hu (inr i) a = record
+      { w = w; v = v; u = u; x = x; t = t; is = ap (λ (r : List ℕ). w ++ (v ++ r)) e; before = hw; val = behind-val d b v q u x t g e; behind = hu; ink = i; acc = a }
 
   ahead-value : (w t : List ℕ) → Blank w → Ink t → Acc t value k → Ahead d (w ++ t) k
   ahead-value w t hw i a =
@@ -232,7 +247,8 @@ module _ (d : ℕ) (k : Stack) (l : levels k ≡ d) (o : Within k) where
   ahead : (bs : List ℕ) → Acc bs value k → Ahead d bs k
   ahead bs a =
       let s = spaced bs in
-      subst (λ (z : List ℕ). Ahead d z k) (sym (s .is)) (ahead-ink (s .w) (s .t) (s .ws) (s .ink) (acc-on (over-blank (s .w) (s .t) value k (s .ws) (ws-value k)) (subst (λ (z : List ℕ). Acc z value k) (s .is) a)))
+      subst (λ (z : List ℕ). Ahead d z k) (sym (s .is))
+      (ahead-ink (s .w) (s .t) (s .ws) (s .ink) (acc-on (over-blank (s .w) (s .t) value k (s .ws) (ws-value k)) (subst (λ (z : List ℕ). Acc z value k) (s .is) a)))
 
 -- The elements of an array.
 pub record Elements (d : ℕ) (bs : List ℕ) (k : Stack) : Type 0 where
@@ -244,12 +260,13 @@ pub record Elements (d : ℕ) (bs : List ℕ) (k : Stack) : Type 0 where
   pub more : Acc t after k
 
 module _ (d : ℕ) where
-  elements-end : (bs : List ℕ) (k : Stack) (r : Ahead d bs (arr k)) (x y : Bool) → eqb (r .x) 44 ≡ x → eqb (r .x) 93 ≡ y → (Acc (r .t) value (arr k) → Elements d (r .t) k) → Elements d bs k
+  elements-end : (bs : List ℕ) (k : Stack) (r : Ahead d bs (arr k)) (x y : Bool) → eqb (r .x) 44 ≡ x → eqb (r .x) 93 ≡ y → (Acc (r .t) value (arr k) → Elements d (r .t) k)
+      → Elements d bs k
   unfolding items item
   elements-end bs k r true y h g f =
       let z = eqb-true (r .x) 44 h in
       let a : Acc (44 ∷ r .t) after (arr k) = subst (λ (b : ℕ). Acc (b ∷ r .t) after (arr k)) z (r .acc) in
-      let q = f (acc-on (hop (arr-comma k)) a) in
+      let q = f (acc-on (hop (arr-comma k 44 refl)) a) in
       record {
         i = record { w = r .w; v = r .v; u = r .u };
         is = q .i ∷ q .is;
@@ -267,7 +284,7 @@ module _ (d : ℕ) where
         t = r .t;
         eq = r .is ∙ ap (λ (b : ℕ). r .w ++ (r .v ++ (r .u ++ (b ∷ r .t)))) z;
         good = record { before = r .before; val = subst (λ (b : ℕ). (t′ : List ℕ) → Val d (r .v) (r .u ++ (b ∷ t′))) z (r .val); behind = r .behind };
-        more = acc-on (hop (arr-close k)) a;
+        more = acc-on (hop (arr-close k 93 refl)) a;
       }
   elements-end bs k r false false h g f = absurd (acc-dead (r .x) (r .t) after (arr k) (arr-dead k (r .x) (r .ink) h g) (r .acc))
 
@@ -304,10 +321,19 @@ record Naming (bs : List ℕ) (x : Spot) (k : Stack) : Type 0 where
   acc : Acc (34 ∷ t) (str label) k
 
 -- one byte more
-naming-by : (b : ℕ) (bs : List ℕ) (x y : Spot) (k : Stack) → ((k : Stack) → step (mode x) k b ≡ live (mode y) k) → ((l : List ℕ) → left (b ∷ l) (spotIn x) 0 ≡ suc (left l (spotIn y) 0)) → (Acc bs (mode y) k → Naming bs y k) → Acc (b ∷ bs) (mode x) k → Naming (b ∷ bs) x k
+naming-by : (b : ℕ) (bs : List ℕ) (x y : Spot) (k : Stack) → ((k : Stack) → step (mode x) k b ≡ live (mode y) k)
+    → ((l : List ℕ) → left (b ∷ l) (spotIn x) 0 ≡ suc (left l (spotIn y) 0)) → (Acc bs (mode y) k → Naming bs y k) → Acc (b ∷ bs) (mode x) k → Naming (b ∷ bs) x k
 naming-by b bs x y k h g f a =
     let r = f (acc-on (hop (h k)) a) in
-    record { n = b ∷ r .n; t = r .t; is = ap (λ (l : List ℕ). b ∷ l) (r .is); goes = λ k′ t. trans (hop (h k′)) (r .goes k′ t); closes = λ t. g (r .n ++ (34 ∷ t)) ∙ ap suc (r .closes t); acc = r .acc }
+    record {
+      n = b ∷ r .n;
+      t = r .t;
+      is = ap (λ (l : List ℕ). b ∷ l) (r .is);
+      goes = λ k′ t. trans (hop (h k′)) (r .goes k′ t);
+      closes = λ t. g (r .n ++ (34 ∷ t))
+          ∙ ap suc (r .closes t);
+      acc = r .acc;
+    }
 
 module _ (b : ℕ) (k : Stack) where
   ch-esc : eqb b 34 ≡ false → eqb b 92 ≡ true → step (str label) k b ≡ live (esc label) k
@@ -334,33 +360,44 @@ module _ (b : ℕ) (k : Stack) where
   unfolding step
   es-dead h g = simp (h, g)
 
-  hx-dead : (j : ℕ) → isHex b ≡ false → step (hex label j) k b ≡ dead
+  hx-dead : (j : ℕ) → isHexDigit b ≡ false → step (hex label j) k b ≡ dead
   unfolding step
   hx-dead j h = simp h
 
-  hx-ch : isHex b ≡ true → step (hex label 0) k b ≡ live (str label) k
+  hx-ch : isHexDigit b ≡ true → step (hex label 0) k b ≡ live (str label) k
   unfolding step hexes
   hx-ch h = simp h
 
-  hx-hx : (j : ℕ) → isHex b ≡ true → step (hex label (suc j)) k b ≡ live (hex label j) k
+  hx-hx : (j : ℕ) → isHexDigit b ≡ true → step (hex label (suc j)) k b ≡ live (hex label j) k
   unfolding step hexes
   hx-hx j h = simp h
 
-hex-char : (b : ℕ) (l : List ℕ) → isHex b ≡ true → left (b ∷ l) quoted 0 ≡ suc (left l quoted 0)
+hex-char : (b : ℕ) (l : List ℕ) → isHexDigit b ≡ true → left (b ∷ l) quoted 0 ≡ suc (left l quoted 0)
 hex-char b l h = left-char b l 0 (hex-34 b (eqb b 34) refl h) (hex-92 b (eqb b 92) refl h)
 
-naming-ch : (b : ℕ) (bs : List ℕ) (k : Stack) (x y z : Bool) → eqb b 34 ≡ x → eqb b 92 ≡ y → ltb b 32 ≡ z → ((p : Spot) → Acc bs (mode p) k → Naming bs p k) → Acc (b ∷ bs) (str label) k → Naming (b ∷ bs) ch k
-naming-ch b bs k true y z h g e f a = let w = eqb-true b 34 h in record { n = []; t = bs; is = ap (λ (c : ℕ). c ∷ bs) w; goes = λ k′ t. here (34 ∷ t) (str label) k′; closes = λ t. left-closes 34 t 0 refl ∙ ap suc (left-none t); acc = subst (λ (c : ℕ). Acc (c ∷ bs) (str label) k) w a }
+naming-ch : (b : ℕ) (bs : List ℕ) (k : Stack) (x y z : Bool) → eqb b 34 ≡ x → eqb b 92 ≡ y → ltb b 32 ≡ z → ((p : Spot) → Acc bs (mode p) k → Naming bs p k)
+    → Acc (b ∷ bs) (str label) k → Naming (b ∷ bs) ch k
+naming-ch b bs k true y z h g e f a = let w = eqb-true b 34 h in
+    record {
+      n = [];
+      t = bs;
+      is = ap (λ (c : ℕ). c ∷ bs) w;
+      goes = λ k′ t. here (34 ∷ t) (str label) k′;
+      closes = λ t. left-closes 34 t 0 refl ∙ ap suc (left-none t);
+      acc = subst (λ (c : ℕ). Acc (c ∷ bs) (str label) k) w a;
+    }
 naming-ch b bs k false true z h g e f a = naming-by b bs ch es k (λ k′. ch-esc b k′ h g) (λ l. left-back b l 0 h g) (f es) a
 naming-ch b bs k false false true h g e f a = absurd (acc-dead b bs (str label) k (ch-dead b k h g e) a)
 naming-ch b bs k false false false h g e f a = naming-by b bs ch ch k (λ k′. ch-ch b k′ h g e) (λ l. left-char b l 0 h g) (f ch) a
 
-naming-es : (b : ℕ) (bs : List ℕ) (k : Stack) (x y : Bool) → isEsc b ≡ x → eqb b 117 ≡ y → ((p : Spot) → Acc bs (mode p) k → Naming bs p k) → Acc (b ∷ bs) (esc label) k → Naming (b ∷ bs) es k
+naming-es : (b : ℕ) (bs : List ℕ) (k : Stack) (x y : Bool) → isEsc b ≡ x → eqb b 117 ≡ y → ((p : Spot) → Acc bs (mode p) k → Naming bs p k) → Acc (b ∷ bs) (esc label) k
+    → Naming (b ∷ bs) es k
 naming-es b bs k true y h g f a = naming-by b bs es ch k (λ k′. es-ch b k′ h) (λ l. left-taken b l 0) (f ch) a
 naming-es b bs k false true h g f a = naming-by b bs es (hx 3) k (λ k′. es-hx b k′ h g) (λ l. left-taken b l 0) (f (hx 3)) a
 naming-es b bs k false false h g f a = absurd (acc-dead b bs (esc label) k (es-dead b k h g) a)
 
-naming-hx : (b : ℕ) (bs : List ℕ) (k : Stack) (j : ℕ) (x : Bool) → isHex b ≡ x → ((p : Spot) → Acc bs (mode p) k → Naming bs p k) → Acc (b ∷ bs) (hex label j) k → Naming (b ∷ bs) (hx j) k
+naming-hx : (b : ℕ) (bs : List ℕ) (k : Stack) (j : ℕ) (x : Bool) → isHexDigit b ≡ x → ((p : Spot) → Acc bs (mode p) k → Naming bs p k) → Acc (b ∷ bs) (hex label j) k
+    → Naming (b ∷ bs) (hx j) k
 naming-hx b bs k j false h f a = absurd (acc-dead b bs (hex label j) k (hx-dead b k j h) a)
 naming-hx b bs k zero true h f a = naming-by b bs (hx 0) ch k (λ k′. hx-ch b k′ h) (λ l. hex-char b l h) (f ch) a
 naming-hx b bs k (suc j) true h f a = naming-by b bs (hx (suc j)) (hx j) k (λ k′. hx-hx b k′ j h) (λ l. hex-char b l h) (f (hx j)) a
@@ -369,7 +406,7 @@ naming : (bs : List ℕ) (p : Spot) (k : Stack) → Within k → Acc bs (mode p)
 naming [] p k o a = absurd (no-stop (mode p) k o a)
 naming (b ∷ bs) ch k o a = naming-ch b bs k (eqb b 34) (eqb b 92) (ltb b 32) refl refl refl (λ p a′. naming bs p k o a′) a
 naming (b ∷ bs) es k o a = naming-es b bs k (isEsc b) (eqb b 117) refl refl (λ p a′. naming bs p k o a′) a
-naming (b ∷ bs) (hx j) k o a = naming-hx b bs k j (isHex b) refl (λ p a′. naming bs p k o a′) a
+naming (b ∷ bs) (hx j) k o a = naming-hx b bs k j (isHexDigit b) refl (λ p a′. naming bs p k o a′) a
 
 named-of : (bs : List ℕ) (k : Stack) (r : Naming bs ch k) → Named (r .n)
 named-of bs k r = record { listed = record { closes = r .closes }; goes = r .goes }
@@ -382,7 +419,8 @@ record Skip (x : ℕ) (bs : List ℕ) (m : Mode) (k : Stack) : Type 0 where
   ws : Blank w
   acc : Acc (x ∷ t) m k
 
-module _ (x : ℕ) (m : Mode) (k : Stack) (o : Within k) (stay : (b : ℕ) → isWs b ≡ true → step m k b ≡ live m k) (miss : (b : ℕ) → isWs b ≡ false → eqb b x ≡ false → step m k b ≡ dead) where
+module _ (x : ℕ) (m : Mode) (k : Stack) (o : Within k) (stay : (b : ℕ) → isWs b ≡ true → step m k b ≡ live m k)
+    (miss : (b : ℕ) → isWs b ≡ false → eqb b x ≡ false → step m k b ≡ dead) where
   skip-at : (w : List ℕ) (b : ℕ) (t : List ℕ) (y : Bool) → eqb b x ≡ y → Blank w → isWs b ≡ false → Acc (b ∷ t) m k → Skip x (w ++ (b ∷ t)) m k
   skip-at w b t true h hw i a = let z = eqb-true b x h in record { w = w; t = t; is = ap (λ (c : ℕ). w ++ (c ∷ t)) z; ws = hw; acc = subst (λ (c : ℕ). Acc (c ∷ t) m k) z a }
   skip-at w b t false h hw i a = absurd (acc-dead b t m k (miss b i h) a)
@@ -393,7 +431,9 @@ module _ (x : ℕ) (m : Mode) (k : Stack) (o : Within k) (stay : (b : ℕ) → i
   skip-ink w (b ∷ t) hw (inr i) a = skip-at w b t (eqb b x) refl hw i a
 
   skip : (bs : List ℕ) → Acc bs m k → Skip x bs m k
-  skip bs a = let s = spaced bs in subst (λ (z : List ℕ). Skip x z m k) (sym (s .is)) (skip-ink (s .w) (s .t) (s .ws) (s .ink) (acc-on (over-blank (s .w) (s .t) m k (s .ws) stay) (subst (λ (z : List ℕ). Acc z m k) (s .is) a)))
+  skip bs a = let s = spaced bs in
+      subst (λ (z : List ℕ). Skip x z m k) (sym (s .is))
+      (skip-ink (s .w) (s .t) (s .ws) (s .ink) (acc-on (over-blank (s .w) (s .t) m k (s .ws) stay) (subst (λ (z : List ℕ). Acc z m k) (s .is) a)))
 
 name-dead : (k : Stack) (b : ℕ) → isWs b ≡ false → eqb b 34 ≡ false → step name k b ≡ dead
 unfolding step
@@ -417,9 +457,9 @@ member-of : (d : ℕ) (bs : List ℕ) (k : Stack) → levels k - 1 ≡ d → Acc
 unfolding entry
 member-of d bs k l a =
     let s₁ = skip 34 name (obj k) tt (ws-name (obj k)) (name-dead (obj k)) bs a in
-    let r = naming (s₁ .t) ch (obj k) tt (acc-on (hop (name-quote (obj k))) (s₁ .acc)) in
-    let s₂ = skip 58 colon (obj k) tt (ws-colon (obj k)) (colon-dead (obj k)) (r .t) (acc-on (hop (quote-label (obj k))) (r .acc)) in
-    let v = ahead d (obj k) l tt (s₂ .t) (acc-on (hop (at-colon (obj k))) (s₂ .acc)) in
+    let r = naming (s₁ .t) ch (obj k) tt (acc-on (hop (name-quote (obj k) 34 refl)) (s₁ .acc)) in
+    let s₂ = skip 58 colon (obj k) tt (ws-colon (obj k)) (colon-dead (obj k)) (r .t) (acc-on (hop (str-quote label (obj k) 34 refl)) (r .acc)) in
+    let v = ahead d (obj k) l tt (s₂ .t) (acc-on (hop (colon-hit (obj k) 58 refl)) (s₂ .acc)) in
     record {
       f = record { w = s₁ .w; n = r .n; w₁ = s₂ .w; w₂ = v .w; v = v .v; u = v .u };
       x = v .x;
@@ -439,12 +479,13 @@ pub record Members (d : ℕ) (bs : List ℕ) (k : Stack) : Type 0 where
   pub more : Acc t after k
 
 module _ (d : ℕ) where
-  members-end : (bs : List ℕ) (k : Stack) (r : Member d bs k) (x y : Bool) → eqb (r .x) 44 ≡ x → eqb (r .x) 125 ≡ y → (Acc (r .t) name (obj k) → Members d (r .t) k) → Members d bs k
+  members-end : (bs : List ℕ) (k : Stack) (r : Member d bs k) (x y : Bool) → eqb (r .x) 44 ≡ x → eqb (r .x) 125 ≡ y → (Acc (r .t) name (obj k) → Members d (r .t) k)
+      → Members d bs k
   unfolding body
   members-end bs k r true y h g f =
       let z = eqb-true (r .x) 44 h in
       let a : Acc (44 ∷ r .t) after (obj k) = subst (λ (b : ℕ). Acc (b ∷ r .t) after (obj k)) z (r .acc) in
-      let q = f (acc-on (hop (obj-comma k)) a) in
+      let q = f (acc-on (hop (obj-comma k 44 refl)) a) in
       record {
         f = r .f;
         fs = q .f ∷ q .fs;
@@ -456,7 +497,14 @@ module _ (d : ℕ) where
   members-end bs k r false true h g f =
       let z = eqb-true (r .x) 125 g in
       let a : Acc (125 ∷ r .t) after (obj k) = subst (λ (b : ℕ). Acc (b ∷ r .t) after (obj k)) z (r .acc) in
-      record { f = r .f; fs = []; t = r .t; eq = r .is ∙ ap (λ (b : ℕ). entry (r .f) (b ∷ r .t)) z; good = subst (λ (b : ℕ). Fine (Val d) Named (r .f) b) z (r .fine); more = acc-on (hop (obj-close k)) a }
+      record {
+        f = r .f;
+        fs = [];
+        t = r .t;
+        eq = r .is ∙ ap (λ (b : ℕ). entry (r .f) (b ∷ r .t)) z;
+        good = subst (λ (b : ℕ). Fine (Val d) Named (r .f) b) z (r .fine);
+        more = acc-on (hop (obj-close k 125 refl)) a;
+      }
   members-end bs k r false false h g f = absurd (acc-dead (r .x) (r .t) after (obj k) (obj-dead k (r .x) (r .ink) h g) (r .acc))
 
   entry-long : (f : Field) (t : List ℕ) → length t < length (entry f t)
@@ -482,13 +530,15 @@ first-ink k w (b ∷ t) hw (inl e) n a = let z : _≡_ {A = ℕ} 0 1 = cc in abs
 first-ink k w (b ∷ t) hw (inr i) n a = record { at = a .at; e = a .e; ok = sym (first-as w (b ∷ []) t k (a .at) hw (i, not-closed b 93 t (eqb b 93) refl n)) ∙ a .ok }
 
 first-acc : (k : Stack) (r : List ℕ) → ((t′ : List ℕ) → spaced r .t ≡ 93 ∷ t′ → ⊥) → Acc r first (arr k) → Acc r value (arr k)
-first-acc k r n a = let s = spaced r in subst (λ (z : List ℕ). Acc z value (arr k)) (sym (s .is)) (first-ink k (s .w) (s .t) (s .ws) (s .ink) n (subst (λ (z : List ℕ). Acc z first (arr k)) (s .is) a))
+first-acc k r n a = let s = spaced r in
+    subst (λ (z : List ℕ). Acc z value (arr k)) (sym (s .is)) (first-ink k (s .w) (s .t) (s .ws) (s .ink) n (subst (λ (z : List ℕ). Acc z first (arr k)) (s .is) a))
 
 name₁-step : (b : ℕ) (k : Stack) → isWs b ≡ false → eqb b 125 ≡ false → step name₁ (obj k) b ≡ step name (obj k) b
 unfolding step
 name₁-step b k w h = simp (w, h)
 
-name₁-as : (w : List ℕ) (b : ℕ) (t : List ℕ) (k : Stack) (i : ℕ) → Blank w → isWs b ≡ false → eqb b 125 ≡ false → walk (w ++ (b ∷ t)) name₁ (obj k) i ≡ walk (w ++ (b ∷ t)) name (obj k) i
+name₁-as : (w : List ℕ) (b : ℕ) (t : List ℕ) (k : Stack) (i : ℕ) → Blank w → isWs b ≡ false → eqb b 125 ≡ false
+    → walk (w ++ (b ∷ t)) name₁ (obj k) i ≡ walk (w ++ (b ∷ t)) name (obj k) i
 unfolding walk
 name₁-as [] b t k i h o n = ap (λ (x : Next). takes x (walk t) i) (name₁-step b k o n)
 name₁-as (a ∷ w) b t k i h o n = simp (ws-name₁ (obj k) a (h .0), ws-name (obj k) a (h .0)) (name₁-as w b t k (i + 1) (h .1) o n)
@@ -499,7 +549,8 @@ name₁-ink k w (b ∷ t) hw (inl e) n a = let z : _≡_ {A = ℕ} 0 1 = cc in a
 name₁-ink k w (b ∷ t) hw (inr i) n a = record { at = a .at; e = a .e; ok = sym (name₁-as w b t k (a .at) hw i (not-closed b 125 t (eqb b 125) refl n)) ∙ a .ok }
 
 name₁-acc : (k : Stack) (r : List ℕ) → ((t′ : List ℕ) → spaced r .t ≡ 125 ∷ t′ → ⊥) → Acc r name₁ (obj k) → Acc r name (obj k)
-name₁-acc k r n a = let s = spaced r in subst (λ (z : List ℕ). Acc z name (obj k)) (sym (s .is)) (name₁-ink k (s .w) (s .t) (s .ws) (s .ink) n (subst (λ (z : List ℕ). Acc z name₁ (obj k)) (s .is) a))
+name₁-acc k r n a = let s = spaced r in
+    subst (λ (z : List ℕ). Acc z name (obj k)) (sym (s .is)) (name₁-ink k (s .w) (s .t) (s .ws) (s .ink) n (subst (λ (z : List ℕ). Acc z name₁ (obj k)) (s .is) a))
 
 -- Pieces: their elements or members, and nothing behind the bracket.
 no-more : (t : List ℕ) → length t ≡ 0 → t ≡ []
@@ -534,10 +585,12 @@ pub record ArrayText (d : ℕ) (r : List ℕ) : Type 0 where
   pub eq : r ≡ items i is []
   pub good : Goods (Val d) i is
 
-array-whole : (d : ℕ) (r : List ℕ) (i : Item) (is : List Item) (t : List ℕ) → 0 < d → r ≡ items i is t → Goods (Val (d - 1)) i is → walk (91 ∷ r) value (alone d) 0 ≡ End (length (91 ∷ r)) → ArrayText (d - 1) r
+array-whole : (d : ℕ) (r : List ℕ) (i : Item) (is : List Item) (t : List ℕ) → 0 < d → r ≡ items i is t → Goods (Val (d - 1)) i is
+    → walk (91 ∷ r) value (alone d) 0 ≡ End (length (91 ∷ r)) → ArrayText (d - 1) r
 array-whole d r i is t o e g h =
     let q = array-goes (d - 1) i is t (alone d) g (omega arith) in
-    let y : End (0 + (length (91 ∷ items i is t) - length t)) ≡ End (length (91 ∷ items i is t)) = sym (q .same 0 ∙ walk-over t d _) ∙ subst (λ (x : List ℕ). walk (91 ∷ x) value (alone d) 0 ≡ End (length (91 ∷ x))) e h in
+    let y : End (0 + (length (91 ∷ items i is t) - length t)) ≡ End (length (91 ∷ items i is t)) = sym (q .same 0 ∙ walk-over t d _)
+    ∙ subst (λ (x : List ℕ). walk (91 ∷ x) value (alone d) 0 ≡ End (length (91 ∷ x))) e h in
     let z : 0 + (length (91 ∷ items i is t) - length t) ≡ length (91 ∷ items i is t) = cc in
     let n : t ≡ [] = no-more t (omega (arith, q .less)) in
     record { i = i; is = is; eq = e ∙ ap (items i is) n; good = g }
@@ -548,7 +601,7 @@ piece-array d r p n =
     let h = piece-acc d (91 ∷ r) p in
     let o = roomy d (length (91 ∷ r)) r 0 h in
     let a : Acc (91 ∷ r) value (alone d) = record { at = 0; e = length (91 ∷ r); ok = h } in
-    let q = elements-of (d - 1) (length r) r (alone d) (omega arith) refl (first-acc (alone d) r n (acc-on (hop (bracket (alone d) o)) a)) in
+    let q = elements-of (d - 1) (length r) r (alone d) (omega arith) refl (first-acc (alone d) r n (acc-on (hop (value-arr (alone d) 91 refl o)) a)) in
     array-whole d r (q .i) (q .is) (q .t) o (q .eq) (q .good) h
 
 pub record ObjectText (d : ℕ) (r : List ℕ) : Type 0 where
@@ -557,10 +610,12 @@ pub record ObjectText (d : ℕ) (r : List ℕ) : Type 0 where
   pub eq : r ≡ body f fs []
   pub good : Fines (Val d) Named f fs
 
-object-whole : (d : ℕ) (r : List ℕ) (f : Field) (fs : List Field) (t : List ℕ) → 0 < d → r ≡ body f fs t → Fines (Val (d - 1)) Named f fs → walk (123 ∷ r) value (alone d) 0 ≡ End (length (123 ∷ r)) → ObjectText (d - 1) r
+object-whole : (d : ℕ) (r : List ℕ) (f : Field) (fs : List Field) (t : List ℕ) → 0 < d → r ≡ body f fs t → Fines (Val (d - 1)) Named f fs
+    → walk (123 ∷ r) value (alone d) 0 ≡ End (length (123 ∷ r)) → ObjectText (d - 1) r
 object-whole d r f fs t o e g h =
     let q = object-goes (d - 1) f fs t (alone d) g (omega arith) in
-    let y : End (0 + (length (123 ∷ body f fs t) - length t)) ≡ End (length (123 ∷ body f fs t)) = sym (q .same 0 ∙ walk-over t d _) ∙ subst (λ (x : List ℕ). walk (123 ∷ x) value (alone d) 0 ≡ End (length (123 ∷ x))) e h in
+    let y : End (0 + (length (123 ∷ body f fs t) - length t)) ≡ End (length (123 ∷ body f fs t)) = sym (q .same 0 ∙ walk-over t d _)
+    ∙ subst (λ (x : List ℕ). walk (123 ∷ x) value (alone d) 0 ≡ End (length (123 ∷ x))) e h in
     let z : 0 + (length (123 ∷ body f fs t) - length t) ≡ length (123 ∷ body f fs t) = cc in
     let n : t ≡ [] = no-more t (omega (arith, q .less)) in
     record { f = f; fs = fs; eq = e ∙ ap (body f fs) n; good = g }
@@ -571,21 +626,13 @@ piece-object d r p n =
     let h = piece-acc d (123 ∷ r) p in
     let o = roomy-obj d (length (123 ∷ r)) r 0 h in
     let a : Acc (123 ∷ r) value (alone d) = record { at = 0; e = length (123 ∷ r); ok = h } in
-    let q = members-of (d - 1) (length r) r (alone d) (omega arith) refl (name₁-acc (alone d) r n (acc-on (hop (brace (alone d) o)) a)) in
+    let q = members-of (d - 1) (length r) r (alone d) (omega arith) refl (name₁-acc (alone d) r n (acc-on (hop (value-obj (alone d) 123 refl o)) a)) in
     object-whole d r (q .f) (q .fs) (q .t) o (q .eq) (q .good) h
 
 -- The whole text, where it is an array with something in it.
-text-dead : (b : ℕ) → isWs b ≡ false → step after (text 8) b ≡ dead
-unfolding step ends
-text-dead b h = simp h
-
-pub text-ws : (b : ℕ) → isWs b ≡ true → step after (text 8) b ≡ live after (text 8)
-unfolding step ends
-text-ws b h = simp h
-
 blank-next : (b : ℕ) (t : List ℕ) (x : Bool) → isWs b ≡ x → (Acc t after (text 8) → Blank t) → Acc (b ∷ t) after (text 8) → Blank (b ∷ t)
-blank-next b t true h f a = (h, f (acc-on (hop (text-ws b h)) a))
-blank-next b t false h f a = absurd (acc-dead b t after (text 8) (text-dead b h) a)
+blank-next b t true h f a = (h, f (acc-on (hop (ws-text b h 8)) a))
+blank-next b t false h f a = absurd (acc-dead b t after (text 8) (trail b h) a)
 
 trailing : (t : List ℕ) → Acc t after (text 8) → Blank t
 trailing [] a = tt
@@ -608,6 +655,15 @@ top-of s e h r g n =
     let p = spaced s in
     let a₀ : Acc s value (text 8) = record { at = 0; e = e; ok = h } in
     let a₁ : Acc (p .t) value (text 8) = acc-on (over-blank (p .w) (p .t) value (text 8) (p .ws) (ws-value (text 8))) (subst (λ (z : List ℕ). Acc z value (text 8)) (p .is) a₀) in
-    let a₂ : Acc r first (arr (text 8)) = acc-on (hop (bracket (text 8) (omega arith))) (subst (λ (z : List ℕ). Acc z value (text 8)) g a₁) in
+    let a₂ : Acc r first (arr (text 8)) = acc-on (hop (value-arr (text 8) 91 refl (omega arith))) (subst (λ (z : List ℕ). Acc z value (text 8)) g a₁) in
     let q = elements-of 7 (length r) r (text 8) (omega arith) refl (first-acc (text 8) r n a₂) in
-    record { w = p .w; i = q .i; is = q .is; t = q .t; eq = p .is ∙ ap (λ (z : List ℕ). p .w ++ z) (g ∙ ap (λ (z : List ℕ). 91 ∷ z) (q .eq)); before = p .ws; good = q .good; behind = trailing (q .t) (q .more) }
+    record {
+      w = p .w;
+      i = q .i;
+      is = q .is;
+      t = q .t;
+      eq = p .is ∙ ap (λ (z : List ℕ). p .w ++ z) (g ∙ ap (λ (z : List ℕ). 91 ∷ z) (q .eq));
+      before = p .ws;
+      good = q .good;
+      behind = trailing (q .t) (q .more);
+    }

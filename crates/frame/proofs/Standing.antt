@@ -11,8 +11,8 @@ use native.Mathlib.Omega.{arith}
 use lib.ListN.{length, getD, drop, take, length-append}
 use lib.Seq.{take-append-seam}
 use lib.Dec.{eqb}
-use Rattle.json.specs.Machine.{Stack, alone, levels, Mode, value, after, Next, live, isWs, step, ends, over, takes, walk, from, one}
-use Rattle.json.specs.Places.{behind, bytes}
+use Rattle.json.specs.inner.Machine.{Stack, alone, levels, Mode, value, after, Next, live, step, ends, over, takes, walk, from, one}
+use Rattle.json.specs.Places.{behind, bytes, isWs}
 use Rattle.json.specs.declared.Walked.the-variants.{End}
 use Rattle.json.proofs.Listing.{Sized, Starts, behind-is, bytes-is, at-skip}
 use Rattle.json.proofs.OwnBytes.{run, walk-on, run-around, split}
@@ -28,7 +28,8 @@ pub here : (t : List ℕ) (m : Mode) (k : Stack) → Reach t m k t m k
 here t m k = record { less = omega arith; same = λ i. ap (walk t m k) (omega arith) }
 
 pub trans : {a b c : List ℕ} {m₁ m₂ m₃ : Mode} {k₁ k₂ k₃ : Stack} → Reach a m₁ k₁ b m₂ k₂ → Reach b m₂ k₂ c m₃ k₃ → Reach a m₁ k₁ c m₃ k₃
-trans {a} {b} {c} {m₁} {m₂} {m₃} {k₁} {k₂} {k₃} r q = record { less = omega (arith, r .less, q .less); same = λ i. r .same i ∙ q .same (i + (length a - length b)) ∙ ap (walk c m₃ k₃) (omega (arith, r .less, q .less)) }
+trans {a} {b} {c} {m₁} {m₂} {m₃} {k₁} {k₂} {k₃} r q = record
+    { less = omega (arith, r .less, q .less); same = λ i. r .same i ∙ q .same (i + (length a - length b)) ∙ ap (walk c m₃ k₃) (omega (arith, r .less, q .less)) }
 
 pub hop : {b : ℕ} {t : List ℕ} {m m′ : Mode} {k k′ : Stack} → step m k b ≡ live m′ k′ → Reach (b ∷ t) m k t m′ k′
 unfolding walk

@@ -1,6 +1,6 @@
 -- The steps of the loops over digits, and that what is encoded is decoded again. Assumes nothing.
 use Prim.Native.Nat.{ℕ, zero, suc, _+_, _*_, _/_, _%_, _≤_, _<_}
-use Rattle.hex.specs.Digits.{decoded, digitOf, encoded, valueOf}
+use Rattle.hex.specs.Digits.{decoded, digitOf, encoded, worthOf}
 use Rattle.octets.proofs.ClassLaws.{among-high, in-among}
 use Rattle.octets.specs.Splice.{written}
 use borrow.Author.Tests.{le-ltb, lt-ltb}
@@ -18,7 +18,8 @@ unfolding written
 written-more o l i v h k e =
     let n : length (take i l) ≡ i = length-take-le i l (omega arith) in
     let m : length (take (suc i) l) ≡ suc i = length-take-le (suc i) l (omega arith) in
-    rw (add-one, n, m, drop-cons o i 0 (omega arith), set-at (take i l) (getD o i 0) (drop (suc i) o) v i n, take-suc l i 0 h, e) (sym (append-assoc (take i l) (getD l i 0 ∷ []) (drop (suc i) o)))
+    rw (add-one, n, m, drop-cons o i 0 (omega arith), set-at (take i l) (getD o i 0) (drop (suc i) o) v i n, take-suc l i 0 h, e)
+    (sym (append-assoc (take i l) (getD l i 0 ∷ []) (drop (suc i) o)))
 
 pub written-none : (o l : List ℕ) → o ≡ written o (take 0 l)
 unfolding written
@@ -35,7 +36,7 @@ length-decoded [] = refl
 length-decoded (a ∷ []) = refl
 length-decoded (a ∷ (b ∷ s)) = let h = length-decoded s in omega arith
 
-pub decoded-at : (s : List ℕ) (i : ℕ) → i < length s / 2 → getD (decoded s) i 0 ≡ valueOf (getD s (2 * i) 0) * 16 + valueOf (getD s (2 * i + 1) 0)
+pub decoded-at : (s : List ℕ) (i : ℕ) → i < length s / 2 → getD (decoded s) i 0 ≡ worthOf (getD s (2 * i) 0) * 16 + worthOf (getD s (2 * i + 1) 0)
 unfolding decoded
 decoded-at [] i h = absurd (omega arith)
 decoded-at (a ∷ []) i h = absurd (omega arith)
@@ -70,11 +71,11 @@ encoded-low (b ∷ s) (suc i) h =
 
 -- There and back.
 
-value-digit : (n : ℕ) → n < 16 → valueOf (digitOf n) ≡ n
-unfolding valueOf digitOf
+value-digit : (n : ℕ) → n < 16 → worthOf (digitOf n) ≡ n
+unfolding worthOf digitOf
 value-digit n h = go (decLt n 10)
   where
-    go : Dec (n < 10) → valueOf (digitOf n) ≡ n
+    go : Dec (n < 10) → worthOf (digitOf n) ≡ n
     go (yes a) = rw (lt-ltb n 10 a, in-among 48 57 (48 + n) (omega arith) (omega arith)) (omega arith)
     go (no a) = rw (le-ltb n 10 (omega arith), among-high 48 57 (87 + n) (omega arith) (omega arith), in-among 97 102 (87 + n) (omega arith) (omega arith)) (omega arith)
 
@@ -83,5 +84,5 @@ unfolding decoded encoded
 there-and-back [] h = refl
 there-and-back (b ∷ s) h =
     let k : b < 256 = h 0 (omega arith) in
-    let e : valueOf (digitOf (b / 16)) * 16 + valueOf (digitOf (b % 16)) ≡ b = rw (value-digit (b / 16) (omega arith), value-digit (b % 16) (omega arith)) (omega arith) in
+    let e : worthOf (digitOf (b / 16)) * 16 + worthOf (digitOf (b % 16)) ≡ b = rw (value-digit (b / 16) (omega arith), value-digit (b % 16) (omega arith)) (omega arith) in
     rw (e, there-and-back s (λ i g. h (suc i) (omega arith)))

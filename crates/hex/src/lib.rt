@@ -6,24 +6,27 @@ use octets::or;
 ghost use mathlib.Core.Path.{_≡_};
 ghost use Prim.Native.Nat.{_*_, _/_, _<_, _≤_};
 ghost use lib.ListN.{length};
-ghost use Rattle.hex.specs.Digits.{decoded, digitOf, encoded, isHex, isHexDigit, valueOf};
+ghost use Rattle.hex.specs.Digits.{decoded, digitOf, encoded, isHex, isHexDigit, worthOf};
 ghost use Rattle.octets.specs.Splice.{written};
 
-fn is_digit(b: u8) -> bool
+// The digit a is ten.
+const TEN_BELOW_A: u8 = b'a' - 10;
+
+fn is_hex_digit(b: u8) -> bool
     ensures { λ r. ⌜ r ≡ isHexDigit b ⌝ }
 {
-    or(among(48, 57, b), among(97, 102, b))
+    or(among(b'0', b'9', b), among(b'a', b'f', b))
 }
 
 // What a digit stands for, and 0 for any other byte.
-fn value(b: u8) -> u8
-    ensures { λ r. ⌜ (r ≡ valueOf b) × (r < 16) ⌝ }
+fn worth(b: u8) -> u8
+    ensures { λ r. ⌜ (r ≡ worthOf b) × (r < 16) ⌝ }
 {
-    if among(48, 57, b) {
-        return b - 48;
+    if among(b'0', b'9', b) {
+        return b - b'0';
     }
-    if among(97, 102, b) {
-        return b - 87;
+    if among(b'a', b'f', b) {
+        return b - TEN_BELOW_A;
     }
     0
 }
@@ -33,7 +36,7 @@ fn digit(n: u8) -> u8
     requires { ⌜ n < 16 ⌝ }
     ensures { λ r. ⌜ r ≡ digitOf n ⌝ }
 {
-    if n < 10 { 48 + n } else { 87 + n }
+    if n < 10 { b'0' + n } else { TEN_BELOW_A + n }
 }
 
 // Whether a text is digits alone, two for each byte; the empty text is.
@@ -45,7 +48,7 @@ pub fn is_hex(s: &[u8]) -> bool
     }
     let mut i: usize = 0;
     while i < s.len() {
-        if !is_digit(s[i]) {
+        if !is_hex_digit(s[i]) {
             return false;
         }
         i += 1;
@@ -60,7 +63,7 @@ pub fn decode(out: &mut [u8], s: &[u8]) -> usize
 {
     let mut i: usize = 0;
     while i < s.len() / 2 {
-        out[i] = value(s[2 * i]) * 16 + value(s[2 * i + 1]);
+        out[i] = worth(s[2 * i]) * 16 + worth(s[2 * i + 1]);
         i += 1;
     }
     i

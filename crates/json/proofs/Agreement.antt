@@ -7,7 +7,7 @@ use native.Mathlib.Omega.{arith}
 use native.Mathlib.Numerals.{add-one}
 use lib.ListN.{length, take, length-append}
 use lib.Seq.{take-at}
-use Rattle.json.specs.Machine.{text, value, walk, from, answer}
+use Rattle.json.specs.inner.Machine.{text, value, walk, from, answer}
 use Rattle.json.specs.Rfc7159.{JSON-text as JsonText, JSON as Json}
 use Rattle.json.specs.Verdict.{Refused}
 use Rattle.json.specs.declared.Walked.{Walked}

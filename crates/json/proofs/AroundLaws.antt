@@ -6,11 +6,12 @@ use Rattle.json.proofs.Listing.{at-next}
 use Rattle.json.proofs.MoveLaws.{moves, stops-short, stops-over}
 use Rattle.json.proofs.OwnBytes.{onto, In, Lifts, on, no, sunk, late, lift-step, run, split}
 use Rattle.json.proofs.StepLaws.{value-quote}
-use Rattle.json.specs.Machine.{Stack, alone, text, arr, obj, levels, Role, plain, Mode, value, after, str, esc, hex, Next, live, dead, pick, isHex, isEsc, closed, hexes, step, over, ended, stops, takes, walk, from, one, onward}
+use Rattle.json.specs.inner.Machine.{Stack, alone, text, arr, obj, levels, Role, plain, Mode, value, after, str, esc, hex, Next, live, dead, isHexDigit}
+use Rattle.json.specs.inner.Machine.{isEsc, closed, hexes, step, over, ended, stops, takes, walk, from, one, onward}
 use Rattle.json.specs.declared.Walked.the-variants.{End}
 use lib.Dec.{eqb, ltb}
 use lib.ListN.{length, drop, getD, length-append, length-drop}
-use mathlib.Core.Bool.{Bool, true, false}
+use mathlib.Core.Bool.{Bool, true, false, cond}
 use mathlib.Core.List.{List, [], _∷_}
 use mathlib.Core.Path.{_≡_, refl, sym, ap, _∙_}
 use native.Mathlib.Omega.{arith}
@@ -32,7 +33,7 @@ module _ (t : List ℕ) (w : Role) (k : Stack) where
   record Goes (bs : List ℕ) (i : ℕ) (n n′ : Next) : Type 0 where
     pub is : takes n (walk bs) i ≡ onward t (closed w) k (takes n′ (walk bs) i)
 
-  goes-by : {bs : List ℕ} {i : ℕ} (x : Bool) {a a′ b b′ : Next} → Goes bs i a a′ → Goes bs i b b′ → Goes bs i (pick x a b) (pick x a′ b′)
+  goes-by : {bs : List ℕ} {i : ℕ} (x : Bool) {a a′ b b′ : Next} → Goes bs i a a′ → Goes bs i b b′ → Goes bs i (cond x a b) (cond x a′ b′)
   goes-by true f g = f
   goes-by false f g = g
 
@@ -59,7 +60,7 @@ module _ (t : List ℕ) (w : Role) (k : Stack) where
     unfolding step
     goes b chars = goes-by (eqb b 34) shuts (goes-by (eqb b 92) (stays escape) (goes-by (ltb b 32) no-byte (stays chars)))
     goes b escape = goes-by (isEsc b) (stays chars) (goes-by (eqb b 117) (hexed 4) no-byte)
-    goes b (digits n) = goes-by (isHex b) (hexed n) no-byte
+    goes b (digits n) = goes-by (isHexDigit b) (hexed n) no-byte
 
   open-ended : (p : Spot) (v : Role) → over (spot p v) ≡ false
   open-ended chars v = refl

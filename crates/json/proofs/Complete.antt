@@ -1,6 +1,6 @@
 -- What the grammar derives, the machine takes to the end: for each rule a run of the machine, put together by combinators that mirror ABNF. Assumes nothing.
 use mathlib.Core.Path.{_≡_, refl, sym, subst, _∙_}
-use mathlib.Core.Bool.{Bool, true, false}
+use mathlib.Core.Bool.{true, false}
 use mathlib.Core.List.{List, [], _∷_, _++_, append-assoc, append-nil}
 use mathlib.Core.Logic.{_⊎_, inl, inr, ⊎-elim}
 use Prim.Native.Nat.{ℕ, zero, suc, _+_, _≤_, _<_}
@@ -9,8 +9,16 @@ use borrow.Author.Tests.{le-leb, lt-leb, ne-eqb, eqb-true, eqb-false}
 use lib.Dec.{eqb}
 use Rattle.octets.specs.Class.{isDigit, among}
 use Rattle.octets.proofs.ClassLaws.{digit-in}
-use Rattle.json.specs.Machine.{Stack, alone, text, arr, obj, Role, label, plain, Mode, value, first, name, name₁, colon, after, str, esc, hex, word, minus, nought, int, dot, frac, exp, sign, power, live, dead, isWs, isHex, isSign, isEsc, closed, due, hexes, levels, begin, ends, expo, point, step, over, stops, walk}
-use Rattle.json.specs.Rfc7159.{Rule, Bytes, bytes, Range, range, AtLeast, at-least, _⨾_, both, _or_, left, right, Opt, absent, present, Star, none, more, Plus, Byte, ws as Ws, begin-array as BeginArray, begin-object as BeginObject, end-array as EndArray, end-object as EndObject, value-separator as ValueSeparator, False, null as Null, True, DIGIT as Digit, int as Int, frac as Frac, exp as Exp, number as Number, HEXDIG as HexDig, unescaped as Unescaped, char as Char, string as Text, member as Member, object as Object, array as Array, value as Value, JSON-text as JsonText}
+use Rattle.octets.proofs.TestLaws.{either}
+use Rattle.json.specs.inner.Machine.{Stack, alone, text, arr, obj, Role, label, plain, Mode, value, first, name, name₁, colon, after, str, esc, hex, word}
+use Rattle.json.specs.inner.Machine.{minus, nought, int, dot, frac, exp, sign, power, live, dead, isHexDigit, isSign, isEsc, closed, due, hexes, levels}
+use Rattle.json.specs.inner.Machine.{begin, ends, expo, point, step, over, stops, walk}
+use Rattle.json.specs.Places.{isWs}
+use Rattle.json.specs.Rfc7159.{Rule, Bytes, bytes, Range, range, AtLeast, at-least, _⨾_, both, _or_, left, right, Opt, absent, present, Star, none, more}
+use Rattle.json.specs.Rfc7159.{Plus, Byte, ws as Ws, begin-array as BeginArray, begin-object as BeginObject, end-array as EndArray}
+use Rattle.json.specs.Rfc7159.{end-object as EndObject, value-separator as ValueSeparator, False, null as Null, True, DIGIT as Digit, int as Int}
+use Rattle.json.specs.Rfc7159.{frac as Frac, exp as Exp, number as Number, HEXDIG as HexDig, unescaped as Unescaped, char as Char, string as Text}
+use Rattle.json.specs.Rfc7159.{member as Member, object as Object, array as Array, value as Value, JSON-text as JsonText}
 use Rattle.json.proofs.Refusal.{Ends, on, word-on}
 use Rattle.json.proofs.LeafLaws.{hex-step}
 use Rattle.json.proofs.StepLaws as laws
@@ -167,16 +175,16 @@ digit-is : (b : ℕ) → 0x30 ≤ b → b ≤ 0x39 → isDigit b ≡ true
 unfolding isDigit among
 digit-is b l u = simp (le-leb 48 b l, le-leb b 57 u)
 
-digit-hex : (b : ℕ) → 0x30 ≤ b → b ≤ 0x39 → isHex b ≡ true
-unfolding isHex
+digit-hex : (b : ℕ) → 0x30 ≤ b → b ≤ 0x39 → isHexDigit b ≡ true
+unfolding isHexDigit
 digit-hex b l u = simp (digit-is b l u)
 
-upper-is : (b : ℕ) → 0x41 ≤ b → b ≤ 0x46 → isHex b ≡ true
-unfolding isHex isDigit among
+upper-is : (b : ℕ) → 0x41 ≤ b → b ≤ 0x46 → isHexDigit b ≡ true
+unfolding isHexDigit isDigit among
 upper-is b l u = simp (le-leb 48 b (omega arith), lt-leb b 57 (omega arith), le-leb 65 b l, le-leb b 70 u)
 
-lower-is : (b : ℕ) → 0x61 ≤ b → b ≤ 0x66 → isHex b ≡ true
-unfolding isHex isDigit among
+lower-is : (b : ℕ) → 0x61 ≤ b → b ≤ 0x66 → isHexDigit b ≡ true
+unfolding isHexDigit isDigit among
 lower-is b l u = simp (le-leb 48 b (omega arith), lt-leb b 57 (omega arith), le-leb 65 b (omega arith), lt-leb b 70 (omega arith), le-leb 97 b l, le-leb b 102 u)
 
 hex-dig : (w : Role) (n : ℕ) (k : Stack) → Leads HexDig (hex w n) k (hexes w n) k
@@ -196,7 +204,8 @@ module _ (w : Role) (k : Stack) where
   escaped : Leads Escaped (esc w) k (str w) k
   unfolding isEsc
   escaped =
-      on-esc 0x22 refl otherwise on-esc 0x5C refl otherwise on-esc 0x2F refl otherwise on-esc 0x62 refl otherwise on-esc 0x66 refl otherwise on-esc 0x6E refl otherwise on-esc 0x72 refl otherwise on-esc 0x74 refl
+      on-esc 0x22 refl otherwise on-esc 0x5C refl otherwise on-esc 0x2F refl otherwise on-esc 0x62 refl otherwise on-esc 0x66 refl otherwise on-esc 0x6E refl otherwise on-esc 0x72
+      refl otherwise on-esc 0x74 refl
       otherwise c-byte (by (laws.esc-u w k 117 refl)) then hex4
 
   chars : Leads (Star Char) (str w) k (str w) k
@@ -226,10 +235,6 @@ ends-dead (text d) h b w h₁ h₂ h₃ = simp w
 ends-dead (arr k) h b w h₁ h₂ h₃ = simp (w, ne-eqb b 44 h₁, ne-eqb b 93 h₂)
 ends-dead (obj k) h b w h₁ h₂ h₃ = simp (w, ne-eqb b 44 h₁, ne-eqb b 125 h₃)
 
-not-ws : (b : ℕ) → 32 < b → isWs b ≡ false
-unfolding isWs
-not-ws b h = simp (ne-eqb b 32 (omega arith), ne-eqb b 9 (omega arith), ne-eqb b 10 (omega arith), ne-eqb b 13 (omega arith))
-
 -- b can be no part of a number that is over
 record Plain (b : ℕ) : Type 0 where
   no-digit : isDigit b ≡ false
@@ -237,13 +242,9 @@ record Plain (b : ℕ) : Type 0 where
   no-e : b ≡ 101 → ⊥
   no-E : b ≡ 69 → ⊥
 
-pub test : (t : Bool) → (t ≡ true) ⊎ (t ≡ false)
-test true = inl refl
-test false = inr refl
-
 module _ (k : Stack) (h : Whole k) (b : ℕ) where
   unlike : 32 < b → (b ≡ 44 → ⊥) → (b ≡ 93 → ⊥) → (b ≡ 125 → ⊥) → ends k b ≡ dead
-  unlike w = ends-dead k h b (not-ws b w)
+  unlike w = ends-dead k h b (laws.not-ws b w)
 
   plain-or : Plain b ⊎ (ends k b ≡ dead)
   plain-or =
@@ -252,7 +253,7 @@ module _ (k : Stack) (h : Whole k) (b : ℕ) where
       (λ e₁. ⊎-elim (λ e₂. let q = eqb-true b 101 e₂ in inr (unlike (omega arith) (omega arith) (omega arith) (omega arith)))
       (λ e₂. ⊎-elim (λ e₃. let q = eqb-true b 69 e₃ in inr (unlike (omega arith) (omega arith) (omega arith) (omega arith)))
       (λ e₃. inl (record { no-digit = d; no-dot = eqb-false b 46 e₁; no-e = eqb-false b 101 e₂; no-E = eqb-false b 69 e₃ }))
-      (test (eqb b 69))) (test (eqb b 101))) (test (eqb b 46))) (test (isDigit b))
+      (either (eqb b 69))) (either (eqb b 101))) (either (eqb b 46))) (either (isDigit b))
 
 step-after : (k : Stack) (b : ℕ) → step after k b ≡ ends k b
 unfolding step
@@ -349,7 +350,8 @@ module _ (k : Stack) (h : Whole k) where
   at-value : Leads (Int ⨾ Opt Frac ⨾ Opt Exp) value k after k
   at-value =
       c-either (c-byte (by (laws.value-zero k 48 refl))) nought-tail
-      (c-range (λ b l u. by (laws.value-rest k b (not-ws b (omega arith)) (omega arith) (omega arith) (omega arith) (omega arith) (omega arith) (omega arith) (omega arith) ∙ laws.minus-digit k b (omega arith) (digit-is b (omega arith) u))) then int-digits) int-tail
+      (c-range (λ b l u. by (laws.value-rest k b (laws.not-ws b (omega arith)) (omega arith) (omega arith) (omega arith) (omega arith) (omega arith) (omega arith) (omega arith)
+      ∙ laws.minus-digit k b (omega arith) (digit-is b (omega arith) u))) then int-digits) int-tail
 
   number : Leads Number value k after k
   number = c-may (c-byte (by (laws.value-minus k 45 refl))) after-minus at-value
@@ -371,7 +373,8 @@ close-dead : (k : Stack) (b : ℕ) → b ≡ 93 → step value k b ≡ dead
 unfolding step begin isWs isDigit among
 close-dead k b e = rw e
 
-first-go : (b : ℕ) (r : List ℕ) (k : Stack) (i : ℕ) → (isWs b ≡ true) ⊎ (isWs b ≡ false) → (eqb b 93 ≡ true) ⊎ (eqb b 93 ≡ false) → (Ends (walk r value (arr k) (i + 1)) → Ends (walk r first (arr k) (i + 1))) → Ends (walk (b ∷ r) value (arr k) i) → Ends (walk (b ∷ r) first (arr k) i)
+first-go : (b : ℕ) (r : List ℕ) (k : Stack) (i : ℕ) → (isWs b ≡ true) ⊎ (isWs b ≡ false) → (eqb b 93 ≡ true) ⊎ (eqb b 93 ≡ false)
+    → (Ends (walk r value (arr k) (i + 1)) → Ends (walk r first (arr k) (i + 1))) → Ends (walk (b ∷ r) value (arr k) i) → Ends (walk (b ∷ r) first (arr k) i)
 first-go b r k i (inl w) u ih a = subst Ends (sym (on b r first (arr k) i _ (laws.ws-first (arr k) b w))) (ih (subst Ends (on b r value (arr k) i _ (laws.ws-value (arr k) b w)) a))
 first-go b r k i (inr w) (inl e) ih a = absurd (subst Ends (on b r value (arr k) i dead (close-dead (arr k) b (eqb-true b 93 e))) a)
 first-go b r k i (inr w) (inr e) ih a = subst Ends (on b r value (arr k) i _ (sym (laws.first-value k b w (eqb-false b 93 e))) ∙ sym (on b r first (arr k) i _ refl)) a
@@ -379,7 +382,7 @@ first-go b r k i (inr w) (inr e) ih a = subst Ends (on b r value (arr k) i _ (sy
 first-as : (r : List ℕ) (k : Stack) (i : ℕ) → Ends (walk r value (arr k) i) → Ends (walk r first (arr k) i)
 unfolding walk stops
 first-as [] k i a = a
-first-as (b ∷ r) k i a = first-go b r k i (test (isWs b)) (test (eqb b 93)) (first-as r k (i + 1)) a
+first-as (b ∷ r) k i a = first-go b r k i (either (isWs b)) (either (eqb b 93)) (first-as r k (i + 1)) a
 
 s-first : (k : Stack) → Serves first (arr k) value (arr k)
 s-first k = record { run = λ r a i. first-as r k i (a i) }
@@ -389,7 +392,8 @@ brace-dead : (k : Stack) (b : ℕ) → b ≡ 125 → step name k b ≡ dead
 unfolding step isWs
 brace-dead k b e = rw e
 
-name-go : (b : ℕ) (r : List ℕ) (k : Stack) (i : ℕ) → (isWs b ≡ true) ⊎ (isWs b ≡ false) → (eqb b 125 ≡ true) ⊎ (eqb b 125 ≡ false) → (Ends (walk r name (obj k) (i + 1)) → Ends (walk r name₁ (obj k) (i + 1))) → Ends (walk (b ∷ r) name (obj k) i) → Ends (walk (b ∷ r) name₁ (obj k) i)
+name-go : (b : ℕ) (r : List ℕ) (k : Stack) (i : ℕ) → (isWs b ≡ true) ⊎ (isWs b ≡ false) → (eqb b 125 ≡ true) ⊎ (eqb b 125 ≡ false)
+    → (Ends (walk r name (obj k) (i + 1)) → Ends (walk r name₁ (obj k) (i + 1))) → Ends (walk (b ∷ r) name (obj k) i) → Ends (walk (b ∷ r) name₁ (obj k) i)
 name-go b r k i (inl w) u ih a = subst Ends (sym (on b r name₁ (obj k) i _ (laws.ws-name₁ (obj k) b w))) (ih (subst Ends (on b r name (obj k) i _ (laws.ws-name (obj k) b w)) a))
 name-go b r k i (inr w) (inl e) ih a = absurd (subst Ends (on b r name (obj k) i dead (brace-dead (obj k) b (eqb-true b 125 e))) a)
 name-go b r k i (inr w) (inr e) ih a = subst Ends (on b r name (obj k) i _ (sym (laws.name₁-name k b w (eqb-false b 125 e))) ∙ sym (on b r name₁ (obj k) i _ refl)) a
@@ -397,7 +401,7 @@ name-go b r k i (inr w) (inr e) ih a = subst Ends (on b r name (obj k) i _ (sym 
 name-as : (r : List ℕ) (k : Stack) (i : ℕ) → Ends (walk r name (obj k) i) → Ends (walk r name₁ (obj k) i)
 unfolding walk stops
 name-as [] k i a = a
-name-as (b ∷ r) k i a = name-go b r k i (test (isWs b)) (test (eqb b 125)) (name-as r k (i + 1)) a
+name-as (b ∷ r) k i a = name-go b r k i (either (isWs b)) (either (eqb b 125)) (name-as r k (i + 1)) a
 
 s-name : (k : Stack) → Serves name₁ (obj k) name (obj k)
 s-name k = record { run = λ r a i. name-as r k i (a i) }
@@ -442,7 +446,8 @@ module _ (k : Stack) (h : Whole k) (X : Rule) where
 values : (d : ℕ) (k : Stack) → Whole k → d ≤ levels k → Leads (Value d) value k after k
 values zero k h l = lit-false k h otherwise lit-null k h otherwise lit-true k h otherwise number k h otherwise string k h
 values (suc d) k h l =
-    lit-false k h otherwise lit-null k h otherwise lit-true k h otherwise object k h (Value d) (omega arith) (values d (obj k) h (omega arith)) otherwise array k h (Value d) (omega arith) (values d (arr k) h (omega arith))
+    lit-false k h otherwise lit-null k h otherwise lit-true k h otherwise object k h (Value d) (omega arith) (values d (obj k) h (omega arith)) otherwise array k h (Value d)
+    (omega arith) (values d (arr k) h (omega arith))
     otherwise number k h otherwise string k h
 
 texts : (d : ℕ) → Leads (JsonText d) value (text d) after (text d)

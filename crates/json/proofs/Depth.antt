@@ -6,7 +6,7 @@ use Prim.Native.Nat.{ℕ, _+_}
 use native.Mathlib.Omega.{arith}
 use lib.ListN.{length, take, length-append}
 use lib.Seq.{take-at}
-use Rattle.json.specs.Machine.{Stack, alone, text, arr, obj, Mode, value, Next, live, deep, step, over, ended, stops, takes, walk, answer}
+use Rattle.json.specs.inner.Machine.{Stack, alone, text, arr, obj, Mode, value, Next, live, deep, step, over, ended, stops, takes, walk, answer}
 use Rattle.json.specs.Rfc7159.{JSON-text as JsonText}
 use Rattle.json.specs.Verdict.{TooDeep}
 use Rattle.json.specs.declared.Walked.{Walked}
@@ -89,7 +89,8 @@ module _ (b : ℕ) (bs : List ℕ) (m : Mode) (k : Stack) (i p : ℕ) (f : Fits 
         could = subst Ends (sym (on b (r .before ++ (r .it ∷ r .deeper)) m (raise 1 k) i (live m′ (raise 1 k′)) (up-live 1 m m′ k k′ b e))) (r .could);
       }
 
-  next : (n : Next) → step m k b ≡ n → Keeps n → takes n (walk bs) i ≡ Deep p → ((m′ : Mode) (k′ : Stack) → Fits k′ → walk bs m′ k′ (i + 1) ≡ Deep p → At bs m′ k′ (i + 1) p) → At (b ∷ bs) m k i p
+  next : (n : Next) → step m k b ≡ n → Keeps n → takes n (walk bs) i ≡ Deep p → ((m′ : Mode) (k′ : Stack) → Fits k′ → walk bs m′ k′ (i + 1) ≡ Deep p → At bs m′ k′ (i + 1) p)
+      → At (b ∷ bs) m k i p
   next n e (keeps {m = m′} {k = k′} g) q ih = later m′ k′ e (ih m′ k′ g q)
   next n e refuses q ih = differ q
   next n e sinks q ih = here e (cc)

@@ -2,7 +2,7 @@
 -- `ends-open` for a string, an array or an object). A number or a literal goes up to the first mark, and so does the scan. Assumes nothing.
 use mathlib.Core.Path.{_≡_, refl, sym, ap, subst, _∙_}
 use mathlib.Core.Logic.{_⊎_, inl, inr}
-use mathlib.Core.Bool.{Bool, true, false, _||_}
+use mathlib.Core.Bool.{Bool, true, false, _||_, cond}
 use mathlib.Core.List.{List, [], _∷_, _++_}
 use Prim.Native.Nat.{ℕ, suc, _≤_, _<_}
 use native.Mathlib.Omega.{arith}
@@ -11,21 +11,36 @@ use lib.Dec.{eqb}
 use borrow.Author.Tests.{eqb-true, ne-eqb}
 use Rattle.octets.specs.Class.{isDigit}
 use Rattle.octets.proofs.ClassLaws.{digit-in}
-use Rattle.json.specs.Machine.{alone, done, Mode, value, first, name, name₁, colon, after, str, esc, hex, word, minus, nought, int, dot, frac, exp, sign, power, Next, live, dead, deep, isWs, isSign, due, begin, ends, pick, step, over, stops, walk, from, expo, point, one}
-use Rattle.json.specs.Places.{isOpen, isShut, isMark, unmarked, size, behind}
+use Rattle.octets.proofs.TestLaws.{or-split}
+use Rattle.json.specs.inner.Machine.{alone, done, Mode, value, first, name, name₁, colon, after, str, esc, hex, word, minus, nought, int, dot, frac, exp}
+use Rattle.json.specs.inner.Machine.{sign, power, Next, live, dead, deep, isSign, due, begin, ends, step, over, stops, walk, from, expo, point, one}
+use Rattle.json.specs.Places.{isOpen, isShut, isMark, unmarked, size, behind, isWs}
 use Rattle.json.specs.declared.Walked.the-variants.{End}
 use Rattle.json.proofs.Listing.{Ink, at-byte, at-inside, at-skip}
 use Rattle.json.proofs.OwnBytes.{then, run, split}
-use Rattle.json.proofs.ScanLaws.{or-split, sign-is, Opener, Opened, opened-whole}
+use Rattle.json.proofs.ScanLaws.{sign-is, Opener, Opened, opened-whole}
 
 -- Numbers and literals: no byte of theirs is a mark.
 abbrev pub Unmarked : List ℕ → Type 0
 Unmarked [] = Unit
 Unmarked (b ∷ v) = (isMark b ≡ false) × Unmarked v
 
+-- white space is a mark
+pub ws-mark : (b : ℕ) → isWs b ≡ true → isMark b ≡ true
+unfolding isMark
+ws-mark b h = simp h
+
 pub unmark : (b : ℕ) → 32 < b → (b ≡ 44 → ⊥) → (b ≡ 93 → ⊥) → (b ≡ 125 → ⊥) → isMark b ≡ false
 unfolding isMark isShut isWs
-unmark b l h₁ h₂ h₃ = simp (ne-eqb b 32 (omega arith), ne-eqb b 9 (omega arith), ne-eqb b 10 (omega arith), ne-eqb b 13 (omega arith), ne-eqb b 44 h₁, ne-eqb b 93 h₂, ne-eqb b 125 h₃)
+unmark b l h₁ h₂ h₃ = simp (
+  ne-eqb b 32 (omega arith),
+  ne-eqb b 9 (omega arith),
+  ne-eqb b 10 (omega arith),
+  ne-eqb b 13 (omega arith),
+  ne-eqb b 44 h₁,
+  ne-eqb b 93 h₂,
+  ne-eqb b 125 h₃,
+)
 
 abbrev Scalar : Mode → Type 0
 Scalar value = ⊥
@@ -53,7 +68,7 @@ data Plainly (d b : ℕ) : Next → Type 0 where
   sunk : Plainly d b deep
   late : Plainly d b done
 
-or-else : {d b : ℕ} (t : Bool) {n n′ : Next} → (t ≡ true → Plainly d b n) → (t ≡ false → Plainly d b n′) → Plainly d b (pick t n n′)
+or-else : {d b : ℕ} (t : Bool) {n n′ : Next} → (t ≡ true → Plainly d b n) → (t ≡ false → Plainly d b n′) → Plainly d b (cond t n n′)
 or-else true f g = f refl
 or-else false f g = g refl
 
@@ -104,7 +119,8 @@ module _ (d b : ℕ) where
   plain-step (esc w) s = absurd s
   plain-step (hex w n) s = absurd s
   plain-step (word x xs) s = or-else (eqb b x) (λ e. at-byte′ x (due xs) (scalar-due xs (s .1)) e (s .0)) (λ _. refused)
-  plain-step minus s = or-else (eqb b 48) (λ e. at-byte′ 48 nought tt e (unmark 48 (omega arith) (omega arith) (omega arith) (omega arith))) (λ _. or-else (isDigit b) (at-digit int tt) (λ _. refused))
+  plain-step minus s = or-else (eqb b 48) (λ e. at-byte′ 48 nought tt e (unmark 48 (omega arith) (omega arith) (omega arith) (omega arith)))
+      (λ _. or-else (isDigit b) (at-digit int tt) (λ _. refused))
   plain-step nought s = plain-point
   plain-step int s = or-else (isDigit b) (at-digit int tt) (λ _. plain-point)
   plain-step dot s = or-else (isDigit b) (at-digit frac tt) (λ _. refused)
@@ -119,10 +135,17 @@ module _ (d b : ℕ) where
   plain-begin : eqb b 34 ≡ false → eqb b 91 ≡ false → eqb b 123 ≡ false → Plainly d b (begin (alone d) b)
   unfolding begin due
   plain-begin h₁ h₂ h₃ =
-      or-else (eqb b 34) (λ e. absurd (contra (sym h₁ ∙ e))) (λ _. or-else (eqb b 91) (λ e. absurd (contra (sym h₂ ∙ e))) (λ _. or-else (eqb b 123) (λ e. absurd (contra (sym h₃ ∙ e)))
-      (λ _. or-else (eqb b 116) (λ e. at-byte′ 116 (word 114 (117 ∷ 101 ∷ [])) (letter 114 (omega arith) (omega arith), (letter 117 (omega arith) (omega arith), (letter 101 (omega arith) (omega arith), tt))) e (letter 116 (omega arith) (omega arith)))
-      (λ _. or-else (eqb b 102) (λ e. at-byte′ 102 (word 97 (108 ∷ 115 ∷ 101 ∷ [])) (letter 97 (omega arith) (omega arith), (letter 108 (omega arith) (omega arith), (letter 115 (omega arith) (omega arith), (letter 101 (omega arith) (omega arith), tt)))) e (letter 102 (omega arith) (omega arith)))
-      (λ _. or-else (eqb b 110) (λ e. at-byte′ 110 (word 117 (108 ∷ 108 ∷ [])) (letter 117 (omega arith) (omega arith), (letter 108 (omega arith) (omega arith), (letter 108 (omega arith) (omega arith), tt))) e (letter 110 (omega arith) (omega arith)))
+      or-else (eqb b 34) (λ e. absurd (contra (sym h₁ ∙ e)))
+      (λ _. or-else (eqb b 91) (λ e. absurd (contra (sym h₂ ∙ e))) (λ _. or-else (eqb b 123) (λ e. absurd (contra (sym h₃ ∙ e)))
+      (λ _. or-else (eqb b 116) (λ e. at-byte′ 116 (word 114 (117 ∷ 101 ∷ []))
+      (letter 114 (omega arith) (omega arith), (letter 117 (omega arith) (omega arith), (letter 101 (omega arith) (omega arith), tt))) e
+      (letter 116 (omega arith) (omega arith)))
+      (λ _. or-else (eqb b 102) (λ e. at-byte′ 102 (word 97 (108 ∷ 115 ∷ 101 ∷ []))
+      (letter 97 (omega arith) (omega arith), (letter 108 (omega arith) (omega arith), (letter 115 (omega arith) (omega arith), (letter 101 (omega arith) (omega arith), tt))))
+      e (letter 102 (omega arith) (omega arith)))
+      (λ _. or-else (eqb b 110) (λ e. at-byte′ 110 (word 117 (108 ∷ 108 ∷ []))
+      (letter 117 (omega arith) (omega arith), (letter 108 (omega arith) (omega arith), (letter 108 (omega arith) (omega arith), tt))) e
+      (letter 110 (omega arith) (omega arith)))
       (λ _. or-else (eqb b 45) (λ e. at-byte′ 45 minus tt e (unmark 45 (omega arith) (omega arith) (omega arith) (omega arith)))
       (λ _. or-else (eqb b 48) (λ e. at-byte′ 48 nought tt e (unmark 48 (omega arith) (omega arith) (omega arith) (omega arith)))
       (λ _. or-else (isDigit b) (at-digit int tt) (λ _. refused)))))))))
@@ -130,7 +153,8 @@ module _ (d b : ℕ) where
       contra : _≡_ {A = Bool} false true → ⊥
       contra e = let z : _≡_ {A = ℕ} 0 1 = cc in omega arith
 
-plain-then : (d b : ℕ) (v : List ℕ) (m′ : Mode) (n : Next) → Plainly d b n → ((m : Mode) → Scalar m → run v m (alone d) ≡ live m′ (alone d) → Unmarked v) → then n (run v) ≡ live m′ (alone d) → Unmarked (b ∷ v)
+plain-then : (d b : ℕ) (v : List ℕ) (m′ : Mode) (n : Next) → Plainly d b n → ((m : Mode) → Scalar m → run v m (alone d) ≡ live m′ (alone d) → Unmarked v)
+    → then n (run v) ≡ live m′ (alone d) → Unmarked (b ∷ v)
 plain-then d b v m′ n (goes {m} h s) ih e = (h, ih m s e)
 plain-then d b v m′ n refused ih e = let z : _≡_ {A = ℕ} 0 1 = cc in absurd (omega arith)
 plain-then d b v m′ n sunk ih e = let z : _≡_ {A = ℕ} 0 1 = cc in absurd (omega arith)
@@ -168,7 +192,8 @@ module _ (d b : ℕ) (v t : List ℕ) (m′ : Mode) (ink : isWs b ≡ false) (f 
   size-by false true z h₁ h₂ h₃ = opened-whole d (b ∷ v) t m′ (inr (inl (eqb-true b 91 h₂))) f e .ends
   size-by false false true h₁ h₂ h₃ = opened-whole d (b ∷ v) t m′ (inr (inr (eqb-true b 123 h₃))) f e .ends
   size-by false false false h₁ h₂ h₃ =
-      plain-size b v t h₁ h₂ h₃ (plain-then d b v m′ (begin (alone d) b) (plain-begin d b h₁ h₂ h₃) (λ m₁ s₁ e₁. plain-run d v m₁ m′ s₁ e₁) (ap (λ (n : Next). then n (run v)) (sym (step-value d b ink)) ∙ e)) m
+      plain-size b v t h₁ h₂ h₃ (plain-then d b v m′ (begin (alone d) b) (plain-begin d b h₁ h₂ h₃) (λ m₁ s₁ e₁. plain-run d v m₁ m′ s₁ e₁)
+      (ap (λ (n : Next). then n (run v)) (sym (step-value d b ink)) ∙ e)) m
 
   value-size : size ((b ∷ v) ++ t) ≡ length (b ∷ v)
   value-size = size-by (eqb b 34) (eqb b 91) (eqb b 123) refl refl refl

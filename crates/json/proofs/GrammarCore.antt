@@ -1,7 +1,7 @@
 -- A value that RFC 7159 derives is white space, its core and white space: the rules count white space around brackets to the array and the object.
 -- The core is the value's own bytes: the scan ends with it, and it is derived by itself (`core-of`). Cited by proofs/PlaceTie.antt. Assumes nothing.
 use mathlib.Core.Path.{_≡_, refl, sym, ap, subst, _∙_}
-use mathlib.Core.Bool.{Bool, true, false, _&&_, _||_}
+use mathlib.Core.Bool.{Bool, true, false, _||_, and-false}
 use mathlib.Core.List.{List, [], _∷_, _++_, append-assoc, append-nil}
 use Prim.Native.Nat.{ℕ, zero, suc, _≤_, _<_}
 use native.Mathlib.Omega.{arith}
@@ -9,12 +9,13 @@ use lib.ListN.{length, drop}
 use lib.Dec.{eqb}
 use borrow.Author.Tests.{ne-eqb}
 use Rattle.octets.specs.Class.{all}
-use Rattle.json.specs.Machine.{isWs}
-use Rattle.json.specs.Places.{spaces, isOpen, isShut, isMark, outside, size}
-use Rattle.json.specs.Rfc7159.{Rule, Bytes, bytes as it, Byte, Range, range, _⨾_, both, _or_, left as one-of, right, Opt, absent, present, Star, none, more, DIGIT, ws, value-separator, False, null, True, number, char, string, member, object, array, value}
-use Rattle.json.specs.Derived.{shorn, bare}
+use Rattle.json.specs.Places.{spaces, isOpen, isShut, isMark, outside, size, isWs}
+use Rattle.json.specs.Rfc7159.{Rule, Bytes, bytes as it, Byte, Range, range, _⨾_, both, _or_, left as one-of, right, Opt, absent, present, Star, none}
+use Rattle.json.specs.Rfc7159.{more, DIGIT, ws, value-separator, False, null, True, number, char, string, member, object, array, value}
+use Rattle.json.specs.inner.Derived.{shorn, bare}
 use Rattle.json.proofs.PlaceLaws.{left-none}
-use Rattle.json.proofs.Listing.{Ink, Blank, Starts, Sized, Label, starts-ink}
+use Rattle.json.proofs.StepLaws.{not-ws}
+use Rattle.json.proofs.Listing.{Ink, Blank, Starts, Sized, Label, starts-ink, ws-34, ws-91, ws-93, ws-123, ws-125}
 use Rattle.json.proofs.ScanLaws.{left-closes}
 use Rattle.json.proofs.EndLaws.{Unmarked, Marked, unmark, plain-size}
 use Rattle.json.proofs.GrammarScan.{Passes, p-ws, p-chars, p-quote, p-values, p-members, p-end-93, p-end-125, p-value, _and-then_}
@@ -94,9 +95,12 @@ u-digit = u-range (λ b l u. unmark b (omega arith) (omega arith) (omega arith) 
 u-number : Plain number
 u-number =
     u-opt (u-byte 0x2D (omega arith) (omega arith) (omega arith) (omega arith))
-    u-then (u-byte 0x30 (omega arith) (omega arith) (omega arith) (omega arith) u-or u-range (λ b l u. unmark b (omega arith) (omega arith) (omega arith) (omega arith)) u-then u-star u-digit)
+    u-then (u-byte 0x30 (omega arith) (omega arith) (omega arith) (omega arith) u-or u-range (λ b l u. unmark b (omega arith) (omega arith) (omega arith) (omega arith)) u-then
+    u-star u-digit)
     u-then u-opt (u-byte 0x2E (omega arith) (omega arith) (omega arith) (omega arith) u-then u-digit u-then u-star u-digit)
-    u-then u-opt ((u-byte 0x65 (omega arith) (omega arith) (omega arith) (omega arith) u-or u-byte 0x45 (omega arith) (omega arith) (omega arith) (omega arith)) u-then u-opt (u-byte 0x2D (omega arith) (omega arith) (omega arith) (omega arith) u-or u-byte 0x2B (omega arith) (omega arith) (omega arith) (omega arith)) u-then u-digit u-then u-star u-digit)
+    u-then u-opt ((u-byte 0x65 (omega arith) (omega arith) (omega arith) (omega arith) u-or u-byte 0x45 (omega arith) (omega arith) (omega arith) (omega arith)) u-then u-opt
+    (u-byte 0x2D (omega arith) (omega arith) (omega arith) (omega arith) u-or u-byte 0x2B (omega arith) (omega arith) (omega arith) (omega arith)) u-then u-digit u-then u-star
+    u-digit)
 
 -- their first byte
 record Front (v : List ℕ) : Type 0 where
@@ -109,12 +113,17 @@ record Front (v : List ℕ) : Type 0 where
   no-shut : eqb b 93 ≡ false
   ink : isWs b ≡ false
 
-not-ws : (b : ℕ) → 32 < b → isWs b ≡ false
-unfolding isWs
-not-ws b h = simp (ne-eqb b 32 (omega arith), ne-eqb b 9 (omega arith), ne-eqb b 10 (omega arith), ne-eqb b 13 (omega arith))
-
 front : (b : ℕ) (t : List ℕ) → 34 < b → (b ≡ 91 → ⊥) → (b ≡ 93 → ⊥) → (b ≡ 123 → ⊥) → Front (b ∷ t)
-front b t l h₁ h₂ h₃ = record { b = b; t = t; is = refl; no-quote = ne-eqb b 34 (omega arith); no-array = ne-eqb b 91 h₁; no-object = ne-eqb b 123 h₃; no-shut = ne-eqb b 93 h₂; ink = not-ws b (omega arith) }
+front b t l h₁ h₂ h₃ = record {
+  b = b;
+  t = t;
+  is = refl;
+  no-quote = ne-eqb b 34 (omega arith);
+  no-array = ne-eqb b 91 h₁;
+  no-object = ne-eqb b 123 h₃;
+  no-shut = ne-eqb b 93 h₂;
+  ink = not-ws b (omega arith);
+}
 
 number-front : (v : List ℕ) → number v → Front v
 number-front v (both (present it) r) = front 45 _ (omega arith) (omega arith) (omega arith) (omega arith)
@@ -145,10 +154,6 @@ all-blank : (u : List ℕ) → Blank u → all isWs u ≡ true
 unfolding all
 all-blank [] h = refl
 all-blank (b ∷ u) h = simp (h .0) (all-blank u (h .1))
-
-and-false : (x : Bool) → (x && false) ≡ false
-and-false true = refl
-and-false false = refl
 
 not-all : (f : List ℕ) (b : ℕ) (u : List ℕ) → isWs b ≡ false → all isWs (f ++ (b ∷ u)) ≡ false
 unfolding all
@@ -192,7 +197,8 @@ pub record Core (d : ℕ) (v : List ℕ) : Type 0 where
 pub core-bare : {d : ℕ} {v : List ℕ} (k : Core d v) → bare v ≡ k .c
 core-bare k = ap bare (k .is) ∙ bare-is (k .w) (k .c) (k .u) (k .before) (k .behind) (k .sized [] tt .starts) (k .inked)
 
-scalar-sized : (b : ℕ) (t : List ℕ) → eqb b 34 ≡ false → eqb b 91 ≡ false → eqb b 123 ≡ false → eqb b 93 ≡ false → isWs b ≡ false → Unmarked (b ∷ t) → (r : List ℕ) → Marked r → Sized (b ∷ t) r
+scalar-sized : (b : ℕ) (t : List ℕ) → eqb b 34 ≡ false → eqb b 91 ≡ false → eqb b 123 ≡ false → eqb b 93 ≡ false → isWs b ≡ false → Unmarked (b ∷ t) → (r : List ℕ) → Marked r
+    → Sized (b ∷ t) r
 scalar-sized b t h₁ h₂ h₃ h₄ i u r m = record { starts = (i, h₄); ends = plain-size b t r h₁ h₂ h₃ u m }
 
 scalar-core : (d : ℕ) (v : List ℕ) → Front v → Unmarked v → value d v → Core d v
@@ -217,33 +223,21 @@ letter : (b : ℕ) → 97 ≤ b → b ≤ 122 → isMark b ≡ false
 letter b l u = unmark b (omega arith) (omega arith) (omega arith) (omega arith)
 
 false-core : (d : ℕ) (v : List ℕ) → False v → value d v → Core d v
-false-core d v x y = literal-core d 0x66 _ (omega arith) (omega arith) (omega arith) (omega arith) (letter 0x66 (omega arith) (omega arith), (letter 0x61 (omega arith) (omega arith), (letter 0x6C (omega arith) (omega arith), (letter 0x73 (omega arith) (omega arith), (letter 0x65 (omega arith) (omega arith), tt))))) v x y
+false-core d v x y = literal-core d 0x66 _ (omega arith) (omega arith) (omega arith) (omega arith) (
+  letter 0x66 (omega arith) (omega arith),
+  (letter 0x61 (omega arith) (omega arith), (letter 0x6C (omega arith) (omega arith), (letter 0x73 (omega arith) (omega arith), (letter 0x65 (omega arith) (omega arith), tt)))),
+)
+    v x y
 
 null-core : (d : ℕ) (v : List ℕ) → null v → value d v → Core d v
-null-core d v x y = literal-core d 0x6E _ (omega arith) (omega arith) (omega arith) (omega arith) (letter 0x6E (omega arith) (omega arith), (letter 0x75 (omega arith) (omega arith), (letter 0x6C (omega arith) (omega arith), (letter 0x6C (omega arith) (omega arith), tt)))) v x y
+null-core d v x y = literal-core d 0x6E _ (omega arith) (omega arith) (omega arith) (omega arith)
+    (letter 0x6E (omega arith) (omega arith), (letter 0x75 (omega arith) (omega arith), (letter 0x6C (omega arith) (omega arith), (letter 0x6C (omega arith) (omega arith), tt))))
+    v x y
 
 true-core : (d : ℕ) (v : List ℕ) → True v → value d v → Core d v
-true-core d v x y = literal-core d 0x74 _ (omega arith) (omega arith) (omega arith) (omega arith) (letter 0x74 (omega arith) (omega arith), (letter 0x72 (omega arith) (omega arith), (letter 0x75 (omega arith) (omega arith), (letter 0x65 (omega arith) (omega arith), tt)))) v x y
-
-ws-34 : isWs 34 ≡ false
-unfolding isWs
-ws-34 = refl
-
-pub ws-91 : isWs 91 ≡ false
-unfolding isWs
-ws-91 = refl
-
-pub ws-123 : isWs 123 ≡ false
-unfolding isWs
-ws-123 = refl
-
-ws-93 : isWs 93 ≡ false
-unfolding isWs
-ws-93 = refl
-
-ws-125 : isWs 125 ≡ false
-unfolding isWs
-ws-125 = refl
+true-core d v x y = literal-core d 0x74 _ (omega arith) (omega arith) (omega arith) (omega arith)
+    (letter 0x74 (omega arith) (omega arith), (letter 0x72 (omega arith) (omega arith), (letter 0x75 (omega arith) (omega arith), (letter 0x65 (omega arith) (omega arith), tt))))
+    v x y
 
 -- a string: behind its first quote the scan is over with the second
 string-size : (m t : List ℕ) → Star char m → size ((34 ∷ (m ++ (34 ∷ []))) ++ t) ≡ length (34 ∷ (m ++ (34 ∷ [])))
@@ -267,11 +261,13 @@ pub label-of : (m : List ℕ) → Star char m → Label m
 label-of m x = record { closes = λ t. p-chars 0 .run m x (34 ∷ t) ∙ omega (arith, left-closes 34 t 0 refl, left-none t) }
 
 -- an array, and an object, from bracket to bracket
-array-size : (X : Rule) (p : (n : ℕ) → Passes X outside (suc n) outside (suc n)) (r t : List ℕ) → (ws ⨾ Opt (X ⨾ Star (value-separator ⨾ X)) ⨾ ws ⨾ Byte 0x5D) r → size ((91 ∷ r) ++ t) ≡ length (91 ∷ r)
+array-size : (X : Rule) (p : (n : ℕ) → Passes X outside (suc n) outside (suc n)) (r t : List ℕ) → (ws ⨾ Opt (X ⨾ Star (value-separator ⨾ X)) ⨾ ws ⨾ Byte 0x5D) r
+    → size ((91 ∷ r) ++ t) ≡ length (91 ∷ r)
 unfolding size isOpen
 array-size X p r t x = omega (arith, (p-ws 0 and-then p-values X p 0 and-then p-ws 0 and-then p-end-93 0) .run r x t, left-none t)
 
-object-size : (X : Rule) (p : (n : ℕ) → Passes X outside (suc n) outside (suc n)) (r t : List ℕ) → (ws ⨾ Opt (member X ⨾ Star (value-separator ⨾ member X)) ⨾ ws ⨾ Byte 0x7D) r → size ((123 ∷ r) ++ t) ≡ length (123 ∷ r)
+object-size : (X : Rule) (p : (n : ℕ) → Passes X outside (suc n) outside (suc n)) (r t : List ℕ) → (ws ⨾ Opt (member X ⨾ Star (value-separator ⨾ member X)) ⨾ ws ⨾ Byte 0x7D) r
+    → size ((123 ∷ r) ++ t) ≡ length (123 ∷ r)
 unfolding size isOpen
 object-size X p r t x = omega (arith, (p-ws 0 and-then p-members X p 0 and-then p-ws 0 and-then p-end-125 0) .run r x t, left-none t)
 
@@ -312,5 +308,6 @@ core-of (suc d) v (right (one-of x)) = null-core (suc d) v x (right (one-of x))
 core-of (suc d) v (right (right (one-of x))) = true-core (suc d) v x (right (right (one-of x)))
 core-of (suc d) v (right (right (right (one-of x)))) = object-core d v x
 core-of (suc d) v (right (right (right (right (one-of x))))) = array-core d v x
-core-of (suc d) v (right (right (right (right (right (one-of x)))))) = scalar-core (suc d) v (number-front v x) (u-number .all-of v x) (right (right (right (right (right (one-of x))))))
+core-of (suc d) v (right (right (right (right (right (one-of x)))))) = scalar-core (suc d) v (number-front v x) (u-number .all-of v x)
+    (right (right (right (right (right (one-of x))))))
 core-of (suc d) v (right (right (right (right (right (right x)))))) = string-core (suc d) v x (right (right (right (right (right (right x))))))

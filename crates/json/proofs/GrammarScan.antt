@@ -9,7 +9,9 @@ use lib.ListN.{length, length-append}
 use lib.Dec.{eqb}
 use borrow.Author.Tests.{ne-eqb}
 use Rattle.json.specs.Places.{isOpen, isShut, Inside, outside, quoted, escaped, left}
-use Rattle.json.specs.Rfc7159.{Rule, Bytes, bytes as it, Byte, Range, range, AtLeast, at-least, _⨾_, both, _or_, left as one-of, right, Opt, absent, present, Star, none, more, DIGIT, HEXDIG, ws, name-separator, value-separator, False, null, True, number, char, string, member, object, array, value}
+use Rattle.json.specs.Rfc7159.{Rule, Bytes, bytes as it, Byte, Range, range, AtLeast, at-least, _⨾_, both, _or_, left as one-of, right, Opt, absent}
+use Rattle.json.specs.Rfc7159.{present, Star, none, more, DIGIT, HEXDIG, ws, name-separator, value-separator, False, null, True, number, char, string}
+use Rattle.json.specs.Rfc7159.{member, object, array, value}
 use Rattle.json.proofs.ScanLaws.{Calm, calm, calm-letter, left-calm, left-quote, left-open, left-shut, left-closes, left-back, left-char, left-taken}
 
 -- What a rule derives, the scan passes over: from x with n brackets open to x′ with n′.
@@ -91,14 +93,16 @@ p-digit : (n : ℕ) → Passes DIGIT outside (suc n) outside (suc n)
 p-digit n = p-range (λ b l u. calm-byte b n (low b (omega arith) (omega arith)))
 
 pub p-ws : (n : ℕ) → Passes ws outside (suc n) outside (suc n)
-p-ws n = p-star (p-low 0x20 n (omega arith) (omega arith) or-else p-low 0x09 n (omega arith) (omega arith) or-else p-low 0x0A n (omega arith) (omega arith) or-else p-low 0x0D n (omega arith) (omega arith))
+p-ws n = p-star (p-low 0x20 n (omega arith) (omega arith) or-else p-low 0x09 n (omega arith) (omega arith) or-else p-low 0x0A n (omega arith) (omega arith) or-else p-low 0x0D n
+    (omega arith) (omega arith))
 
 p-number : (n : ℕ) → Passes number outside (suc n) outside (suc n)
 p-number n =
     p-opt (p-low 0x2D n (omega arith) (omega arith))
     and-then (p-low 0x30 n (omega arith) (omega arith) or-else p-range (λ b l u. calm-byte b n (low b (omega arith) (omega arith))) and-then p-star (p-digit n))
     and-then p-opt (p-low 0x2E n (omega arith) (omega arith) and-then p-digit n and-then p-star (p-digit n))
-    and-then p-opt ((p-byte (calm-byte 0x65 n (calm-letter 0x65 (omega arith) (omega arith))) or-else p-low 0x45 n (omega arith) (omega arith)) and-then p-opt (p-low 0x2D n (omega arith) (omega arith) or-else p-low 0x2B n (omega arith) (omega arith)) and-then p-digit n and-then p-star (p-digit n))
+    and-then p-opt ((p-byte (calm-byte 0x65 n (calm-letter 0x65 (omega arith) (omega arith))) or-else p-low 0x45 n (omega arith) (omega arith)) and-then p-opt
+    (p-low 0x2D n (omega arith) (omega arith) or-else p-low 0x2B n (omega arith) (omega arith)) and-then p-digit n and-then p-star (p-digit n))
 
 abbrev Calms : List ℕ → Type 0
 Calms [] = Unit
@@ -115,20 +119,33 @@ p-literal : (n : ℕ) {w : List ℕ} → Calms w → Passes (Bytes w) outside (s
 p-literal n {w} h = record { run = literal-run n w h }
 
 p-false : (n : ℕ) → Passes False outside (suc n) outside (suc n)
-p-false n = p-literal n (calm-letter 0x66 (omega arith) (omega arith), (calm-letter 0x61 (omega arith) (omega arith), (calm-letter 0x6C (omega arith) (omega arith), (calm-letter 0x73 (omega arith) (omega arith), (calm-letter 0x65 (omega arith) (omega arith), tt)))))
+p-false n = p-literal n (
+  calm-letter 0x66 (omega arith) (omega arith),
+  (
+    calm-letter 0x61 (omega arith) (omega arith),
+    (calm-letter 0x6C (omega arith) (omega arith), (calm-letter 0x73 (omega arith) (omega arith), (calm-letter 0x65 (omega arith) (omega arith), tt))),
+  ),
+)
 
 p-null : (n : ℕ) → Passes null outside (suc n) outside (suc n)
-p-null n = p-literal n (calm-letter 0x6E (omega arith) (omega arith), (calm-letter 0x75 (omega arith) (omega arith), (calm-letter 0x6C (omega arith) (omega arith), (calm-letter 0x6C (omega arith) (omega arith), tt))))
+p-null n = p-literal n (
+  calm-letter 0x6E (omega arith) (omega arith),
+  (calm-letter 0x75 (omega arith) (omega arith), (calm-letter 0x6C (omega arith) (omega arith), (calm-letter 0x6C (omega arith) (omega arith), tt))),
+)
 
 p-true : (n : ℕ) → Passes True outside (suc n) outside (suc n)
-p-true n = p-literal n (calm-letter 0x74 (omega arith) (omega arith), (calm-letter 0x72 (omega arith) (omega arith), (calm-letter 0x75 (omega arith) (omega arith), (calm-letter 0x65 (omega arith) (omega arith), tt))))
+p-true n = p-literal n (
+  calm-letter 0x74 (omega arith) (omega arith),
+  (calm-letter 0x72 (omega arith) (omega arith), (calm-letter 0x75 (omega arith) (omega arith), (calm-letter 0x65 (omega arith) (omega arith), tt))),
+)
 
 -- In strings, with any number of brackets open.
 in-string : (b n : ℕ) → (b ≡ 34 → ⊥) → (b ≡ 92 → ⊥) → Moves b quoted n quoted n
 in-string b n h g = record { does = λ r. left-char b r n (ne-eqb b 34 h) (ne-eqb b 92 g) }
 
 p-hex : (n : ℕ) → Passes HEXDIG quoted n quoted n
-p-hex n = p-range (λ b l u. in-string b n (omega arith) (omega arith)) or-else p-range (λ b l u. in-string b n (omega arith) (omega arith)) or-else p-range (λ b l u. in-string b n (omega arith) (omega arith))
+p-hex n = p-range (λ b l u. in-string b n (omega arith) (omega arith)) or-else p-range (λ b l u. in-string b n (omega arith) (omega arith)) or-else p-range
+    (λ b l u. in-string b n (omega arith) (omega arith))
 
 p-taken : (b n : ℕ) → Passes (Byte b) escaped n quoted n
 p-taken b n = p-byte (record { does = λ r. left-taken b r n })
@@ -136,9 +153,11 @@ p-taken b n = p-byte (record { does = λ r. left-taken b r n })
 pub p-chars : (n : ℕ) → Passes (Star char) quoted n quoted n
 p-chars n =
     p-star
-    ((p-range (λ b l u. in-string b n (omega arith) (omega arith)) or-else p-range (λ b l u. in-string b n (omega arith) (omega arith)) or-else p-least (λ b l. in-string b n (omega arith) (omega arith)))
+    ((p-range (λ b l u. in-string b n (omega arith) (omega arith)) or-else p-range (λ b l u. in-string b n (omega arith) (omega arith)) or-else p-least
+    (λ b l. in-string b n (omega arith) (omega arith)))
     or-else p-byte (record { does = λ r. left-back 92 r n refl refl })
-    and-then (p-taken 0x22 n or-else p-taken 0x5C n or-else p-taken 0x2F n or-else p-taken 0x62 n or-else p-taken 0x66 n or-else p-taken 0x6E n or-else p-taken 0x72 n or-else p-taken 0x74 n or-else p-taken 0x75 n and-then p-hex n and-then p-hex n and-then p-hex n and-then p-hex n))
+    and-then (p-taken 0x22 n or-else p-taken 0x5C n or-else p-taken 0x2F n or-else p-taken 0x62 n or-else p-taken 0x66 n or-else p-taken 0x6E n or-else p-taken 0x72 n or-else
+    p-taken 0x74 n or-else p-taken 0x75 n and-then p-hex n and-then p-hex n and-then p-hex n and-then p-hex n))
 
 pub p-quote : (n : ℕ) → Passes (Byte 0x22) quoted n outside n
 p-quote n = p-byte (record { does = λ r. left-closes 34 r n refl })
@@ -194,4 +213,5 @@ p-object X p n = (p-ws n and-then p-open 123 n refl open-123 and-then p-ws (suc 
 
 pub p-value : (d n : ℕ) → Passes (value d) outside (suc n) outside (suc n)
 p-value zero n = p-false n or-else p-null n or-else p-true n or-else p-number n or-else p-string n
-p-value (suc d) n = p-false n or-else p-null n or-else p-true n or-else p-object (value d) (p-value d) n or-else p-array (value d) (p-value d) n or-else p-number n or-else p-string n
+p-value (suc d) n = p-false n or-else p-null n or-else p-true n or-else p-object (value d) (p-value d) n or-else p-array (value d) (p-value d) n or-else p-number n or-else
+    p-string n

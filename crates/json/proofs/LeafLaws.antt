@@ -9,7 +9,7 @@ use borrow.Author.Tests.{eq-eqb, ne-eqb}
 use lib.ListN.{length, getD, drop}
 use lib.Seq.{drop-cons, drop-length}
 use Rattle.octets.specs.Class.{isDigit}
-use Rattle.json.specs.Machine.{Stack, Role, Mode, after, str, hex, word, power, live, dead, isHex, due, hexes, step, from, Pass}
+use Rattle.json.specs.inner.Machine.{Stack, Role, Mode, after, str, hex, word, power, live, dead, isHexDigit, due, hexes, step, from, Pass}
 use Rattle.json.specs.declared.Walked.the-variants.{Bad}
 use Rattle.json.proofs.MoveLaws.{moves, short, as-good}
 use Rattle.json.proofs.StepLaws.{power-digit, power-rest}
@@ -47,19 +47,19 @@ unfolding hexes
 hexes-suc w zero h = absurd (omega arith)
 hexes-suc w (suc n) h = ap (hex w) (omega arith)
 
-pub hex-step : (w : Role) (n : ℕ) (k : Stack) (b : ℕ) → isHex b ≡ true → step (hex w n) k b ≡ live (hexes w n) k
+pub hex-step : (w : Role) (n : ℕ) (k : Stack) (b : ℕ) → isHexDigit b ≡ true → step (hex w n) k b ≡ live (hexes w n) k
 unfolding step
 hex-step w n k b e = simp e
 
-hex-stop : (w : Role) (n : ℕ) (k : Stack) (b : ℕ) → isHex b ≡ false → step (hex w n) k b ≡ dead
+hex-stop : (w : Role) (n : ℕ) (k : Stack) (b : ℕ) → isHexDigit b ≡ false → step (hex w n) k b ≡ dead
 unfolding step
 hex-stop w n k b e = simp e
 
 module _ (s : List ℕ) (i n : ℕ) (w : Role) (k : Stack) (more : 0 < n) where
-  pub hex-hit : i < length s → isHex (getD s i 0) ≡ true → from s i (hexes w n) k ≡ from s (i + 1) (hexes w (n - 1)) k
+  pub hex-hit : i < length s → isHexDigit (getD s i 0) ≡ true → from s i (hexes w n) k ≡ from s (i + 1) (hexes w (n - 1)) k
   hex-hit h e = rw (hexes-suc w n more) (moves s i _ k (live (hexes w (n - 1)) k) h (hex-step w (n - 1) k _ e))
 
-  pub hex-miss : i < length s → isHex (getD s i 0) ≡ false → from s i (hexes w n) k ≡ Bad i
+  pub hex-miss : i < length s → isHexDigit (getD s i 0) ≡ false → from s i (hexes w n) k ≡ Bad i
   hex-miss h e = rw (hexes-suc w n more) (moves s i _ k dead h (hex-stop w (n - 1) k _ e))
 
   pub hex-short : i ≤ length s → length s ≤ i → from s i (hexes w n) k ≡ Bad i

@@ -23,3 +23,4 @@ pub mod PlaceTie
 pub mod PlaceSamples
 pub mod AroundLaws
 pub mod PassLaws
+pub mod Marks

@@ -8,8 +8,8 @@ use native.Mathlib.Omega.{arith}
 use lib.ListN.{length, getD, drop, length-append, length-drop}
 use lib.Seq.{drop-drop, getD-drop, drop-append-seam, take-append-seam}
 use lib.Dec.{eqb}
-use Rattle.json.specs.Machine.{isWs}
-use Rattle.json.specs.Places.{part, spaces, past, left, quoted, size, behind, bytes, closing, raw, next, valueOf, follows, more, memberAt, membersFrom, members, elementsFrom, elements, spell}
+use Rattle.json.specs.Places.{part, spaces, past, left, quoted, size, behind, bytes, closing, raw, next, valueOf, follows, more, memberAt, membersFrom}
+use Rattle.json.specs.Places.{members, elementsFrom, elements, spell, isWs}
 use Rattle.json.proofs.PlaceLaws.{next-is}
 
 -- Places by what stands from there on.
@@ -47,9 +47,17 @@ pub starts-ink : (v t : List ℕ) → Starts v → Ink (v ++ t)
 starts-ink [] t o = absurd o
 starts-ink (b ∷ v) t o = o .0
 
+pub ws-123 : isWs 123 ≡ false
+unfolding isWs
+ws-123 = refl
+
 pub ws-125 : isWs 125 ≡ false
 unfolding isWs
 ws-125 = refl
+
+pub ws-91 : isWs 91 ≡ false
+unfolding isWs
+ws-91 = refl
 
 pub ws-93 : isWs 93 ≡ false
 unfolding isWs
@@ -59,7 +67,7 @@ pub ws-44 : isWs 44 ≡ false
 unfolding isWs
 ws-44 = refl
 
-ws-34 : isWs 34 ≡ false
+pub ws-34 : isWs 34 ≡ false
 unfolding isWs
 ws-34 = refl
 
@@ -252,17 +260,21 @@ module _ (X : List ℕ → List ℕ → Type 0) (N : List ℕ → Type 0) (sized
       }
 
   -- THE LAW: the members of an object text are those that were written, in order, wherever it stands
-  pub members-read : (n : ℕ) (s : List ℕ) (a : ℕ) (f : Field) (fs : List Field) (t : List ℕ) → Fines X N f fs → length fs < n → drop a s ≡ body f fs t → map (spell s) (membersFrom n s a) ≡ readAll (f ∷ fs)
+  pub members-read : (n : ℕ) (s : List ℕ) (a : ℕ) (f : Field) (fs : List Field) (t : List ℕ) → Fines X N f fs → length fs < n → drop a s ≡ body f fs t
+      → map (spell s) (membersFrom n s a) ≡ readAll (f ∷ fs)
   unfolding membersFrom body
   members-read zero s a f fs t h c e = absurd (omega arith)
   members-read (suc n) s a f [] t h c e =
       let r = entry-read 125 s a f t h ws-125 e in
-      ap (map (spell s)) (member-is s (membersFrom n s) (past s a) (r .quote) ∙ ap (λ (z : List ℕ). past s a ∷ z) (more-off 125 s t (membersFrom n s) (valueOf s (past s a)) refl (r .rest))) ∙ ap (λ (p : List ℕ × List ℕ). p ∷ []) (r .spelt)
+      ap (map (spell s)) (member-is s (membersFrom n s) (past s a) (r .quote)
+      ∙ ap (λ (z : List ℕ). past s a ∷ z) (more-off 125 s t (membersFrom n s) (valueOf s (past s a)) refl (r .rest))) ∙ ap (λ (p : List ℕ × List ℕ). p ∷ []) (r .spelt)
   members-read (suc n) s a f (g ∷ gs) t h c e =
       let r = entry-read 44 s a f (body g gs t) (h .0) ws-44 e in
       let y = follows s (valueOf s (past s a)) in
       let ih = members-read n s (y + 1) g gs t (h .1) (omega arith) (at-next 44 _ s y (r .rest)) in
-      ap (map (spell s)) (member-is s (membersFrom n s) (past s a) (r .quote) ∙ ap (λ (z : List ℕ). past s a ∷ z) (more-on s (body g gs t) (membersFrom n s) (valueOf s (past s a)) (r .rest))) ∙ ap (λ (p : List ℕ × List ℕ). p ∷ map (spell s) (membersFrom n s (y + 1))) (r .spelt) ∙ ap (λ (z : List (List ℕ × List ℕ)). read f ∷ z) ih
+      ap (map (spell s)) (member-is s (membersFrom n s) (past s a) (r .quote)
+      ∙ ap (λ (z : List ℕ). past s a ∷ z) (more-on s (body g gs t) (membersFrom n s) (valueOf s (past s a)) (r .rest)))
+      ∙ ap (λ (p : List ℕ × List ℕ). p ∷ map (spell s) (membersFrom n s (y + 1))) (r .spelt) ∙ ap (λ (z : List (List ℕ × List ℕ)). read f ∷ z) ih
 
 module _ (X : List ℕ → List ℕ → Type 0) (sized : (v t : List ℕ) → X v t → Sized v t) where
   pub item-read : (b : ℕ) (s : List ℕ) (a : ℕ) (i : Item) (t : List ℕ) → Good X i b → isWs b ≡ false → drop a s ≡ item i (b ∷ t) → FoundItem s a i (b ∷ t)
@@ -272,12 +284,20 @@ module _ (X : List ℕ → List ℕ → Type 0) (sized : (v t : List ℕ) → X 
       let e₁ = past-at s (i .w) _ a (h .before) (starts-ink (i .v) _ (sz .starts)) e in
       let be = behind-is s (i .v) _ (past s a) sz e₁ in
       let e₂ = at-skip (i .v) _ s (past s a) e₁ in
-      record { start = e₁; at = past-is s (i .w) _ a (h .before) (starts-ink (i .v) _ (sz .starts)) e; end = be; next = rw be (past-is s (i .u) (b ∷ t) (past s a + length (i .v)) (h .behind) o e₂); rest = rw be (past-at s (i .u) (b ∷ t) (past s a + length (i .v)) (h .behind) o e₂) }
+      record {
+        start = e₁;
+        at = past-is s (i .w) _ a (h .before) (starts-ink (i .v) _ (sz .starts)) e;
+        end = be;
+        next =
+            rw be (past-is s (i .u) (b ∷ t) (past s a + length (i .v)) (h .behind) o e₂);
+        rest = rw be (past-at s (i .u) (b ∷ t) (past s a + length (i .v)) (h .behind) o e₂);
+      }
 
   item-bytes : (s : List ℕ) (a : ℕ) (i : Item) (t : List ℕ) → FoundItem s a i t → bytes s (past s a) ≡ i .v
   item-bytes s a i t r = ap (part s (past s a)) (r .end) ∙ at-part (i .v) _ s (past s a) (r .start)
 
-  pub elements-read : (n : ℕ) (s : List ℕ) (a : ℕ) (i : Item) (is : List Item) (t : List ℕ) → Goods X i is → length is < n → drop a s ≡ items i is t → map (bytes s) (elementsFrom n s a) ≡ values (i ∷ is)
+  pub elements-read : (n : ℕ) (s : List ℕ) (a : ℕ) (i : Item) (is : List Item) (t : List ℕ) → Goods X i is → length is < n → drop a s ≡ items i is t
+      → map (bytes s) (elementsFrom n s a) ≡ values (i ∷ is)
   unfolding elementsFrom items
   elements-read zero s a i is t h c e = absurd (omega arith)
   elements-read (suc n) s a i [] t h c e =
@@ -287,23 +307,29 @@ module _ (X : List ℕ → List ℕ → Type 0) (sized : (v t : List ℕ) → X 
       let r = item-read 44 s a i (items j js t) (h .0) ws-44 e in
       let y = follows s (past s a) in
       let ih = elements-read n s (y + 1) j js t (h .1) (omega arith) (at-next 44 _ s y (r .rest)) in
-      ap (λ (z : List ℕ). map (bytes s) (past s a ∷ z)) (more-on s (items j js t) (elementsFrom n s) (past s a) (r .rest)) ∙ ap (λ (p : List ℕ). p ∷ map (bytes s) (elementsFrom n s (y + 1))) (item-bytes s a i (44 ∷ items j js t) r) ∙ ap (λ (z : List (List ℕ)). i .v ∷ z) ih
+      ap (λ (z : List ℕ). map (bytes s) (past s a ∷ z)) (more-on s (items j js t) (elementsFrom n s) (past s a) (r .rest))
+      ∙ ap (λ (p : List ℕ). p ∷ map (bytes s) (elementsFrom n s (y + 1))) (item-bytes s a i (44 ∷ items j js t) r) ∙ ap (λ (z : List (List ℕ)). i .v ∷ z) ih
 
   -- where the elements end, and where they start
-  pub ends-read : (n : ℕ) (s : List ℕ) (a : ℕ) (i : Item) (is : List Item) (t : List ℕ) → Goods X i is → length is < n → drop a s ≡ items i is t → map (behind s) (elementsFrom n s a) ≡ stopsAt a i is
+  pub ends-read : (n : ℕ) (s : List ℕ) (a : ℕ) (i : Item) (is : List Item) (t : List ℕ) → Goods X i is → length is < n → drop a s ≡ items i is t
+      → map (behind s) (elementsFrom n s a) ≡ stopsAt a i is
   unfolding elementsFrom items stopsAt
   ends-read zero s a i is t h c e = absurd (omega arith)
   ends-read (suc n) s a i [] t h c e =
       let r = item-read 93 s a i t h ws-93 e in
-      ap (λ (z : List ℕ). map (behind s) (past s a ∷ z)) (more-off 93 s t (elementsFrom n s) (past s a) refl (r .rest)) ∙ ap (λ (p : ℕ). p ∷ []) (r .end ∙ ap (λ (x : ℕ). x + length (i .v)) (r .at))
+      ap (λ (z : List ℕ). map (behind s) (past s a ∷ z)) (more-off 93 s t (elementsFrom n s) (past s a) refl (r .rest))
+      ∙ ap (λ (p : ℕ). p ∷ []) (r .end ∙ ap (λ (x : ℕ). x + length (i .v)) (r .at))
   ends-read (suc n) s a i (j ∷ js) t h c e =
       let r = item-read 44 s a i (items j js t) (h .0) ws-44 e in
       let y = follows s (past s a) in
       let ih = ends-read n s (y + 1) j js t (h .1) (omega arith) (at-next 44 _ s y (r .rest)) in
       let z : y + 1 ≡ a + length (i .w) + length (i .v) + length (i .u) + 1 = omega (arith, r .next, r .at) in
-      ap (λ (z : List ℕ). map (behind s) (past s a ∷ z)) (more-on s (items j js t) (elementsFrom n s) (past s a) (r .rest)) ∙ ap (λ (p : ℕ). p ∷ map (behind s) (elementsFrom n s (y + 1))) (r .end ∙ ap (λ (x : ℕ). x + length (i .v)) (r .at)) ∙ ap (λ (q : List ℕ). (a + length (i .w) + length (i .v)) ∷ q) (ih ∙ ap (λ (x : ℕ). stopsAt x j js) z)
+      ap (λ (z : List ℕ). map (behind s) (past s a ∷ z)) (more-on s (items j js t) (elementsFrom n s) (past s a) (r .rest))
+      ∙ ap (λ (p : ℕ). p ∷ map (behind s) (elementsFrom n s (y + 1))) (r .end ∙ ap (λ (x : ℕ). x + length (i .v)) (r .at))
+      ∙ ap (λ (q : List ℕ). (a + length (i .w) + length (i .v)) ∷ q) (ih ∙ ap (λ (x : ℕ). stopsAt x j js) z)
 
-  pub starts-read : (n : ℕ) (s : List ℕ) (a : ℕ) (i : Item) (is : List Item) (t : List ℕ) → Goods X i is → length is < n → drop a s ≡ items i is t → elementsFrom n s a ≡ startsAt a i is
+  pub starts-read : (n : ℕ) (s : List ℕ) (a : ℕ) (i : Item) (is : List Item) (t : List ℕ) → Goods X i is → length is < n → drop a s ≡ items i is t
+      → elementsFrom n s a ≡ startsAt a i is
   unfolding elementsFrom items startsAt
   starts-read zero s a i is t h c e = absurd (omega arith)
   starts-read (suc n) s a i [] t h c e =
@@ -314,7 +340,8 @@ module _ (X : List ℕ → List ℕ → Type 0) (sized : (v t : List ℕ) → X 
       let y = follows s (past s a) in
       let ih = starts-read n s (y + 1) j js t (h .1) (omega arith) (at-next 44 _ s y (r .rest)) in
       let z : y + 1 ≡ a + length (i .w) + length (i .v) + length (i .u) + 1 = omega (arith, r .next, r .at) in
-      ap (λ (z : List ℕ). past s a ∷ z) (more-on s (items j js t) (elementsFrom n s) (past s a) (r .rest)) ∙ ap (λ (p : ℕ). p ∷ elementsFrom n s (y + 1)) (r .at) ∙ ap (λ (q : List ℕ). (a + length (i .w)) ∷ q) (ih ∙ ap (λ (x : ℕ). startsAt x j js) z)
+      ap (λ (z : List ℕ). past s a ∷ z) (more-on s (items j js t) (elementsFrom n s) (past s a) (r .rest)) ∙ ap (λ (p : ℕ). p ∷ elementsFrom n s (y + 1)) (r .at)
+      ∙ ap (λ (q : List ℕ). (a + length (i .w)) ∷ q) (ih ∙ ap (λ (x : ℕ). startsAt x j js) z)
 
   -- an array with elements does not close at once
   not-close : (v t s : List ℕ) (x : ℕ) → Starts v → drop x s ≡ v ++ t → eqb (getD s x 0) 93 ≡ false
@@ -344,7 +371,8 @@ unfolding body entry
 body-long f [] t = simp length-append (omega arith)
 body-long f (g ∷ gs) t = simp length-append (omega (arith, body-long g gs t))
 
-module _ (X : List ℕ → List ℕ → Type 0) (sized : (v t : List ℕ) → X v t → Sized v t) (s : List ℕ) (o : ℕ) (i : Item) (is : List Item) (t : List ℕ) (h : Goods X i is) (e : drop o s ≡ 91 ∷ items i is t) where
+module _ (X : List ℕ → List ℕ → Type 0) (sized : (v t : List ℕ) → X v t → Sized v t) (s : List ℕ) (o : ℕ) (i : Item) (is : List Item) (t : List ℕ) (h : Goods X i is)
+    (e : drop o s ≡ 91 ∷ items i is t) where
   pub array-long : length is < length s
   array-long = omega (arith, length-drop o s, ap length e, items-long i is t)
 
@@ -359,7 +387,8 @@ module _ (X : List ℕ → List ℕ → Type 0) (sized : (v t : List ℕ) → X 
   pub array-stops : map (behind s) (elements s o) ≡ stopsAt (o + 1) i is
   array-stops = ap (map (behind s)) (elements-at X sized s o i is t h e) ∙ ends-read X sized (length s) s (o + 1) i is t h array-long (at-next 91 _ s o e)
 
-module _ (X : List ℕ → List ℕ → Type 0) (N : List ℕ → Type 0) (sized : (v t : List ℕ) → X v t → Sized v t) (label : (n : List ℕ) → N n → Label n) (s : List ℕ) (o : ℕ) (f : Field) (fs : List Field) (t : List ℕ) (h : Fines X N f fs) (e : drop o s ≡ 123 ∷ body f fs t) where
+module _ (X : List ℕ → List ℕ → Type 0) (N : List ℕ → Type 0) (sized : (v t : List ℕ) → X v t → Sized v t) (label : (n : List ℕ) → N n → Label n) (s : List ℕ) (o : ℕ) (f : Field)
+    (fs : List Field) (t : List ℕ) (h : Fines X N f fs) (e : drop o s ≡ 123 ∷ body f fs t) where
   pub object-long : length fs < length s
   object-long = omega (arith, length-drop o s, ap length e, body-long f fs t)
 
@@ -373,7 +402,7 @@ pub array-none : (s w t : List ℕ) (o : ℕ) → Blank w → drop o s ≡ 91 �
 unfolding elements
 array-none s w t o h e = let g = at-byte 93 t s (past s (o + 1)) (past-at s w (93 ∷ t) (o + 1) h ws-93 (at-next 91 _ s o e)) in rw g
 
-members-none : (n : ℕ) (s : List ℕ) (a : ℕ) → getD s (past s a) 0 ≡ 125 → membersFrom n s a ≡ []
+pub members-none : (n : ℕ) (s : List ℕ) (a : ℕ) → getD s (past s a) 0 ≡ 125 → membersFrom n s a ≡ []
 unfolding membersFrom memberAt
 members-none zero s a e = refl
 members-none (suc n) s a e = rw e

@@ -9,9 +9,11 @@ use native.Mathlib.Numerals.{add-one}
 use native.Mathlib.Omega.{arith}
 use denote.Enum.Declared.{tagOf}
 use types.Run.{OneOf}
-use lib.ListN.{length, getD, drop, drop-of-length-le}
+use lib.ListN.{length, getD, drop}
 use lib.Seq.{drop-cons, drop-length}
-use Rattle.json.specs.Machine.{Stack, alone, text, arr, obj, Role, Mode, value, after, Next, live, dead, deep, done, isWs, ends, step, over, ended, stops, takes, walk, from, one, onward, place, Leaf, Nest}
+use Rattle.json.specs.inner.Machine.{Stack, alone, text, arr, obj, Role, Mode, value, after, Next, live, dead, deep, done, ends, step, over, ended, stops}
+use Rattle.json.specs.inner.Machine.{takes, walk, from, one, onward, place, Leaf, Nest}
+use Rattle.json.specs.Places.{isWs}
 use Rattle.json.specs.declared.Walked.{Walked}
 use Rattle.json.specs.declared.Walked.the-variants.{End, Bad, Deep}
 use Rattle.json.proofs.Walked.{the-type}
@@ -66,8 +68,10 @@ stops-over m m′ (text d) i e = ap (λ (t : Bool). ended t i) e
 stops-over m m′ (arr k) i e = refl
 stops-over m m′ (obj k) i e = refl
 
-pub as-good : (s : List ℕ) (i : ℕ) (m m′ : Mode) (k : Stack) → i ≤ length s → over m ≡ over m′ → (i < length s → step m k (getD s i 0) ≡ step m′ k (getD s i 0)) → from s i m k ≡ from s i m′ k
-as-good s i m m′ k l o f = ⊎-elim (λ (h : i ≡ length s). halts s i m k h ∙ stops-over m m′ k i o ∙ sym (halts s i m′ k h)) (λ (h : i < length s). alike s i m m′ k h (f h)) (eq-or-lt-of-le l)
+pub as-good : (s : List ℕ) (i : ℕ) (m m′ : Mode) (k : Stack) → i ≤ length s → over m ≡ over m′ → (i < length s → step m k (getD s i 0) ≡ step m′ k (getD s i 0))
+    → from s i m k ≡ from s i m′ k
+as-good s i m m′ k l o f = ⊎-elim (λ (h : i ≡ length s). halts s i m k h ∙ stops-over m m′ k i o ∙ sym (halts s i m′ k h)) (λ (h : i < length s). alike s i m m′ k h (f h))
+    (eq-or-lt-of-le l)
 
 stops-arr : (m : Mode) (k : Stack) (i : ℕ) → stops m (arr k) i ≡ Bad i
 unfolding stops
@@ -114,7 +118,8 @@ unfolding step ends
 done-alone d b = refl
 
 pub from-alone : (s : List ℕ) (i d : ℕ) → i ≤ length s → from s i after (alone d) ≡ End i
-from-alone s i d l = ⊎-elim (λ (h : i ≡ length s). halts s i after (alone d) h ∙ stops-alone d i) (λ (h : i < length s). moves s i after (alone d) done h (done-alone d _)) (eq-or-lt-of-le l)
+from-alone s i d l = ⊎-elim (λ (h : i ≡ length s). halts s i after (alone d) h ∙ stops-alone d i) (λ (h : i < length s). moves s i after (alone d) done h (done-alone d _))
+    (eq-or-lt-of-le l)
 
 pub onward-alone : (s : List ℕ) (d : ℕ) (r : Walked) → place r ≤ length s → onward s after (alone d) r ≡ r
 onward-alone s d (End e) l = from-alone s e d l
@@ -123,11 +128,6 @@ onward-alone s d (Deep p) l = refl
 
 pub lone : {s : List ℕ} {a left : ℕ} {r : Walked} → Nest s a left value (λ k. k) r → r ≡ one left s a
 lone {s} {a} {left} {r} l = sym (l .same (alone left) refl ∙ onward-alone s left r (l .high))
-
--- behind the last byte no value starts
-pub one-behind : (s : List ℕ) (a d : ℕ) → length s < a → Bad a ≡ one d s a
-unfolding from walk stops
-one-behind s a d h = let l : length s ≤ a = omega arith in rw (drop-of-length-le s l)
 
 -- an answer that is no End stays the answer, wherever the machine stands (a match tells such answers by their variants' numbers)
 pub stands : (r : Walked) (s : List ℕ) (m : Mode) (k : Stack) → OneOf (1 ∷ 2 ∷ []) (tagOf the-type r) → onward s m k r ≡ r
@@ -140,7 +140,8 @@ pub stuck : (r : Walked) (s : List ℕ) (m m′ : Mode) (k k′ : Stack) → One
 stuck r s m m′ k k′ h = stands r s m k h ∙ sym (stands r s m′ k′ h)
 
 -- n bytes of a class that leaves the machine where it is
-pub run : (f : ℕ → Bool) (s : List ℕ) (a n : ℕ) → a + n ≤ length s → ((j : ℕ) → j < n → f (getD s (a + j) 0) ≡ true) → (m : Mode) (k : Stack) → ((b : ℕ) → f b ≡ true → step m k b ≡ live m k) → from s a m k ≡ from s (a + n) m k
+pub run : (f : ℕ → Bool) (s : List ℕ) (a n : ℕ) → a + n ≤ length s → ((j : ℕ) → j < n → f (getD s (a + j) 0) ≡ true) → (m : Mode) (k : Stack)
+    → ((b : ℕ) → f b ≡ true → step m k b ≡ live m k) → from s a m k ≡ from s (a + n) m k
 run f s a zero h g m k e = rw add-zero
 run f s a (suc n) h g m k e =
     let q : a + n + 1 ≡ a + suc n = omega arith in

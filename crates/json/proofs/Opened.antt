@@ -1,6 +1,6 @@
 -- What a byte can do to the open brackets, case by case; so a text ends where its bytes do. Assumes nothing.
 use mathlib.Core.Path.{_≡_, refl}
-use mathlib.Core.Bool.{Bool, true, false, _||_}
+use mathlib.Core.Bool.{Bool, true, false, _||_, cond}
 use mathlib.Core.List.{List, [], _∷_}
 use Prim.Native.Nat.{ℕ, suc, _+_, _<_}
 use native.Mathlib.Omega.{arith}
@@ -8,7 +8,10 @@ use borrow.Author.Tests.{ltb-true}
 use lib.ListN.{length}
 use lib.Dec.{eqb, ltb}
 use Rattle.octets.specs.Class.{isDigit}
-use Rattle.json.specs.Machine.{Stack, alone, text, arr, obj, Mode, value, first, name, name₁, colon, after, str, esc, hex, word, minus, nought, int, dot, frac, exp, sign, power, Next, live, dead, deep, pick, isWs, isHex, isSign, isEsc, levels, shut, opens, begin, ends, expo, point, step, over, ended, stops, takes, walk}
+use Rattle.json.specs.inner.Machine.{Stack, alone, text, arr, obj, Mode, value, first, name, name₁, colon, after, str, esc, hex, word, minus, nought, int}
+use Rattle.json.specs.inner.Machine.{dot, frac, exp, sign, power, Next, live, dead, deep, isHexDigit, isSign, isEsc, levels, shut, opens, begin, ends}
+use Rattle.json.specs.inner.Machine.{expo, point, step, over, ended, stops, takes, walk}
+use Rattle.json.specs.Places.{isWs}
 use Rattle.json.specs.declared.Walked.the-variants.{End}
 
 -- a text is around all, and no bracket opened where no level was left
@@ -28,11 +31,11 @@ pub data Keeps : Next → Type 0 where
   refuses : Keeps dead
   sinks : Keeps deep
 
-kept : {x y : Next} (t : Bool) → Keeps x → Keeps y → Keeps (pick t x y)
+kept : {x y : Next} (t : Bool) → Keeps x → Keeps y → Keeps (cond t x y)
 kept true p q = p
 kept false p q = q
 
-kept-if : {x y : Next} (t : Bool) → (t ≡ true → Keeps x) → Keeps y → Keeps (pick t x y)
+kept-if : {x y : Next} (t : Bool) → (t ≡ true → Keeps x) → Keeps y → Keeps (cond t x y)
 kept-if true p q = p refl
 kept-if false p q = q
 
@@ -62,7 +65,9 @@ module _ (k : Stack) (b : ℕ) (f : Fits k) where
   keep-begin : Keeps (begin k b)
   unfolding begin
   keep-begin =
-      kept (eqb b 34) (keeps f) (kept (eqb b 91) keep-arr (kept (eqb b 123) keep-obj (kept (eqb b 116) (keeps f) (kept (eqb b 102) (keeps f) (kept (eqb b 110) (keeps f) (kept (eqb b 45) (keeps f) (kept (eqb b 48) (keeps f) (kept (isDigit b) (keeps f) refuses))))))))
+      kept (eqb b 34) (keeps f) (kept (eqb b 91) keep-arr
+      (kept (eqb b 123) keep-obj (kept (eqb b 116) (keeps f)
+      (kept (eqb b 102) (keeps f) (kept (eqb b 110) (keeps f) (kept (eqb b 45) (keeps f) (kept (eqb b 48) (keeps f) (kept (isDigit b) (keeps f) refuses))))))))
 
   pub keep : (m : Mode) → Keeps (step m k b)
   unfolding step
@@ -74,7 +79,7 @@ module _ (k : Stack) (b : ℕ) (f : Fits k) where
   keep after = keep-ends b f
   keep (str w) = kept (eqb b 34) (keeps f) (kept (eqb b 92) (keeps f) (kept (ltb b 32) refuses (keeps f)))
   keep (esc w) = kept (isEsc b) (keeps f) (kept (eqb b 117) (keeps f) refuses)
-  keep (hex w n) = kept (isHex b) (keeps f) refuses
+  keep (hex w n) = kept (isHexDigit b) (keeps f) refuses
   keep (word x xs) = kept (eqb b x) (keeps f) refuses
   keep minus = kept (eqb b 48) (keeps f) (kept (isDigit b) (keeps f) refuses)
   keep nought = keep-point
@@ -97,7 +102,8 @@ stops-where m (text d) i e q = ended-where (over m) i e q
 stops-where m (arr k) i e q = cc
 stops-where m (obj k) i e q = cc
 
-takes-where : (s : List ℕ) (i e : ℕ) → ((m : Mode) (k : Stack) → Fits k → walk s m k (i + 1) ≡ End e → e ≡ (i + 1) + length s) → (n : Next) → Keeps n → takes n (walk s) i ≡ End e → e ≡ i + suc (length s)
+takes-where : (s : List ℕ) (i e : ℕ) → ((m : Mode) (k : Stack) → Fits k → walk s m k (i + 1) ≡ End e → e ≡ (i + 1) + length s) → (n : Next) → Keeps n → takes n (walk s) i ≡ End e
+    → e ≡ i + suc (length s)
 takes-where s i e ih n (keeps {m} {k} f) q = omega (arith, ih m k f q)
 takes-where s i e ih n refuses q = let z : _≡_ {A = ℕ} 0 1 = cc in absurd (omega arith)
 takes-where s i e ih n sinks q = let z : _≡_ {A = ℕ} 0 1 = cc in absurd (omega arith)

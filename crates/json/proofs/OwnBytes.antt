@@ -1,7 +1,7 @@
 -- The machine over some bytes, and that a value's own bytes decide what it does: with any surroundings k put in the place of the bottom of the stack,
 -- and as many levels left or more, it goes the same way. Cited by proofs/EndLaws.antt and by crate `frame`. Assumes nothing.
 use mathlib.Core.Path.{_≡_, refl, sym, ap, subst, _∙_}
-use mathlib.Core.Bool.{Bool, true, false, _||_}
+use mathlib.Core.Bool.{Bool, true, false, _||_, cond}
 use mathlib.Core.List.{List, [], _∷_, _++_}
 use Prim.Native.Nat.{ℕ, zero, suc, _+_, _-_, _≤_}
 use native.Mathlib.Omega.{arith}
@@ -9,7 +9,10 @@ use lib.ListN.{length}
 use lib.Dec.{eqb, ltb}
 use borrow.Author.Tests.{lt-ltb, ltb-true}
 use Rattle.octets.specs.Class.{isDigit}
-use Rattle.json.specs.Machine.{Stack, alone, text, arr, obj, levels, shut, done, Role, label, plain, Mode, value, first, name, name₁, colon, after, str, esc, hex, word, minus, nought, int, dot, frac, exp, sign, power, Next, live, dead, deep, isWs, isHex, isEsc, isSign, closed, due, hexes, opens, begin, ends, pick, step, over, ended, stops, takes, walk, expo, point}
+use Rattle.json.specs.inner.Machine.{Stack, alone, text, arr, obj, levels, shut, done, Role, label, plain, Mode, value, first, name, name₁, colon, after}
+use Rattle.json.specs.inner.Machine.{str, esc, hex, word, minus, nought, int, dot, frac, exp, sign, power, Next, live, dead, deep, isHexDigit, isEsc}
+use Rattle.json.specs.inner.Machine.{isSign, closed, due, hexes, opens, begin, ends, step, over, ended, stops, takes, walk, expo, point}
+use Rattle.json.specs.Places.{isWs}
 use Rattle.json.specs.declared.Walked.the-variants.{End}
 
 -- Where some bytes leave the machine, or why it stopped.
@@ -23,7 +26,9 @@ unfoldable pub run : List ℕ → Mode → Stack → Next
 run [] m k = live m k
 run (b ∷ bs) m k = then (step m k b) (run bs)
 
-walk-step : (n : Next) (v q : List ℕ) (i : ℕ) {m′ : Mode} {k′ : Stack} → ((m : Mode) (k : Stack) → run v m k ≡ live m′ k′ → walk (v ++ q) m k (i + 1) ≡ walk q m′ k′ (i + 1 + length v)) → then n (run v) ≡ live m′ k′ → takes n (walk (v ++ q)) i ≡ walk q m′ k′ (i + suc (length v))
+walk-step : (n : Next) (v q : List ℕ) (i : ℕ) {m′ : Mode} {k′ : Stack}
+    → ((m : Mode) (k : Stack) → run v m k ≡ live m′ k′ → walk (v ++ q) m k (i + 1) ≡ walk q m′ k′ (i + 1 + length v)) → then n (run v) ≡ live m′ k′
+    → takes n (walk (v ++ q)) i ≡ walk q m′ k′ (i + suc (length v))
 walk-step (live m k) v q i {m′} {k′} ih e = ih m k e ∙ ap (walk q m′ k′) (omega arith)
 walk-step dead v q i ih e = cc
 walk-step deep v q i ih e = cc
@@ -123,18 +128,23 @@ pub data Lifts (d : ℕ) (k : Stack) (m₀ : Mode) (s₀ : Stack) (b₀ : ℕ) :
   sunk : {n : Next} → (levels k ≡ d → n ≡ deep) → Lifts d k m₀ s₀ b₀ deep n
   late : {n : Next} → over m₀ ≡ true → s₀ ≡ alone d → n ≡ ends k b₀ → Lifts d k m₀ s₀ b₀ done n
 
-lift-pick : {d : ℕ} {k : Stack} {m₀ : Mode} {s₀ : Stack} {b₀ : ℕ} (t : Bool) {a a′ b b′ : Next} → Lifts d k m₀ s₀ b₀ a a′ → Lifts d k m₀ s₀ b₀ b b′ → Lifts d k m₀ s₀ b₀ (pick t a b) (pick t a′ b′)
+lift-pick : {d : ℕ} {k : Stack} {m₀ : Mode} {s₀ : Stack} {b₀ : ℕ} (t : Bool) {a a′ b b′ : Next} → Lifts d k m₀ s₀ b₀ a a′ → Lifts d k m₀ s₀ b₀ b b′
+    → Lifts d k m₀ s₀ b₀ (cond t a b) (cond t a′ b′)
 lift-pick true x y = x
 lift-pick false x y = y
 
-lift-room : {d : ℕ} {k : Stack} {m₀ : Mode} {s₀ : Stack} {b₀ : ℕ} (t t′ : Bool) {a a′ : Next} → (t ≡ true → t′ ≡ true) → (levels k ≡ d → t′ ≡ t) → Lifts d k m₀ s₀ b₀ a a′ → Lifts d k m₀ s₀ b₀ (pick t a deep) (pick t′ a′ deep)
+lift-room : {d : ℕ} {k : Stack} {m₀ : Mode} {s₀ : Stack} {b₀ : ℕ} (t t′ : Bool) {a a′ : Next} → (t ≡ true → t′ ≡ true) → (levels k ≡ d → t′ ≡ t) → Lifts d k m₀ s₀ b₀ a a′
+    → Lifts d k m₀ s₀ b₀ (cond t a deep) (cond t′ a′ deep)
 lift-room true t′ f g x = rw (f refl) x
-lift-room false t′ {a} {a′} f g x = sunk (λ l. ap (λ (t : Bool). pick t a′ deep) (g l))
+lift-room false t′ {a} {a′} f g x = sunk (λ l. ap (λ (t : Bool). cond t a′ deep) (g l))
 
 module _ (d : ℕ) (k : Stack) (l : d ≤ levels k) {m₀ : Mode} {s₀ : Stack} {b₀ : ℕ} where
-  lift-opens : (f : Stack → Stack) (m : Mode) (s : Stack) → ((s : Stack) → onto k (f s) ≡ f (onto k s)) → ((s : Stack) → Base d s → In d m (f s)) → Base d s → Lifts d k m₀ s₀ b₀ (opens f m s) (opens f m (onto k s))
+  lift-opens : (f : Stack → Stack) (m : Mode) (s : Stack) → ((s : Stack) → onto k (f s) ≡ f (onto k s)) → ((s : Stack) → Base d s → In d m (f s)) → Base d s
+      → Lifts d k m₀ s₀ b₀ (opens f m s) (opens f m (onto k s))
   unfolding opens
-  lift-opens f m s c g h = lift-room (ltb 0 (levels s)) (ltb 0 (levels (onto k s))) (λ e. lt-ltb 0 (levels (onto k s)) (omega (arith, ltb-true 0 (levels s) e, onto-levels d k s l h))) (λ q. ap (ltb 0) (onto-same d k s q h)) (on {m = m} {s = f s} (rw (c s)) (g s h))
+  lift-opens f m s c g h = lift-room (ltb 0 (levels s)) (ltb 0 (levels (onto k s)))
+      (λ e. lt-ltb 0 (levels (onto k s)) (omega (arith, ltb-true 0 (levels s) e, onto-levels d k s l h))) (λ q. ap (ltb 0) (onto-same d k s q h))
+      (on {m = m} {s = f s} (rw (c s)) (g s h))
 
   module _ (s : Stack) (h : Base d s) where
     back : Lifts d k m₀ s₀ b₀ (live after s) (live after (onto k s))
@@ -170,7 +180,10 @@ module _ (d : ℕ) (k : Stack) (l : d ≤ levels k) {m₀ : Mode} {s₀ : Stack}
     lift-begin : Lifts d k m₀ s₀ b₀ (begin s b) (begin (onto k s) b)
     unfolding begin
     lift-begin =
-        lift-pick (eqb b 34) (stay _) (lift-pick (eqb b 91) (lift-arr s (inner-base d s h)) (lift-pick (eqb b 123) (lift-obj s (inner-base d s h)) (lift-pick (eqb b 116) (stay _) (lift-pick (eqb b 102) (stay _) (lift-pick (eqb b 110) (stay _) (lift-pick (eqb b 45) (stay _) (lift-pick (eqb b 48) (stay _) (lift-pick (isDigit b) (stay _) no))))))))
+        lift-pick (eqb b 34) (stay _) (lift-pick (eqb b 91) (lift-arr s (inner-base d s h))
+        (lift-pick (eqb b 123) (lift-obj s (inner-base d s h))
+        (lift-pick (eqb b 116) (stay _)
+        (lift-pick (eqb b 102) (stay _) (lift-pick (eqb b 110) (stay _) (lift-pick (eqb b 45) (stay _) (lift-pick (eqb b 48) (stay _) (lift-pick (isDigit b) (stay _) no))))))))
 
     lift-expo : Lifts d k m₀ s₀ b₀ (expo s b) (expo (onto k s) b)
     unfolding expo
@@ -190,7 +203,7 @@ module _ (d : ℕ) (k : Stack) (l : d ≤ levels k) {m₀ : Mode} {s₀ : Stack}
     lift-in after = lift-ends s h b
     lift-in (str w) = lift-pick (eqb b 34) (stay (closed w)) (lift-pick (eqb b 92) (stay (esc w)) (lift-pick (ltb b 32) no (stay (str w))))
     lift-in (esc w) = lift-pick (isEsc b) (stay (str w)) (lift-pick (eqb b 117) (stay (hexes w 4)) no)
-    lift-in (hex w n) = lift-pick (isHex b) (stay (hexes w n)) no
+    lift-in (hex w n) = lift-pick (isHexDigit b) (stay (hexes w n)) no
     lift-in (word x xs) = lift-pick (eqb b x) (stay (due xs)) no
     lift-in minus = lift-pick (eqb b 48) (stay nought) (lift-pick (isDigit b) (stay int) no)
     lift-in nought = lift-point
@@ -243,7 +256,12 @@ module _ (d : ℕ) (k : Stack) (l : d ≤ levels k) (b : ℕ) where
   begin-here : {m₀ : Mode} {s₀ : Stack} → Lifts d k m₀ s₀ b (begin (alone d) b) (begin k b)
   unfolding begin
   begin-here =
-      lift-pick (eqb b 34) (rest (str plain) tt) (lift-pick (eqb b 91) arr-here (lift-pick (eqb b 123) obj-here (lift-pick (eqb b 116) (rest _ (loose-due _)) (lift-pick (eqb b 102) (rest _ (loose-due _)) (lift-pick (eqb b 110) (rest _ (loose-due _)) (lift-pick (eqb b 45) (rest minus tt) (lift-pick (eqb b 48) (rest nought tt) (lift-pick (isDigit b) (rest int tt) no))))))))
+      lift-pick (eqb b 34) (rest (str plain) tt)
+      (lift-pick (eqb b 91) arr-here
+      (lift-pick (eqb b 123) obj-here
+      (lift-pick (eqb b 116) (rest _ (loose-due _))
+      (lift-pick (eqb b 102) (rest _ (loose-due _))
+      (lift-pick (eqb b 110) (rest _ (loose-due _)) (lift-pick (eqb b 45) (rest minus tt) (lift-pick (eqb b 48) (rest nought tt) (lift-pick (isDigit b) (rest int tt) no))))))))
 
   lift-out : (m : Mode) → Loose m → Lifts d k m (alone d) b (step m (alone d) b) (step m k b)
   unfolding step
@@ -255,7 +273,7 @@ module _ (d : ℕ) (k : Stack) (l : d ≤ levels k) (b : ℕ) where
   lift-out after f = over-here refl
   lift-out (str w) f = lift-pick (eqb b 34) (rest (closed w) (loose-closed w)) (lift-pick (eqb b 92) (rest (esc w) tt) (lift-pick (ltb b 32) no (rest (str w) tt)))
   lift-out (esc w) f = lift-pick (isEsc b) (rest (str w) tt) (lift-pick (eqb b 117) (rest (hexes w 4) (loose-hexes w 4)) no)
-  lift-out (hex w n) f = lift-pick (isHex b) (rest (hexes w n) (loose-hexes w n)) no
+  lift-out (hex w n) f = lift-pick (isHexDigit b) (rest (hexes w n) (loose-hexes w n)) no
   lift-out (word x xs) f = lift-pick (eqb b x) (rest (due xs) (loose-due xs)) no
   lift-out minus f = lift-pick (eqb b 48) (rest nought tt) (lift-pick (isDigit b) (rest int tt) no)
   lift-out nought f = point-here refl
@@ -274,13 +292,16 @@ lift-step d k l m (text e) h b = absurd h
 lift-step d k l m (arr s) h b = lift-in d k l (arr s) h b m
 lift-step d k l m (obj s) h b = lift-in d k l (obj s) h b m
 
-lift-then : (d : ℕ) (k : Stack) (v : List ℕ) {m₀ : Mode} {s₀ : Stack} {b₀ : ℕ} (n n′ : Next) {m′ : Mode} {s′ : Stack} → ((m : Mode) (s : Stack) → In d m s → run v m s ≡ live m′ s′ → run v m (onto k s) ≡ live m′ (onto k s′)) → Lifts d k m₀ s₀ b₀ n n′ → then n (run v) ≡ live m′ s′ → then n′ (run v) ≡ live m′ (onto k s′)
+lift-then : (d : ℕ) (k : Stack) (v : List ℕ) {m₀ : Mode} {s₀ : Stack} {b₀ : ℕ} (n n′ : Next) {m′ : Mode} {s′ : Stack}
+    → ((m : Mode) (s : Stack) → In d m s → run v m s ≡ live m′ s′ → run v m (onto k s) ≡ live m′ (onto k s′)) → Lifts d k m₀ s₀ b₀ n n′ → then n (run v) ≡ live m′ s′
+    → then n′ (run v) ≡ live m′ (onto k s′)
 lift-then d k v (live m s) n′ {m′} {s′} ih (on q h) e = ap (λ (x : Next). then x (run v)) q ∙ ih m s h e
 lift-then d k v dead n′ ih x e = let z : _≡_ {A = ℕ} 0 1 = cc in absurd (omega arith)
 lift-then d k v deep n′ ih x e = let z : _≡_ {A = ℕ} 0 1 = cc in absurd (omega arith)
 lift-then d k v done n′ ih x e = let z : _≡_ {A = ℕ} 0 1 = cc in absurd (omega arith)
 
-lift-run : (d : ℕ) (k : Stack) (l : d ≤ levels k) (v : List ℕ) (m : Mode) (s : Stack) {m′ : Mode} {s′ : Stack} → In d m s → run v m s ≡ live m′ s′ → run v m (onto k s) ≡ live m′ (onto k s′)
+lift-run : (d : ℕ) (k : Stack) (l : d ≤ levels k) (v : List ℕ) (m : Mode) (s : Stack) {m′ : Mode} {s′ : Stack} → In d m s → run v m s ≡ live m′ s′
+    → run v m (onto k s) ≡ live m′ (onto k s′)
 unfolding run
 lift-run d k l [] m s {m′} {s′} h e = let p : m ≡ m′ = cc in let q : s ≡ s′ = cc in cc
 lift-run d k l (b ∷ v) m s h e = lift-then d k v (step m s b) (step m (onto k s) b) (λ m₁ s₁ h₁ e₁. lift-run d k l v m₁ s₁ h₁ e₁) (lift-step d k l m s h b) e
@@ -306,14 +327,25 @@ ended-is false i e q = let z : _≡_ {A = ℕ} 0 1 = cc in absurd (omega arith)
 
 stops-split : (d : ℕ) (m : Mode) (s : Stack) (i e : ℕ) → In d m s → stops m s i ≡ End e → Split d [] m s i e
 unfolding stops run
-stops-split d m (alone x) i e h q = let r = ended-is (over m) i e q in record { v = []; q = []; m′ = m; is = refl; far = omega (arith, r .1); runs = ap (λ (y : ℕ). live m (alone y)) (h .0); fin = r .0 }
+stops-split d m (alone x) i e h q = let r = ended-is (over m) i e q in
+    record { v = []; q = []; m′ = m; is = refl; far = omega (arith, r .1); runs = ap (λ (y : ℕ). live m (alone y)) (h .0); fin = r .0 }
 stops-split d m (text x) i e h q = absurd h
 stops-split d m (arr s) i e h q = let z : _≡_ {A = ℕ} 0 1 = cc in absurd (omega arith)
 stops-split d m (obj s) i e h q = let z : _≡_ {A = ℕ} 0 1 = cc in absurd (omega arith)
 
-split-next : (d b : ℕ) (bs : List ℕ) (m : Mode) (s : Stack) (i e : ℕ) (n : Next) {n′ : Next} → step m s b ≡ n → Lifts d (alone d) m s b n n′ → ((m′ : Mode) (s′ : Stack) → In d m′ s′ → walk bs m′ s′ (i + 1) ≡ End e → Split d bs m′ s′ (i + 1) e) → takes n (walk bs) i ≡ End e → Split d (b ∷ bs) m s i e
+split-next : (d b : ℕ) (bs : List ℕ) (m : Mode) (s : Stack) (i e : ℕ) (n : Next) {n′ : Next} → step m s b ≡ n → Lifts d (alone d) m s b n n′
+    → ((m′ : Mode) (s′ : Stack) → In d m′ s′ → walk bs m′ s′ (i + 1) ≡ End e → Split d bs m′ s′ (i + 1) e) → takes n (walk bs) i ≡ End e → Split d (b ∷ bs) m s i e
 unfolding run
-split-next d b bs m s i e (live m′ s′) g (on x h) ih q = let r = ih m′ s′ h q in record { v = b ∷ r .v; q = r .q; m′ = r .m′; is = ap (λ (l : List ℕ). b ∷ l) (r .is); far = omega (arith, r .far); runs = ap (λ (n : Next). then n (run (r .v))) g ∙ r .runs; fin = r .fin }
+split-next d b bs m s i e (live m′ s′) g (on x h) ih q = let r = ih m′ s′ h q in
+    record {
+      v = b ∷ r .v;
+      q = r .q;
+      m′ = r .m′;
+      is = ap (λ (l : List ℕ). b ∷ l) (r .is);
+      far = omega (arith, r .far);
+      runs = ap (λ (n : Next). then n (run (r .v))) g ∙ r .runs;
+      fin = r .fin;
+    }
 split-next d b bs m s i e dead g x ih q = let z : _≡_ {A = ℕ} 0 1 = cc in absurd (omega arith)
 split-next d b bs m s i e deep g x ih q = let z : _≡_ {A = ℕ} 0 1 = cc in absurd (omega arith)
 split-next d b bs m s i e done g (late x y w) ih q = let j : i ≡ e = cc in record { v = []; q = b ∷ bs; m′ = m; is = refl; far = omega arith; runs = ap (live m) y; fin = x }

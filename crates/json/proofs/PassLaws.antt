@@ -2,15 +2,17 @@
 -- member that passes, or does not, says of the machine's answer, whatever stands around. Assumes nothing.
 use Prim.Native.Nat.{ℕ, suc, _+_, _≤_, _<_}
 use Rattle.json.proofs.AroundLaws.{string-around, value-around, one-ends}
-use Rattle.json.proofs.EndLaws.{ends-at, ends-open}
+use Rattle.json.proofs.EndLaws.{ws-mark, ends-at, ends-open}
 use Rattle.json.proofs.MoveLaws.{moves, short-arr, short-obj, lone, onward-alone}
 use Rattle.json.proofs.PlaceLaws.{past-low, past-inner, past-stop, next-is}
 use Rattle.json.proofs.StepLaws.{ws-value, ws-colon, ws-obj, name-quote, colon-hit, colon-miss, value-quote, obj-miss}
 use Rattle.json.proofs.TurnLaws.{inside}
 use Rattle.json.proofs.Walked.{the-type}
-use Rattle.json.specs.Machine.{Stack, alone, arr, obj, Role, label, plain, Mode, value, name, colon, after, str, live, dead, Next, isWs, closed, levels, step, takes, walk, from, one, onward, place, Leaf, Nest}
-use Rattle.json.specs.Passing.{isEnd, reached, passed, noMember, isNext, followed, labelled, passedMember}
-use Rattle.json.specs.Places.{pickN, spaces, past, isMark, isShut, next, behind, valueOf, follows, Found, Row}
+use Rattle.json.specs.inner.Machine.{Stack, alone, arr, obj, Role, label, plain, Mode, value, name, colon, after, str, live, dead, Next, closed, levels}
+use Rattle.json.specs.inner.Machine.{step, takes, walk, from, one, onward, place, Leaf, Nest, Pass}
+use Rattle.json.specs.inner.Passing.{isEnd, reached, passed, noMember, isNext, followed, labelled, passedMember}
+use Rattle.json.specs.Places.{spaces, past, isMark, isShut, next, behind, valueOf, follows, isWs}
+use Rattle.json.specs.inner.Landing.{Lands, Row}
 use Rattle.json.specs.declared.Walked.the-variants.{End, Bad, Deep}
 use Rattle.json.specs.declared.Walked.{Walked}
 use Rattle.json.specs.declared.places.Member.{Member}
@@ -19,7 +21,7 @@ use denote.Enum.Declared.{tagOf}
 use lib.Dec.{eqb}
 use lib.ListN.{length, drop, getD, length-drop}
 use lib.Seq.{drop-drop, getD-drop}
-use mathlib.Core.Bool.{Bool, true, false, _||_}
+use mathlib.Core.Bool.{Bool, true, false, _||_, cond}
 use mathlib.Core.List.{List, [], _∷_}
 use mathlib.Core.Logic.{_⊎_, inl, inr}
 use mathlib.Core.Path.{_≡_, refl, sym, ap, subst, _∙_}
@@ -36,7 +38,8 @@ module _ (m : Mode) (k : Stack) (f : Passes m k) where
   unfolding walk
   over-one b l i e = ap (λ (n : Next). takes n (walk l) i) (f b e)
 
-  over-by : (b : ℕ) (l : List ℕ) (i : ℕ) (t : Bool) → isWs b ≡ t → (walk l m k (i + 1) ≡ walk (drop (spaces l) l) m k (i + 1 + spaces l)) → walk (b ∷ l) m k i ≡ walk (drop (pickN t (suc (spaces l)) 0) (b ∷ l)) m k (i + pickN t (suc (spaces l)) 0)
+  over-by : (b : ℕ) (l : List ℕ) (i : ℕ) (t : Bool) → isWs b ≡ t → (walk l m k (i + 1) ≡ walk (drop (spaces l) l) m k (i + 1 + spaces l))
+      → walk (b ∷ l) m k i ≡ walk (drop (cond t (suc (spaces l)) 0) (b ∷ l)) m k (i + cond t (suc (spaces l)) 0)
   over-by b l i true e ih = over-one b l i e ∙ ih ∙ ap (walk (drop (spaces l) l) m k) (let z : i + 1 + spaces l ≡ i + suc (spaces l) = omega arith in z)
   over-by b l i false e ih = ap (walk (b ∷ l) m k) (let z : i ≡ i + 0 = omega arith in z)
 
@@ -51,7 +54,8 @@ module _ (m : Mode) (k : Stack) (f : Passes m k) where
   past-same s a = over-spaces (drop a s) a ∙ ap (λ (l : List ℕ). walk l m k (a + spaces (drop a s))) (drop-drop (spaces (drop a s)) a s)
 
 -- what stands past white space is none
-stop-by : (b : ℕ) (l : List ℕ) (t : Bool) → isWs b ≡ t → (spaces l < length l → isWs (getD l (spaces l) 0) ≡ false) → pickN t (suc (spaces l)) 0 < suc (length l) → isWs (getD (b ∷ l) (pickN t (suc (spaces l)) 0) 0) ≡ false
+stop-by : (b : ℕ) (l : List ℕ) (t : Bool) → isWs b ≡ t → (spaces l < length l → isWs (getD l (spaces l) 0) ≡ false) → cond t (suc (spaces l)) 0 < suc (length l)
+    → isWs (getD (b ∷ l) (cond t (suc (spaces l)) 0) 0) ≡ false
 stop-by b l true e ih h = ih (omega arith)
 stop-by b l false e ih h = e
 
@@ -64,21 +68,27 @@ pub past-ink : (s : List ℕ) (a : ℕ) → past s a < length s → isWs (getD s
 unfolding past
 past-ink s a h = ap isWs (sym (getD-drop a s (spaces (drop a s)) 0)) ∙ spaces-stop (drop a s) (omega (arith, length-drop a s))
 
+-- so the reader of white space leaves the machine where it is
+pub spaces-passed : {s : List ℕ} {a r : ℕ} → Lands s a (past s a) r → a ≤ length s → Pass isWs s a r
+spaces-passed {s} {a} {r} l h =
+    record {
+      low = l .low;
+      high = l .inner h;
+      stop = λ i. ap (λ (j : ℕ). isWs (getD s j 0)) (l .is) ∙ past-ink s a (omega (arith, l .is));
+      same = λ m k f. past-same m k f s a ∙ ap (λ (j : ℕ). from s j m k) (sym (l .is));
+    }
+
 -- a byte that ends a member, and white space, are marks
 marks : (b : ℕ) → (b ≡ 44) ⊎ (b ≡ 125) → isMark b ≡ true
 unfolding isMark isShut isWs
 marks b (inl e) = rw e
 marks b (inr e) = rw e
 
-space-mark : (b : ℕ) → isWs b ≡ true → isMark b ≡ true
-unfolding isMark
-space-mark b e = rw e
-
 pub mark-at : (s : List ℕ) (w t : ℕ) → t ≡ past s w → w < length s → (getD s t 0 ≡ 44) ⊎ (getD s t 0 ≡ 125) → isMark (getD s w 0) ≡ true
 mark-at s w t e h f = by (isWs (getD s w 0)) refl
   where
     by : (x : Bool) → isWs (getD s w 0) ≡ x → isMark (getD s w 0) ≡ true
-    by true q = space-mark (getD s w 0) q
+    by true q = ws-mark (getD s w 0) q
     by false q =
         let z : t ≡ w = e ∙ past-stop s w h q in
         rw (← z) (marks (getD s t 0) f)
@@ -173,13 +183,13 @@ module _ (s : List ℕ) (m : Mode) (k : Stack) where
 
 -- the string that opens at q ends at e
 pub record PassedString (s : List ℕ) (q e : ℕ) : Type 0 where
-  pub ends : Found s q (behind s q) e
+  pub ends : Lands s q (behind s q) e
   pub same : (k : Stack) → from s q value k ≡ from s e after k
 
 module _ (s : List ℕ) (q : ℕ) (h : q < length s) (quote : getD s q 0 ≡ 34) where
   -- it passes, as a value or, with its colon to come, as a name
   module _ (some : 0 < passed 0 s q) where
-    string-found : Found s q (behind s q) (passed 0 s q)
+    string-found : Lands s q (behind s q) (passed 0 s q)
     string-found =
         let e = passed-end 0 s q some in
         let z = one-ends 0 s q (passed 0 s q) (omega arith) e in
@@ -257,7 +267,7 @@ module _ (left : ℕ) (s : List ℕ) (q : ℕ) (h : q < length s) (quote : getD 
   name-stuck z k d = ap isEnd (into-name k) ∙ role-stuck s q h quote z label (obj k)
 
   module _ (e c : ℕ) (at-e : e ≡ passed 0 s q) (named : 0 < e) (at-c : c ≡ past s e) where
-    name-found : Found s q (behind s q) e
+    name-found : Lands s q (behind s q) e
     name-found = rw at-e (string-found s q h quote (rw at-e at named))
 
     c-high : c ≤ length s

@@ -1,6 +1,6 @@
 -- How the places move along the bytes, one byte at a time, for the loops of `src/places.rt`; and that each stays inside the text. Assumes nothing.
 use mathlib.Core.Path.{_≡_, refl, sym, ap, _∙_}
-use mathlib.Core.Bool.{Bool, true, false, not, _&&_}
+use mathlib.Core.Bool.{Bool, true, false, not, _&&_, cond}
 use mathlib.Core.List.{List, [], _∷_}
 use Prim.Native.Nat.{ℕ, zero, suc, _+_, _-_, _≤_, _<_}
 use native.Mathlib.Numerals.{add-one}
@@ -9,11 +9,13 @@ use lib.ListN.{length, take, drop, getD, drop-of-length-le, length-drop}
 use lib.Seq.{drop-cons, drop-drop, take-nil, take-all}
 use lib.Dec.{eqb, leb, ltb}
 use borrow.Author.Tests.{eq-eqb, ne-eqb, lt-ltb, le-ltb, eqb-false}
-use Rattle.json.specs.Machine.{isWs, isPlain}
-use Rattle.json.specs.Places.{pickN, part, spaces, past, isOpen, isShut, isMark, Inside, outside, quoted, escaped, turn, depth, left, unmarked, size, behind, closing, raw, next, valueOf, follows, Found}
+use Rattle.json.specs.inner.Machine.{isPlain}
+use Rattle.json.specs.Places.{part, spaces, past, isOpen, isShut, isMark, Inside, outside, quoted, escaped, turn, depth, left, unmarked, size, behind}
+use Rattle.json.specs.Places.{closing, raw, next, valueOf, follows, isWs}
+use Rattle.json.specs.inner.Landing.{Lands}
 
 -- No count goes past the bytes.
-spaces-by : (l : List ℕ) (t : Bool) → spaces l ≤ length l → pickN t (suc (spaces l)) 0 ≤ suc (length l)
+spaces-by : (l : List ℕ) (t : Bool) → spaces l ≤ length l → cond t (suc (spaces l)) 0 ≤ suc (length l)
 spaces-by l true h = omega arith
 spaces-by l false h = omega arith
 
@@ -30,7 +32,7 @@ left-fit (b ∷ l) outside (suc n) = omega (arith, left-fit l (turn outside b) (
 left-fit (b ∷ l) quoted n = omega (arith, left-fit l (turn quoted b) n)
 left-fit (b ∷ l) escaped n = omega (arith, left-fit l quoted n)
 
-unmarked-by : (l : List ℕ) (t : Bool) → unmarked l ≤ length l → pickN t 0 (suc (unmarked l)) ≤ suc (length l)
+unmarked-by : (l : List ℕ) (t : Bool) → unmarked l ≤ length l → cond t 0 (suc (unmarked l)) ≤ suc (length l)
 unmarked-by l true h = omega arith
 unmarked-by l false h = omega arith
 
@@ -44,7 +46,7 @@ unfolding size
 size-fit [] = omega arith
 size-fit (b ∷ l) = by (eqb b 34) (isOpen b)
   where
-    by : (t u : Bool) → pickN t (suc (left l quoted 0)) (pickN u (suc (left l outside 1)) (unmarked (b ∷ l))) ≤ suc (length l)
+    by : (t u : Bool) → cond t (suc (left l quoted 0)) (cond u (suc (left l outside 1)) (unmarked (b ∷ l))) ≤ suc (length l)
     by true u = omega (arith, left-fit l quoted 0)
     by false true = omega (arith, left-fit l outside 1)
     by false false = unmarked-fit (b ∷ l)
@@ -66,7 +68,7 @@ module _ (s : List ℕ) (a : ℕ) where
   unfolding behind
   behind-inner h = omega (arith, size-fit (drop a s), length-drop a s)
 
-  next-by : (t : Bool) → a ≤ pickN t (a + 1) a
+  next-by : (t : Bool) → a ≤ cond t (a + 1) a
   next-by true = omega arith
   next-by false = omega arith
 
@@ -127,9 +129,11 @@ module _ (s : List ℕ) (i : ℕ) where
 
   pub string-escape : (n : ℕ) → i + 1 < length s → getD s i 0 ≡ 92 → i + left (drop i s) quoted n ≡ (i + 2) + left (drop (i + 2) s) quoted n
   string-escape n h e =
-      let d : drop i s ≡ getD s i 0 ∷ (getD s (suc i) 0 ∷ drop (suc (suc i)) s) = drop-cons s i 0 (omega arith) ∙ ap (λ (l : List ℕ). getD s i 0 ∷ l) (drop-cons s (suc i) 0 (omega arith)) in
+      let d : drop i s ≡ getD s i 0 ∷ (getD s (suc i) 0 ∷ drop (suc (suc i)) s) = drop-cons s i 0 (omega arith)
+      ∙ ap (λ (l : List ℕ). getD s i 0 ∷ l) (drop-cons s (suc i) 0 (omega arith)) in
       let z : suc (suc i) ≡ i + 2 = omega arith in
-      let q : left (drop i s) quoted n ≡ suc (suc (left (drop (i + 2) s) quoted n)) = ap (λ (l : List ℕ). left l quoted n) d ∙ string-pair (getD s i 0) (getD s (suc i) 0) (drop (suc (suc i)) s) n e ∙ ap (λ (k : ℕ). suc (suc (left (drop k s) quoted n))) z in
+      let q : left (drop i s) quoted n ≡ suc (suc (left (drop (i + 2) s) quoted n)) = ap (λ (l : List ℕ). left l quoted n) d
+      ∙ string-pair (getD s i 0) (getD s (suc i) 0) (drop (suc (suc i)) s) n e ∙ ap (λ (k : ℕ). suc (suc (left (drop k s) quoted n))) z in
       omega arith
 
   pub string-cut : (n : ℕ) → i < length s → length s ≤ i + 1 → getD s i 0 ≡ 92 → i + left (drop i s) quoted n ≡ i + 1
@@ -152,7 +156,8 @@ unfolding isPlain
 plain-neither b e = plain-by (eqb b 34) (eqb b 92) (leb 32 b) e
 
 -- a run of them is passed at once
-pub string-run : (s : List ℕ) (i r : ℕ) → i + r ≤ length s → ((j : ℕ) → j < r → isPlain (getD s (i + j) 0) ≡ true) → i + left (drop i s) quoted 0 ≡ (i + r) + left (drop (i + r) s) quoted 0
+pub string-run : (s : List ℕ) (i r : ℕ) → i + r ≤ length s → ((j : ℕ) → j < r → isPlain (getD s (i + j) 0) ≡ true)
+    → i + left (drop i s) quoted 0 ≡ (i + r) + left (drop (i + r) s) quoted 0
 string-run s i zero h f = let z : i + 0 ≡ i = omega arith in rw z
 string-run s i (suc r) h f =
     let p = plain-neither (getD s (i + r) 0) (f r (omega arith)) in
@@ -200,7 +205,8 @@ module _ (s : List ℕ) (i n : ℕ) (o : 0 < n) (h : i < length s) where
   pub nest-opens : isOpen (getD s i 0) ≡ true → (getD s i 0 ≡ 34 → ⊥) → i + left (drop i s) outside n ≡ (i + 1) + left (drop (i + 1) s) outside (n + 1)
   nest-opens e f = nest-step ∙ rw (ne-eqb _ _ f, e, add-one n)
 
-  pub nest-shuts : isOpen (getD s i 0) ≡ false → isShut (getD s i 0) ≡ true → (getD s i 0 ≡ 34 → ⊥) → i + left (drop i s) outside n ≡ (i + 1) + left (drop (i + 1) s) outside (n - 1)
+  pub nest-shuts : isOpen (getD s i 0) ≡ false → isShut (getD s i 0) ≡ true → (getD s i 0 ≡ 34 → ⊥)
+      → i + left (drop i s) outside n ≡ (i + 1) + left (drop (i + 1) s) outside (n - 1)
   nest-shuts e g f = nest-step ∙ rw (ne-eqb _ _ f, e, g)
 
   pub nest-closes : n ≡ 1 → isOpen (getD s i 0) ≡ false → isShut (getD s i 0) ≡ true → (getD s i 0 ≡ 34 → ⊥) → i + left (drop i s) outside n ≡ i + 1
@@ -265,33 +271,25 @@ module _ (s : List ℕ) (a e : ℕ) where
   part-is = refl
 
 -- What walks find, one after the other.
-pub found-then : {s : List ℕ} {a x b r : ℕ} (f : ℕ → ℕ) → Found s a x b → Found s b (f b) r → Found s a (f x) r
+pub found-then : {s : List ℕ} {a x b r : ℕ} (f : ℕ → ℕ) → Lands s a x b → Lands s b (f b) r → Lands s a (f x) r
 found-then f p q = record { is = q .is ∙ ap f (p .is); low = omega (arith, p .low, q .low); inner = λ h. q .inner (p .inner h) }
 
 -- a walk from the place x, which a is
-pub found-at : {s : List ℕ} {a x r : ℕ} (f : ℕ → ℕ) → a ≡ x → Found s a (f a) r → Found s a (f x) r
+pub found-at : {s : List ℕ} {a x r : ℕ} (f : ℕ → ℕ) → a ≡ x → Lands s a (f a) r → Lands s a (f x) r
 found-at f e p = record { is = p .is ∙ ap f e; low = p .low; inner = p .inner }
 
-pub value-found : {s : List ℕ} (q : ℕ) {e v : ℕ} → e ≡ behind s q → Found s e (past s (next s (past s e))) v → Found s e (valueOf s q) v
+pub value-found : {s : List ℕ} (q : ℕ) {e v : ℕ} → e ≡ behind s q → Lands s e (past s (next s (past s e))) v → Lands s e (valueOf s q) v
 unfolding valueOf
 value-found {s} q h p = found-at (λ (y : ℕ). past s (next s (past s y))) h p
 
-pub value-all : {s : List ℕ} {q e v : ℕ} → Found s q (behind s q) e → Found s e (past s (next s (past s e))) v → Found s q (valueOf s q) v
-unfolding valueOf
-value-all {s} h p = found-then (λ (y : ℕ). past s (next s (past s y))) h p
-
-pub follows-found : {s : List ℕ} {v x e r : ℕ} → v ≡ x → Found s v (behind s v) e → Found s e (past s e) r → Found s e (follows s x) r
+pub follows-found : {s : List ℕ} {v x e r : ℕ} → v ≡ x → Lands s v (behind s v) e → Lands s e (past s e) r → Lands s e (follows s x) r
 unfolding follows
 follows-found {s} g h p = found-at (past s) (h .is ∙ ap (behind s) g) p
 
-pub follows-all : {s : List ℕ} {v e r : ℕ} → Found s v (behind s v) e → Found s e (past s e) r → Found s v (follows s v) r
-unfolding follows
-follows-all {s} h p = found-then (past s) h p
-
-pub behind-outside : (s : List ℕ) (a : ℕ) → length s ≤ a → Found s a (behind s a) a
+pub behind-outside : (s : List ℕ) (a : ℕ) → length s ≤ a → Lands s a (behind s a) a
 behind-outside s a h = record { is = sym (behind-end s a h); low = omega arith; inner = λ g. g }
 
-pub closing-is : (s : List ℕ) (q : ℕ) {e : ℕ} → Found s q (behind s q) e → e - 1 ≡ closing s q
+pub closing-is : (s : List ℕ) (q : ℕ) {e : ℕ} → Lands s q (behind s q) e → e - 1 ≡ closing s q
 unfolding closing
 closing-is s q h = ap (λ (x : ℕ). x - 1) (h .is)
 

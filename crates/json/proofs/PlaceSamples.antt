@@ -4,9 +4,9 @@ use mathlib.Core.Path.{_≡_, refl}
 use mathlib.Core.List.{[], _∷_, map}
 use Rattle.octets.specs.Ascii.{ascii}
 use Rattle.octets.specs.Class.{all}
-use Rattle.json.specs.Machine.{isWs}
-use Rattle.json.specs.Places.{part, spaces, past, isOpen, isShut, isMark, left, unmarked, size, behind, bytes, closing, raw, next, valueOf, follows, more, memberAt, membersFrom, members, elementsFrom, elements, spell}
-use Rattle.json.specs.Derived.{shorn, bare}
+use Rattle.json.specs.Places.{part, spaces, past, isOpen, isShut, isMark, left, unmarked, size, behind, bytes, closing, raw, next, valueOf, follows, more}
+use Rattle.json.specs.Places.{memberAt, membersFrom, members, elementsFrom, elements, spell, isWs}
+use Rattle.json.specs.inner.Derived.{shorn, bare}
 
 -- a string with an escaped quote, and one that is not closed
 escaped-quote : behind (ascii "[\"a\\\"b\", 1]") 1 ≡ 7
@@ -28,7 +28,8 @@ unfolding behind size left isOpen isShut isMark unmarked isWs
 a-number = refl
 
 -- the members of an object, and the elements of an array
-two-members : map (spell (ascii "[\"x\",{ \"a\" : 1, \"b\":[\"},\"] }]")) (members (ascii "[\"x\",{ \"a\" : 1, \"b\":[\"},\"] }]") 5) ≡ (ascii "a", ascii "1") ∷ (ascii "b", ascii "[\"},\"]") ∷ []
+two-members : map (spell (ascii "[\"x\",{ \"a\" : 1, \"b\":[\"},\"] }]")) (members (ascii "[\"x\",{ \"a\" : 1, \"b\":[\"},\"] }]") 5) ≡ (ascii "a", ascii "1")
+    ∷ (ascii "b", ascii "[\"},\"]") ∷ []
 unfolding behind size left isOpen isShut isMark unmarked isWs spaces past part closing raw next valueOf follows more memberAt membersFrom members
 two-members = refl
 

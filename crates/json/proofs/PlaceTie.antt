@@ -8,21 +8,17 @@ use Prim.Native.Nat.{ℕ}
 use native.Mathlib.Omega.{arith}
 use lib.ListN.{length, drop, length-append}
 use lib.Seq.{drop-append-seam}
-use Rattle.json.specs.Machine.{isWs}
-use Rattle.json.specs.Places.{past, isShut, isMark, bytes, members, elements, spell}
+use Rattle.json.specs.Places.{past, isShut, isMark, bytes, members, elements, spell, isWs}
 use Rattle.json.specs.Rfc7159.{Rule, bytes as it, _⨾_, both, absent, present, Star, none, more, value-separator, member, object, array, value, JSON-text}
 use Rattle.json.specs.Verdict.{Verdict}
 use Rattle.json.specs.declared.Walked.the-variants.{End}
-use Rattle.json.specs.Derived.{valuesIn, elementsIn, memberIn, pairsIn, membersIn, bare, bared}
-use Rattle.json.proofs.Listing.{Blank, Sized, Label, Field, entry, body, Fine, Fines, Item, item, items, Good, Goods, readAll, values, past-is, past-at, bytes-is, array-read, array-none, object-read, object-none, starts-ink}
-use Rattle.json.proofs.EndLaws.{Marked}
-use Rattle.json.proofs.GrammarCore.{blank-of, blank-append, Core, core-bare, core-of, label-of, ws-91, ws-123}
+use Rattle.json.specs.inner.Derived.{valuesIn, elementsIn, memberIn, pairsIn, membersIn, bare, bared}
+use Rattle.json.proofs.Listing.{Blank, Sized, Label, Field, entry, body, Fine, Fines, Item, item, items, Good, Goods, readAll, values, past-is, past-at}
+use Rattle.json.proofs.Listing.{bytes-is, array-read, array-none, object-read, object-none, starts-ink, ws-91, ws-123}
+use Rattle.json.proofs.EndLaws.{Marked, ws-mark}
+use Rattle.json.proofs.GrammarCore.{blank-of, blank-append, Core, core-bare, core-of, label-of}
 
 -- What follows a value inside brackets is a mark.
-ws-mark : (b : ℕ) → isWs b ≡ true → isMark b ≡ true
-unfolding isMark
-ws-mark b h = simp h
-
 marked-by : (u t : List ℕ) → Blank u → Marked t → Marked (u ++ t)
 marked-by [] t h m = m
 marked-by (b ∷ u) t h m = ws-mark b (h .0)
@@ -75,14 +71,17 @@ rows-end d w x e hw k he = record {
   each = (subst (value d) (sym (core-bare k)) (k .derives), tt);
 }
 
-rows-more : (d : ℕ) (w x w₁ w₂ v q e : List ℕ) (xs : List (List ℕ)) → Blank w → Core d x → Blank w₁ → Blank e → Rows d w₂ v q e xs → Rows d w x (((w₁ ++ (44 ∷ w₂)) ++ v) ++ q) e (v ∷ xs)
+rows-more : (d : ℕ) (w x w₁ w₂ v q e : List ℕ) (xs : List (List ℕ)) → Blank w → Core d x → Blank w₁ → Blank e → Rows d w₂ v q e xs
+    → Rows d w x (((w₁ ++ (44 ∷ w₂)) ++ v) ++ q) e (v ∷ xs)
 unfolding items item
 rows-more d w x w₁ w₂ v q e xs hw k h₁ he r = record {
   i = record { w = w ++ k .w; v = k .c; u = k .u ++ w₁ };
   is = r .i ∷ r .is;
   eq = λ t.
-      let a : w ++ ((k .w ++ (k .c ++ k .u)) ++ ((((w₁ ++ (44 ∷ w₂)) ++ v) ++ q) ++ (e ++ (93 ∷ t)))) ≡ (w ++ k .w) ++ (k .c ++ ((k .u ++ w₁) ++ (44 ∷ (w₂ ++ (v ++ (q ++ (e ++ (93 ∷ t)))))))) = simp append-assoc in
-      ap (λ (l : List ℕ). w ++ (l ++ ((((w₁ ++ (44 ∷ w₂)) ++ v) ++ q) ++ (e ++ (93 ∷ t))))) (k .is) ∙ a ∙ ap (λ (l : List ℕ). (w ++ k .w) ++ (k .c ++ ((k .u ++ w₁) ++ (44 ∷ l)))) (r .eq t);
+      let a : w ++ ((k .w ++ (k .c ++ k .u)) ++ ((((w₁ ++ (44 ∷ w₂)) ++ v) ++ q) ++ (e ++ (93 ∷ t)))) ≡ (w ++ k .w)
+      ++ (k .c ++ ((k .u ++ w₁) ++ (44 ∷ (w₂ ++ (v ++ (q ++ (e ++ (93 ∷ t)))))))) = simp append-assoc in
+      ap (λ (l : List ℕ). w ++ (l ++ ((((w₁ ++ (44 ∷ w₂)) ++ v) ++ q) ++ (e ++ (93 ∷ t))))) (k .is) ∙ a
+      ∙ ap (λ (l : List ℕ). (w ++ k .w) ++ (k .c ++ ((k .u ++ w₁) ++ (44 ∷ l)))) (r .eq t);
   good = (good-of d 44 w x w₁ k hw h₁ mark-44, r .good);
   vals = ap (λ (l : List ℕ). l ∷ values (r .i ∷ r .is)) (sym (core-bare k)) ∙ ap (λ (l : List (List ℕ)). bare x ∷ l) (r .vals);
   each = (subst (value d) (sym (core-bare k)) (k .derives), r .each);
@@ -90,7 +89,8 @@ rows-more d w x w₁ w₂ v q e xs hw k h₁ he r = record {
 
 rows : (d : ℕ) (w x s e : List ℕ) → Blank w → Core d x → (r : Star (value-separator ⨾ value d) s) → Blank e → Rows d w x s e (valuesIn r)
 rows d w x s e hw k none he = rows-end d w x e hw k he
-rows d w x s e hw k (more {t = q} (both {t = v} (both {s = w₁} h₁ (both {t = w₂} it h₂)) y) r) he = rows-more d w x w₁ w₂ v q e (valuesIn r) hw k (blank-of w₁ h₁) he (rows d w₂ v q e (blank-of w₂ h₂) (core-of d v y) r he)
+rows d w x s e hw k (more {t = q} (both {t = v} (both {s = w₁} h₁ (both {t = w₂} it h₂)) y) r) he = rows-more d w x w₁ w₂ v q e (valuesIn r) hw k (blank-of w₁ h₁) he
+    (rows d w₂ v q e (blank-of w₂ h₂) (core-of d v y) r he)
 
 -- THE THEOREM for arrays: v is derived as an array and stands in s from a on; its bracket is past the white space there
 pub record ArrayTie (d : ℕ) (s : List ℕ) (a : ℕ) (xs : List (List ℕ)) : Type 0 where
@@ -160,7 +160,8 @@ fine-of d b w x e p k hw he m = record {
 -- such a member in front of r
 apart-entry : (d : ℕ) (w x e r : List ℕ) (p : List ℕ × List ℕ) (k : Apart d x p) → w ++ (x ++ (e ++ r)) ≡ entry (fieldBy w k e) r
 unfolding entry
-apart-entry d w x e r p k = ap (λ (l : List ℕ). w ++ (l ++ (e ++ r))) (k .is ∙ ap (λ (l : List ℕ). 34 ∷ (k .n ++ (34 ∷ (k .w₁ ++ (58 ∷ (k .w₂ ++ l)))))) (k .core .is)) ∙ simp append-assoc
+apart-entry d w x e r p k = ap (λ (l : List ℕ). w ++ (l ++ (e ++ r))) (k .is ∙ ap (λ (l : List ℕ). 34 ∷ (k .n ++ (34 ∷ (k .w₁ ++ (58 ∷ (k .w₂ ++ l)))))) (k .core .is))
+    ∙ simp append-assoc
 
 apart-bared : (d : ℕ) (x : List ℕ) (p : List ℕ × List ℕ) (k : Apart d x p) → bared p ≡ (k .n, k .core .c)
 apart-bared d x p k = ap bared (k .pair) ∙ ap (λ (l : List ℕ). (k .n, l)) (core-bare (k .core))
@@ -179,7 +180,8 @@ fields-end d w x e p hw k he = record {
   each = (apart-derives d x p k, tt);
 }
 
-fields-more : (d : ℕ) (w x w₁ w₂ v q e : List ℕ) (p : List ℕ × List ℕ) (ps : List (List ℕ × List ℕ)) → Blank w → Apart d x p → Blank w₁ → Fields d w₂ v q e ps → Fields d w x (((w₁ ++ (44 ∷ w₂)) ++ v) ++ q) e (p ∷ ps)
+fields-more : (d : ℕ) (w x w₁ w₂ v q e : List ℕ) (p : List ℕ × List ℕ) (ps : List (List ℕ × List ℕ)) → Blank w → Apart d x p → Blank w₁ → Fields d w₂ v q e ps
+    → Fields d w x (((w₁ ++ (44 ∷ w₂)) ++ v) ++ q) e (p ∷ ps)
 unfolding body
 fields-more d w x w₁ w₂ v q e p ps hw k h₁ r = record {
   f = fieldBy w k w₁;
@@ -194,7 +196,8 @@ fields-more d w x w₁ w₂ v q e p ps hw k h₁ r = record {
 
 fields : (d : ℕ) (w x s e : List ℕ) → Blank w → (m : member (value d) x) → (r : Star (value-separator ⨾ member (value d)) s) → Blank e → Fields d w x s e (memberIn m ∷ pairsIn r)
 fields d w x s e hw m none he = fields-end d w x e (memberIn m) hw (apart d x m) he
-fields d w x s e hw m (more {t = q} (both {t = v} (both {s = w₁} h₁ (both {t = w₂} it h₂)) y) r) he = fields-more d w x w₁ w₂ v q e (memberIn m) (memberIn y ∷ pairsIn r) hw (apart d x m) (blank-of w₁ h₁) (fields d w₂ v q e (blank-of w₂ h₂) y r he)
+fields d w x s e hw m (more {t = q} (both {t = v} (both {s = w₁} h₁ (both {t = w₂} it h₂)) y) r) he = fields-more d w x w₁ w₂ v q e (memberIn m) (memberIn y ∷ pairsIn r) hw
+    (apart d x m) (blank-of w₁ h₁) (fields d w₂ v q e (blank-of w₂ h₂) y r he)
 
 -- THE THEOREM for objects
 pub record ObjectTie (d : ℕ) (s : List ℕ) (a : ℕ) (ps : List (List ℕ × List ℕ)) : Type 0 where
@@ -210,7 +213,11 @@ object-tie d s v t a e (both (both {s = w} h (both {t = w₂} it h₂)) (both (p
     let k = fields d w₂ v₁ q₁ e₁ (blank-of w₂ h₂) m r (blank-of e₁ g) in
     let q : drop a s ≡ w ++ (123 ∷ (w₂ ++ (v₁ ++ (q₁ ++ (e₁ ++ (125 ∷ (z ++ t))))))) = e ∙ simp append-assoc in
     let p = past-at s w _ a (blank-of w h) ws-123 q in
-    record { listed = object-read Sized Label (λ v t y. y) (λ n y. y) s (past s a) (k .f) (k .fs) (z ++ t) (k .good) (p ∙ ap (λ (l : List ℕ). 123 ∷ l) (k .eq (z ++ t))) ∙ k .reads; each = k .each }
+    record {
+      listed = object-read Sized Label (λ v t y. y) (λ n y. y) s (past s a) (k .f) (k .fs) (z ++ t) (k .good) (p ∙ ap (λ (l : List ℕ). 123 ∷ l) (k .eq (z ++ t)))
+          ∙ k .reads;
+      each = k .each;
+    }
 
 -- A value ends where the grammar says, if a mark or nothing follows it.
 pub record ValueTie (d : ℕ) (s : List ℕ) (a : ℕ) (v : List ℕ) : Type 0 where

@@ -5,8 +5,10 @@ use mathlib.Core.Logic.{_↔_}
 use Prim.Native.Nat.{ℕ, zero, suc, _+_}
 use native.Mathlib.Omega.{arith}
 use native.Mathlib.Nat.{add-zero, add-suc}
-use Rattle.json.specs.Rfc7159.{Rule, _⨾_, both, left, right, Opt, absent, present, Star, none, more, value-separator as ValueSeparator, member as Member, object as Object, array as Array, value as Value, JSON as Json}
-use Rattle.json.specs.Plain.{Value as Any, simple, empty-object, object, empty-array, array, Member as AnyMember, member, Members as AnyMembers, no-member, and-member, Values as AnyValues, no-value, and-value, Text as AnyText}
+use Rattle.json.specs.Rfc7159.{Rule, _⨾_, both, left, right, Opt, absent, present, Star, none, more, value-separator as ValueSeparator, member as Member}
+use Rattle.json.specs.Rfc7159.{object as Object, array as Array, value as Value, JSON as Json}
+use Rattle.json.specs.inner.Plain.{Value as Any, simple, empty-object, object, empty-array, array, Member as AnyMember, member, Members as AnyMembers}
+use Rattle.json.specs.inner.Plain.{no-member, and-member, Values as AnyValues, no-value, and-value, Text as AnyText}
 
 abbrev Into : Rule → Rule → Type 0
 Into A B = (s : List ℕ) → A s → B s
@@ -88,9 +90,11 @@ deep-any {s} x =
     elim x as (λ l y. Deep (λ X. X) l) (λ l y. Deep Member l) (λ l y. Deep Members l) (λ l y. Deep Values l) [
       | simple y ↦ record { depth = 0; it = y }
       | empty-object b e ↦ record { depth = 1; it = right (right (right (left (both b (both absent e))))) }
-      | object b (m → p) (r → q) e ↦ record { depth = suc (p .depth + q .depth); it = right (right (right (left (both b (both (present (both (up-member p q) (up-members p q))) e))))) }
+      | object b (m → p) (r → q) e ↦ record
+          { depth = suc (p .depth + q .depth); it = right (right (right (left (both b (both (present (both (up-member p q) (up-members p q))) e))))) }
       | empty-array b e ↦ record { depth = 1; it = right (right (right (right (left (both b (both absent e)))))) }
-      | array b (v → p) (r → q) e ↦ record { depth = suc (p .depth + q .depth); it = right (right (right (right (left (both b (both (present (both (up-value p q) (up-values p q))) e)))))) }
+      | array b (v → p) (r → q) e ↦ record
+          { depth = suc (p .depth + q .depth); it = right (right (right (right (left (both b (both (present (both (up-value p q) (up-values p q))) e)))))) }
       | member n c (v → p) ↦ record { depth = p .depth; it = both n (both c (p .it)) }
       | no-member ↦ record { depth = 0; it = none }
       | and-member c (m → p) (r → q) ↦ record { depth = p .depth + q .depth; it = more (both c (up-member p q)) (up-members p q) }

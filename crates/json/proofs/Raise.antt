@@ -1,6 +1,6 @@
 -- More levels change no answer but Deep. Assumes nothing.
 use mathlib.Core.Path.{_≡_, refl, sym, subst, _∙_}
-use mathlib.Core.Bool.{Bool, true, false, _||_}
+use mathlib.Core.Bool.{Bool, true, false, _||_, cond}
 use mathlib.Core.List.{List, [], _∷_}
 use mathlib.Core.Logic.{_⊎_, inl, inr}
 use Prim.Native.Nat.{ℕ, _+_, _≤_, _<_}
@@ -8,10 +8,13 @@ use native.Mathlib.Omega.{arith}
 use borrow.Author.Tests.{lt-ltb, ltb-true}
 use lib.Dec.{eqb, ltb}
 use Rattle.octets.specs.Class.{isDigit}
-use Rattle.json.specs.Machine.{Stack, alone, text, arr, obj, Mode, value, first, name, name₁, colon, after, str, esc, hex, word, minus, nought, int, dot, frac, exp, sign, power, Next, live, dead, deep, done, pick, isWs, isHex, isSign, isEsc, levels, shut, opens, begin, ends, expo, point, step, stops, takes, walk}
+use Rattle.octets.proofs.TestLaws.{either}
+use Rattle.json.specs.inner.Machine.{Stack, alone, text, arr, obj, Mode, value, first, name, name₁, colon, after, str, esc, hex, word, minus, nought, int}
+use Rattle.json.specs.inner.Machine.{dot, frac, exp, sign, power, Next, live, dead, deep, done, isHexDigit, isSign, isEsc, levels, shut, opens, begin}
+use Rattle.json.specs.inner.Machine.{ends, expo, point, step, stops, takes, walk}
+use Rattle.json.specs.Places.{isWs}
 use Rattle.json.specs.declared.Walked.{Walked}
 use Rattle.json.specs.declared.Walked.the-variants.{End, Bad, Deep}
-use Rattle.json.proofs.Complete.{test}
 use Rattle.json.proofs.Opened.{Fits, fits-text, fits-arr, fits-obj}
 
 -- an answer other than Deep
@@ -52,7 +55,7 @@ module _ (e : ℕ) where
     ended-up : Up j done done
     deeps : {n : Next} → (0 < levels (raise j) → IsLive n) → Up j deep n
 
-  up : {j : Stack} {x x′ y y′ : Next} (t : Bool) → Up j x x′ → Up j y y′ → Up j (pick t x y) (pick t x′ y′)
+  up : {j : Stack} {x x′ y y′ : Next} (t : Bool) → Up j x x′ → Up j y y′ → Up j (cond t x y) (cond t x′ y′)
   up true p q = p
   up false p q = q
 
@@ -75,7 +78,8 @@ module _ (e : ℕ) where
   unfolding opens
   opens-live f m k l = rw (lt-ltb 0 (levels (raise k)) l) is-live
 
-  up-opens : (f : Stack → Stack) (m : Mode) (k : Stack) → raise (f k) ≡ f (raise k) → (ltb 0 (levels k) ≡ true) ⊎ (ltb 0 (levels k) ≡ false) → Up k (opens f m k) (opens f m (raise k))
+  up-opens : (f : Stack → Stack) (m : Mode) (k : Stack) → raise (f k) ≡ f (raise k) → (ltb 0 (levels k) ≡ true) ⊎ (ltb 0 (levels k) ≡ false)
+      → Up k (opens f m k) (opens f m (raise k))
   unfolding opens
   up-opens f m k q (inl h) = let l = ltb-true 0 (levels k) h in rw (h, lt-ltb 0 (levels (raise k)) (omega (arith, raise-levels k))) (lives q)
   up-opens f m k q (inr h) = rw h (deeps (opens-live f m k))
@@ -83,8 +87,9 @@ module _ (e : ℕ) where
   up-begin : (k : Stack) (b : ℕ) → Up k (begin k b) (begin (raise k) b)
   unfolding begin raise
   up-begin k b =
-      up (eqb b 34) (lives refl) (up (eqb b 91) (up-opens arr first k refl (test (ltb 0 (levels k)))) (up (eqb b 123) (up-opens obj name₁ k refl (test (ltb 0 (levels k))))
-      (up (eqb b 116) (lives refl) (up (eqb b 102) (lives refl) (up (eqb b 110) (lives refl) (up (eqb b 45) (lives refl) (up (eqb b 48) (lives refl) (up (isDigit b) (lives refl) dies))))))))
+      up (eqb b 34) (lives refl) (up (eqb b 91) (up-opens arr first k refl (either (ltb 0 (levels k)))) (up (eqb b 123) (up-opens obj name₁ k refl (either (ltb 0 (levels k))))
+      (up (eqb b 116) (lives refl) (up (eqb b 102) (lives refl)
+      (up (eqb b 110) (lives refl) (up (eqb b 45) (lives refl) (up (eqb b 48) (lives refl) (up (isDigit b) (lives refl) dies))))))))
 
   up-step : (m : Mode) (k : Stack) (b : ℕ) → Up k (step m k b) (step m (raise k) b)
   unfolding step
@@ -96,7 +101,7 @@ module _ (e : ℕ) where
   up-step after k b = up-ends k b
   up-step (str w) k b = up (eqb b 34) (lives refl) (up (eqb b 92) (lives refl) (up (ltb b 32) dies (lives refl)))
   up-step (esc w) k b = up (isEsc b) (lives refl) (up (eqb b 117) (lives refl) dies)
-  up-step (hex w n) k b = up (isHex b) (lives refl) dies
+  up-step (hex w n) k b = up (isHexDigit b) (lives refl) dies
   up-step (word x xs) k b = up (eqb b x) (lives refl) dies
   up-step minus k b = up (eqb b 48) (lives refl) (up (isDigit b) (lives refl) dies)
   up-step nought k b = up-point k b
@@ -139,7 +144,8 @@ module _ (e : ℕ) where
   up-stops m (arr k) i = refl
   up-stops m (obj k) i = refl
 
-  up-takes : (s : List ℕ) (i : ℕ) (g : Walked) → Flat g → ((m : Mode) (k : Stack) → walk s m k (i + 1) ≡ g → walk s m (raise k) (i + 1) ≡ g) → (j : Stack) (n n′ : Next) → Up j n n′ → takes n (walk s) i ≡ g → takes n′ (walk s) i ≡ g
+  up-takes : (s : List ℕ) (i : ℕ) (g : Walked) → Flat g → ((m : Mode) (k : Stack) → walk s m k (i + 1) ≡ g → walk s m (raise k) (i + 1) ≡ g) → (j : Stack) (n n′ : Next)
+      → Up j n n′ → takes n (walk s) i ≡ g → takes n′ (walk s) i ≡ g
   up-takes s i g f ih j n n′ (lives {m} {k} q) h = subst (λ (j : Stack). walk s m j (i + 1) ≡ g) q (ih m k h)
   up-takes s i g f ih j n n′ dies h = h
   up-takes s i g f ih j n n′ ended-up h = h

@@ -7,7 +7,10 @@ use native.Mathlib.Omega.{arith}
 use borrow.Author.Tests.{eq-eqb}
 use lib.ListN.{length}
 use Rattle.octets.specs.Class.{isDigit, among}
-use Rattle.json.specs.Machine.{Stack, alone, text, arr, obj, Role, label, plain, Mode, value, first, name, name₁, colon, after, str, esc, hex, word, minus, nought, int, dot, frac, exp, sign, power, Next, live, dead, deep, done, isWs, isHex, isSign, isEsc, due, hexes, begin, ends, expo, point, step, over, ended, stops, takes, walk}
+use Rattle.json.specs.inner.Machine.{Stack, alone, text, arr, obj, Role, label, plain, Mode, value, first, name, name₁, colon, after, str, esc, hex, word}
+use Rattle.json.specs.inner.Machine.{minus, nought, int, dot, frac, exp, sign, power, Next, live, dead, deep, done, isHexDigit, isSign, isEsc, due, hexes}
+use Rattle.json.specs.inner.Machine.{begin, ends, expo, point, step, over, ended, stops, takes, walk}
+use Rattle.json.specs.Places.{isWs}
 use Rattle.json.specs.declared.Walked.{Walked}
 use Rattle.json.specs.declared.Walked.the-variants.{End, Bad, Deep}
 
@@ -45,7 +48,7 @@ rest-hex w k zero = 48 ∷ rest-str w k
 rest-hex w k (suc n) = 48 ∷ rest-hex w k n
 
 closes-hex : (w : Role) (k : Stack) (n i : ℕ) → Ends (walk (rest-hex w k n) (hex w n) k i)
-unfolding rest-hex walk step isHex isDigit among hexes
+unfolding rest-hex walk step isHexDigit isDigit among hexes
 closes-hex w k zero i = closes-str w k _
 closes-hex w k (suc n) i = closes-hex w k n _
 

@@ -1,14 +1,14 @@
 -- A run of plain bytes, found by the least rank: one more byte seen, and what the least rank of all says. Assumes nothing.
 use mathlib.Core.Path.{_≡_, refl, subst}
-use mathlib.Core.Bool.{Bool, true, false}
+use mathlib.Core.Bool.{Bool, true, false, cond}
 use mathlib.Core.List.{List}
 use Prim.Native.Nat.{ℕ, _+_, _≤_, _<_}
 use native.Mathlib.Omega.{arith}
 use borrow.Author.Tests.{le-ltb, ltb-true, ltb-false}
 use lib.Dec.{ltb}
 use lib.ListN.{getD}
-use Rattle.json.specs.Machine.{isPlain}
-use Rattle.json.specs.Runs.{chosen, rank, least, Run}
+use Rattle.json.specs.inner.Machine.{isPlain}
+use Rattle.json.specs.inner.Runs.{rank, least, Run}
 
 -- of the first k of 32 bytes, so many are plain before the first that is not; 32 if all are
 pub record Seen (s : List ℕ) (a k m : ℕ) : Type 0 where
@@ -33,7 +33,7 @@ module _ (s : List ℕ) (a k m : ℕ) (h : k < 32) (o : Seen s a k m) where
       last j true q l u = o .plain j (ltb-true j k q) u
       last j false q l u = let n = ltb-false j k q in let z : k ≡ j = omega arith in subst (λ (i : ℕ). isPlain (getD s (a + i) 0) ≡ true) z e
 
-  on-other : isPlain (getD s (a + k) 0) ≡ false → (t : Bool) → ltb k m ≡ t → Seen s a (k + 1) (chosen t k m)
+  on-other : isPlain (getD s (a + k) 0) ≡ false → (t : Bool) → ltb k m ≡ t → Seen s a (k + 1) (cond t k m)
   on-other e true q =
       let n = ltb-true k m q in
       record {
@@ -51,7 +51,7 @@ module _ (s : List ℕ) (a k m : ℕ) (h : k < 32) (o : Seen s a k m) where
         stop = o .stop;
       }
 
-  more : (t : Bool) → isPlain (getD s (a + k) 0) ≡ t → Seen s a (k + 1) (least m (chosen t 32 k))
+  more : (t : Bool) → isPlain (getD s (a + k) 0) ≡ t → Seen s a (k + 1) (least m (cond t 32 k))
   unfolding least
   more true e = rw (le-ltb 32 m (o .few)) (on-plain e)
   more false e = on-other e (ltb k m) refl

@@ -3,7 +3,7 @@
 -- `frame`. Assumes nothing.
 use mathlib.Core.Path.{_≡_, refl, sym, ap, subst, _∙_}
 use mathlib.Core.Logic.{_⊎_, inl, inr}
-use mathlib.Core.Bool.{Bool, true, false, _||_}
+use mathlib.Core.Bool.{Bool, true, false, _||_, cond}
 use mathlib.Core.List.{List, [], _∷_, _++_}
 use Prim.Native.Nat.{ℕ, zero, suc, _-_, _≤_, _<_}
 use native.Mathlib.Omega.{arith}
@@ -12,8 +12,11 @@ use lib.Dec.{eqb, ltb}
 use borrow.Author.Tests.{eqb-true, ne-eqb}
 use Rattle.octets.specs.Class.{isDigit, among}
 use Rattle.octets.proofs.ClassLaws.{digit-in}
-use Rattle.json.specs.Machine.{Stack, alone, text, arr, obj, levels, shut, done, Role, label, plain, Mode, value, first, name, name₁, colon, after, str, esc, hex, word, minus, nought, int, dot, frac, exp, sign, power, Next, live, dead, deep, isWs, isHex, isEsc, isSign, closed, due, hexes, opens, begin, ends, pick, step, over, expo, point}
-use Rattle.json.specs.Places.{isOpen, isShut, Inside, outside, quoted, escaped, left, size}
+use Rattle.octets.proofs.TestLaws.{or-split}
+use Rattle.json.specs.inner.Machine.{Stack, alone, text, arr, obj, levels, shut, done, Role, label, plain, Mode, value, first, name, name₁, colon, after}
+use Rattle.json.specs.inner.Machine.{str, esc, hex, word, minus, nought, int, dot, frac, exp, sign, power, Next, live, dead, deep, isHexDigit, isEsc}
+use Rattle.json.specs.inner.Machine.{isSign, closed, due, hexes, opens, begin, ends, step, over, expo, point}
+use Rattle.json.specs.Places.{isOpen, isShut, Inside, outside, quoted, escaped, left, size, isWs}
 use Rattle.json.proofs.PlaceLaws.{left-none}
 use Rattle.json.proofs.OwnBytes.{then, run}
 
@@ -57,10 +60,6 @@ AllCalm (x ∷ xs) = Calm x × AllCalm xs
 pub calm : (b : ℕ) → (b ≡ 34 → ⊥) → (b ≡ 91 → ⊥) → (b ≡ 93 → ⊥) → (b ≡ 123 → ⊥) → (b ≡ 125 → ⊥) → Calm b
 unfolding isOpen isShut
 calm b h₁ h₂ h₃ h₄ h₅ = record { no-quote = ne-eqb b 34 h₁; no-open = simp (ne-eqb b 91 h₂, ne-eqb b 123 h₄); no-shut = simp (ne-eqb b 93 h₃, ne-eqb b 125 h₅) }
-
-pub or-split : (x y : Bool) → (x || y) ≡ true → (x ≡ true) ⊎ (y ≡ true)
-or-split true y e = inl refl
-or-split false y e = inr e
 
 pub ws-low : (b : ℕ) → isWs b ≡ true → b ≤ 32
 unfolding isWs
@@ -191,7 +190,7 @@ data Sees (x : Inside) (h b : ℕ) : Next → Type 0 where
   sunk : Sees x h b deep
   late : Sees x h b done
 
-by : {x : Inside} {h b : ℕ} (t : Bool) {n n′ : Next} → (t ≡ true → Sees x h b n) → (t ≡ false → Sees x h b n′) → Sees x h b (pick t n n′)
+by : {x : Inside} {h b : ℕ} (t : Bool) {n n′ : Next} → (t ≡ true → Sees x h b n) → (t ≡ false → Sees x h b n′) → Sees x h b (cond t n n′)
 by true f g = f refl
 by false f g = g refl
 
@@ -228,14 +227,14 @@ pub left-taken : (b : ℕ) (l : List ℕ) (h : ℕ) → left (b ∷ l) escaped h
 unfolding left
 left-taken b l h = refl
 
-pub hex-34 : (b : ℕ) (x : Bool) → eqb b 34 ≡ x → isHex b ≡ true → eqb b 34 ≡ false
-unfolding isHex isDigit among
-hex-34 b true h g = let z = eqb-true b 34 h in let y : isHex 34 ≡ true = ap isHex (sym z) ∙ g in let f : false ≡ true = y in cc
+pub hex-34 : (b : ℕ) (x : Bool) → eqb b 34 ≡ x → isHexDigit b ≡ true → eqb b 34 ≡ false
+unfolding isHexDigit isDigit among
+hex-34 b true h g = let z = eqb-true b 34 h in let y : isHexDigit 34 ≡ true = ap isHexDigit (sym z) ∙ g in let f : false ≡ true = y in cc
 hex-34 b false h g = h
 
-pub hex-92 : (b : ℕ) (x : Bool) → eqb b 92 ≡ x → isHex b ≡ true → eqb b 92 ≡ false
-unfolding isHex isDigit among
-hex-92 b true h g = let z = eqb-true b 92 h in let y : isHex 92 ≡ true = ap isHex (sym z) ∙ g in let f : false ≡ true = y in cc
+pub hex-92 : (b : ℕ) (x : Bool) → eqb b 92 ≡ x → isHexDigit b ≡ true → eqb b 92 ≡ false
+unfolding isHexDigit isDigit among
+hex-92 b true h g = let z = eqb-true b 92 h in let y : isHexDigit 92 ≡ true = ap isHexDigit (sym z) ∙ g in let f : false ≡ true = y in cc
 hex-92 b false h g = h
 
 inside-hexes : (w : Role) (n : ℕ) → insideOf (hexes w n) ≡ quoted
@@ -268,7 +267,9 @@ module _ (s : Stack) (w : Role) (b : ℕ) (okc : Ok (closed w) s) (oks : Ok (str
 
   see-hex : (n : ℕ) → Sees quoted (height s) b (step (hex w n) s b)
   unfolding step
-  see-hex n = by (isHex b) (λ q. sees (okh n) (λ l. left-char b l (height s) (hex-34 b (eqb b 34) refl q) (hex-92 b (eqb b 92) refl q) ∙ ap (λ (x : Inside). suc (left l x (height s))) (sym (inside-hexes w n)))) (λ q. refused)
+  see-hex n = by (isHexDigit b) (λ q. sees (okh n)
+      (λ l. left-char b l (height s) (hex-34 b (eqb b 34) refl q) (hex-92 b (eqb b 92) refl q) ∙ ap (λ (x : Inside). suc (left l x (height s))) (sym (inside-hexes w n))))
+      (λ q. refused)
 
 -- inside a bracket: s is an array or an object in s′
 module _ (s s′ : Stack) (hs : height s ≡ suc (height s′)) (dp : Deeply s) (dp′ : Deeply s′) (ok : (m : Mode) → Sane m → Ok m s) (sh : shut s ≡ s′) (b : ℕ) where
@@ -278,9 +279,12 @@ module _ (s s′ : Stack) (hs : height s ≡ suc (height s′)) (dp : Deeply s) 
   shuts : eqb b 34 ≡ false → isOpen b ≡ false → isShut b ≡ true → Sees outside (height s) b (live after s′)
   shuts q o c = sees (ok-after s′ dp′) (λ l. left-shut b l (height s) (height s′) hs q o c)
 
-  see-open : (f : Stack → Stack) (m : Mode) → Ok m (f s) → insideOf m ≡ outside → height (f s) ≡ suc (height s) → eqb b 34 ≡ false → isOpen b ≡ true → Sees outside (height s) b (opens f m s)
+  see-open : (f : Stack → Stack) (m : Mode) → Ok m (f s) → insideOf m ≡ outside → height (f s) ≡ suc (height s) → eqb b 34 ≡ false → isOpen b ≡ true
+      → Sees outside (height s) b (opens f m s)
   unfolding opens
-  see-open f m o i g q c = by (ltb 0 (levels s)) (λ _. sees o (λ l. left-open b l (height s) (height s′) hs q c ∙ ap (λ (x : ℕ). suc (left l outside x)) (sym g) ∙ ap (λ (x : Inside). suc (left l x (height (f s)))) (sym i))) (λ _. sunk)
+  see-open f m o i g q c = by (ltb 0 (levels s))
+      (λ _. sees o (λ l. left-open b l (height s) (height s′) hs q c ∙ ap (λ (x : ℕ). suc (left l outside x)) (sym g)
+      ∙ ap (λ (x : Inside). suc (left l x (height (f s)))) (sym i))) (λ _. sunk)
 
   see-begin : Sees outside (height s) b (begin s b)
   unfolding begin due isOpen
@@ -288,9 +292,17 @@ module _ (s s′ : Stack) (hs : height s ≡ suc (height s′)) (dp : Deeply s) 
       by (eqb b 34) (λ q. sees (ok (str plain) tt) (λ l. left-quote b l (height s) (height s′) hs q))
       (λ q. by (eqb b 91) (λ e. see-open arr first (tt, dp) refl refl q (simp e))
       (λ h₁. by (eqb b 123) (λ e. see-open obj name₁ (tt, dp) refl refl q (simp (h₁, e)))
-      (λ h₂. by (eqb b 116) (λ e. stay (word 114 (117 ∷ 101 ∷ [])) (calm-letter 114 (omega arith) (omega arith), (calm-letter 117 (omega arith) (omega arith), (calm-letter 101 (omega arith) (omega arith), tt))) refl (calm-as b 116 e (omega arith) (omega arith)))
-      (λ h₃. by (eqb b 102) (λ e. stay (word 97 (108 ∷ 115 ∷ 101 ∷ [])) (calm-letter 97 (omega arith) (omega arith), (calm-letter 108 (omega arith) (omega arith), (calm-letter 115 (omega arith) (omega arith), (calm-letter 101 (omega arith) (omega arith), tt)))) refl (calm-as b 102 e (omega arith) (omega arith)))
-      (λ h₄. by (eqb b 110) (λ e. stay (word 117 (108 ∷ 108 ∷ [])) (calm-letter 117 (omega arith) (omega arith), (calm-letter 108 (omega arith) (omega arith), (calm-letter 108 (omega arith) (omega arith), tt))) refl (calm-as b 110 e (omega arith) (omega arith)))
+      (λ h₂. by (eqb b 116) (λ e. stay (word 114 (117 ∷ 101 ∷ []))
+      (calm-letter 114 (omega arith) (omega arith), (calm-letter 117 (omega arith) (omega arith), (calm-letter 101 (omega arith) (omega arith), tt))) refl
+      (calm-as b 116 e (omega arith) (omega arith)))
+      (λ h₃. by (eqb b 102) (λ e. stay (word 97 (108 ∷ 115 ∷ 101 ∷ [])) (
+        calm-letter 97 (omega arith) (omega arith),
+        (calm-letter 108 (omega arith) (omega arith), (calm-letter 115 (omega arith) (omega arith), (calm-letter 101 (omega arith) (omega arith), tt))),
+      ) refl
+      (calm-as b 102 e (omega arith) (omega arith)))
+      (λ h₄. by (eqb b 110) (λ e. stay (word 117 (108 ∷ 108 ∷ []))
+      (calm-letter 117 (omega arith) (omega arith), (calm-letter 108 (omega arith) (omega arith), (calm-letter 108 (omega arith) (omega arith), tt))) refl
+      (calm-as b 110 e (omega arith) (omega arith)))
       (λ h₅. by (eqb b 45) (λ e. stay minus tt refl (calm-at b 45 e (omega arith) (omega arith)))
       (λ h₆. by (eqb b 48) (λ e. stay nought tt refl (calm-at b 48 e (omega arith) (omega arith)))
       (λ h₇. by (isDigit b) (λ e. stay int tt refl (calm-digit b e)) (λ h₈. refused)))))))))
@@ -324,16 +336,24 @@ module _ (s s′ : Stack) (hs : height s ≡ suc (height s′)) (dp : Deeply s) 
     see-in : (m : Mode) → Sane m → Sees (insideOf m) (height s) b (step m s b)
     unfolding step isOpen isShut
     see-in value o = by (isWs b) (λ e. stay value tt refl (calm-ws b e)) (λ _. see-begin)
-    see-in first o = by (isWs b) (λ e. stay first tt refl (calm-ws b e)) (λ _. by (eqb b 93) (λ e. let z = eqb-true b 93 e in subst (λ (k : Stack). Sees outside (height s) b (live after k)) (sym sh) (shuts (ne-eqb b 34 (omega arith)) (simp (ne-eqb b 91 (omega arith), ne-eqb b 123 (omega arith))) (simp e))) (λ _. see-begin))
+    see-in first o = by (isWs b) (λ e. stay first tt refl (calm-ws b e))
+        (λ _. by (eqb b 93) (λ e. let z = eqb-true b 93 e in
+        subst (λ (k : Stack). Sees outside (height s) b (live after k)) (sym sh)
+        (shuts (ne-eqb b 34 (omega arith)) (simp (ne-eqb b 91 (omega arith), ne-eqb b 123 (omega arith))) (simp e))) (λ _. see-begin))
     see-in name o = by (isWs b) (λ e. stay name tt refl (calm-ws b e)) (λ _. by (eqb b 34) (λ q. see-quote (str label) tt refl q) (λ _. refused))
-    see-in name₁ o = by (isWs b) (λ e. stay name₁ tt refl (calm-ws b e)) (λ _. by (eqb b 125) (λ e. let z = eqb-true b 125 e in subst (λ (k : Stack). Sees outside (height s) b (live after k)) (sym sh) (shuts (ne-eqb b 34 (omega arith)) (simp (ne-eqb b 91 (omega arith), ne-eqb b 123 (omega arith))) (simp (ne-eqb b 93 (omega arith), e)))) (λ _. by (eqb b 34) (λ q. see-quote (str label) tt refl q) (λ _. refused)))
+    see-in name₁ o = by (isWs b) (λ e. stay name₁ tt refl (calm-ws b e))
+        (λ _. by (eqb b 125) (λ e. let z = eqb-true b 125 e in
+        subst (λ (k : Stack). Sees outside (height s) b (live after k)) (sym sh)
+        (shuts (ne-eqb b 34 (omega arith)) (simp (ne-eqb b 91 (omega arith), ne-eqb b 123 (omega arith))) (simp (ne-eqb b 93 (omega arith), e))))
+        (λ _. by (eqb b 34) (λ q. see-quote (str label) tt refl q) (λ _. refused)))
     see-in colon o = by (isWs b) (λ e. stay colon tt refl (calm-ws b e)) (λ _. by (eqb b 58) (λ e. stay value tt refl (calm-at b 58 e (omega arith) (omega arith))) (λ _. refused))
     see-in after o = en
     see-in (str w) o = see-str s w b (ok-closed w) (ok (str w) tt) (ok (esc w) tt) (ok-hexes w)
     see-in (esc w) o = see-esc s w b (ok-closed w) (ok (str w) tt) (ok (esc w) tt) (ok-hexes w)
     see-in (hex w n) o = see-hex s w b (ok-closed w) (ok (str w) tt) (ok (esc w) tt) (ok-hexes w) n
     see-in (word x xs) o = by (eqb b x) (λ e. stay (due xs) (sane-due xs (o .1)) (inside-due xs) (calm-is b x e (o .0))) (λ _. refused)
-    see-in minus o = by (eqb b 48) (λ e. stay nought tt refl (calm-at b 48 e (omega arith) (omega arith))) (λ _. by (isDigit b) (λ e. stay int tt refl (calm-digit b e)) (λ _. refused))
+    see-in minus o = by (eqb b 48) (λ e. stay nought tt refl (calm-at b 48 e (omega arith) (omega arith)))
+        (λ _. by (isDigit b) (λ e. stay int tt refl (calm-digit b e)) (λ _. refused))
     see-in nought o = see-point
     see-in int o = by (isDigit b) (λ e. stay int tt refl (calm-digit b e)) (λ _. see-point)
     see-in dot o = by (isDigit b) (λ e. stay frac tt refl (calm-digit b e)) (λ _. refused)
@@ -351,14 +371,17 @@ unfolding ends isOpen isShut
 see-ends-arr k d b =
     by (isWs b) (λ e. stay (arr k) k refl d d (λ m o. (o, d)) refl b after tt refl (calm-ws b e))
     (λ _. by (eqb b 44) (λ e. stay (arr k) k refl d d (λ m o. (o, d)) refl b value tt refl (calm-is b 44 e calm-comma))
-    (λ _. by (eqb b 93) (λ e. let z = eqb-true b 93 e in shuts (arr k) k refl d d (λ m o. (o, d)) refl b (ne-eqb b 34 (omega arith)) (simp (ne-eqb b 91 (omega arith), ne-eqb b 123 (omega arith))) (simp e)) (λ _. refused)))
+    (λ _. by (eqb b 93) (λ e. let z = eqb-true b 93 e in
+    shuts (arr k) k refl d d (λ m o. (o, d)) refl b (ne-eqb b 34 (omega arith)) (simp (ne-eqb b 91 (omega arith), ne-eqb b 123 (omega arith))) (simp e)) (λ _. refused)))
 
 see-ends-obj : (k : Stack) → Deeply k → (b : ℕ) → Sees outside (suc (height k)) b (ends (obj k) b)
 unfolding ends isOpen isShut
 see-ends-obj k d b =
     by (isWs b) (λ e. stay (obj k) k refl d d (λ m o. (o, d)) refl b after tt refl (calm-ws b e))
     (λ _. by (eqb b 44) (λ e. stay (obj k) k refl d d (λ m o. (o, d)) refl b name tt refl (calm-is b 44 e calm-comma))
-    (λ _. by (eqb b 125) (λ e. let z = eqb-true b 125 e in shuts (obj k) k refl d d (λ m o. (o, d)) refl b (ne-eqb b 34 (omega arith)) (simp (ne-eqb b 91 (omega arith), ne-eqb b 123 (omega arith))) (simp (ne-eqb b 93 (omega arith), e))) (λ _. refused)))
+    (λ _. by (eqb b 125) (λ e. let z = eqb-true b 125 e in
+    shuts (obj k) k refl d d (λ m o. (o, d)) refl b (ne-eqb b 34 (omega arith)) (simp (ne-eqb b 91 (omega arith), ne-eqb b 123 (omega arith)))
+    (simp (ne-eqb b 93 (omega arith), e))) (λ _. refused)))
 
 out-hexes : (n : ℕ) → Out (hexes plain n)
 unfolding hexes
@@ -420,7 +443,8 @@ pub record Comes (v t : List ℕ) (x : Inside) (h : ℕ) (m′ : Mode) : Type 0 
   pub done : m′ ≡ after
   pub size : left (v ++ t) x h ≡ length v
 
-comes-then : (b : ℕ) (v t : List ℕ) (d : ℕ) (x : Inside) (h : ℕ) (m′ : Mode) (n : Next) → Sees x h b n → ((m : Mode) (s : Stack) → Ok m s → run v m s ≡ live m′ (alone d) → Comes v t (insideOf m) (height s) m′) → then n (run v) ≡ live m′ (alone d) → Comes (b ∷ v) t x h m′
+comes-then : (b : ℕ) (v t : List ℕ) (d : ℕ) (x : Inside) (h : ℕ) (m′ : Mode) (n : Next) → Sees x h b n
+    → ((m : Mode) (s : Stack) → Ok m s → run v m s ≡ live m′ (alone d) → Comes v t (insideOf m) (height s) m′) → then n (run v) ≡ live m′ (alone d) → Comes (b ∷ v) t x h m′
 comes-then b v t d x h m′ n (sees {m} {s} o f) ih e = let r = ih m s o e in record { done = r .done; size = f (v ++ t) ∙ ap suc (r .size) }
 comes-then b v t d x h m′ n refused ih e = let z : _≡_ {A = ℕ} 0 1 = cc in absurd (omega arith)
 comes-then b v t d x h m′ n sunk ih e = let z : _≡_ {A = ℕ} 0 1 = cc in absurd (omega arith)
@@ -464,7 +488,8 @@ sized-object : (v t : List ℕ) (m′ : Mode) → Comes v t outside 1 m′ → W
 unfolding size isOpen
 sized-object v t m′ r = record { done = r .done; ends = ap suc (r .size) }
 
-open-then : (v t : List ℕ) (d : ℕ) (f : Stack → Stack) (m m′ : Mode) (x : Bool) → (run v m (f (alone d)) ≡ live m′ (alone d) → Comes v t outside 1 m′) → then (pick x (live m (f (alone d))) deep) (run v) ≡ live m′ (alone d) → Comes v t outside 1 m′
+open-then : (v t : List ℕ) (d : ℕ) (f : Stack → Stack) (m m′ : Mode) (x : Bool) → (run v m (f (alone d)) ≡ live m′ (alone d) → Comes v t outside 1 m′)
+    → then (cond x (live m (f (alone d))) deep) (run v) ≡ live m′ (alone d) → Comes v t outside 1 m′
 open-then v t d f m m′ true g e = g e
 open-then v t d f m m′ false g e = let z : _≡_ {A = ℕ} 0 1 = cc in absurd (omega arith)
 
@@ -472,11 +497,11 @@ first-string : (v : List ℕ) (d : ℕ) → run (34 ∷ v) value (alone d) ≡ r
 unfolding run step begin isWs
 first-string v d = refl
 
-first-array : (v : List ℕ) (d : ℕ) → run (91 ∷ v) value (alone d) ≡ then (pick (ltb 0 d) (live first (arr (alone d))) deep) (run v)
+first-array : (v : List ℕ) (d : ℕ) → run (91 ∷ v) value (alone d) ≡ then (cond (ltb 0 d) (live first (arr (alone d))) deep) (run v)
 unfolding run step begin isWs opens
 first-array v d = refl
 
-first-object : (v : List ℕ) (d : ℕ) → run (123 ∷ v) value (alone d) ≡ then (pick (ltb 0 d) (live name₁ (obj (alone d))) deep) (run v)
+first-object : (v : List ℕ) (d : ℕ) → run (123 ∷ v) value (alone d) ≡ then (cond (ltb 0 d) (live name₁ (obj (alone d))) deep) (run v)
 unfolding run step begin isWs opens
 first-object v d = refl
 

@@ -1,18 +1,25 @@
 -- What the machine takes to the end, the grammar derives: backwards from the end, each byte joins what the grammar still wants behind it. Assumes nothing.
 use mathlib.Core.Path.{_≡_, refl, sym, subst}
-use mathlib.Core.Bool.{Bool, true, false, _||_}
+use mathlib.Core.Bool.{Bool, true, false, _||_, cond}
 use mathlib.Core.List.{List, [], _∷_, _++_, append-assoc}
-use mathlib.Core.Logic.{_⊎_, inl, inr, ⊎-elim}
+use mathlib.Core.Logic.{⊎-elim}
 use Prim.Native.Nat.{ℕ, zero, suc, _+_, _-_, _≤_, _<_}
 use native.Mathlib.Omega.{arith}
 use borrow.Author.Tests.{eqb-true, eqb-false, leb-true, leb-false, ltb-true, ltb-false}
 use lib.Dec.{eqb, leb, ltb}
 use Rattle.octets.specs.Class.{isDigit, among}
 use Rattle.octets.proofs.ClassLaws.{among-in, digit-in}
-use Rattle.json.specs.Machine.{Stack, alone, text, arr, obj, Role, label, plain, Mode, value, first, name, name₁, colon, after, str, esc, hex, word, minus, nought, int, dot, frac, exp, sign, power, Next, live, dead, deep, done, pick, isWs, isHex, isSign, isEsc, closed, due, hexes, levels, shut, opens, begin, ends, expo, point, step, over, ended, stops, takes, walk}
-use Rattle.json.specs.Rfc7159.{Rule, Bytes, bytes, range, at-least, _⨾_, both, _or_, left, right, Opt, absent, present, Star, none, more, Plus, Byte, ws as Ws, end-array as EndArray, end-object as EndObject, name-separator as NameSeparator, value-separator as ValueSeparator, DIGIT as Digit, int as Int, frac as Frac, exp as Exp, HEXDIG as HexDig, unescaped as Unescaped, char as Char, member as Member, value as Value, JSON-text as JsonText}
+use Rattle.octets.proofs.TestLaws.{or-split, either}
+use Rattle.json.specs.inner.Machine.{Stack, alone, text, arr, obj, Role, label, plain, Mode, value, first, name, name₁, colon, after, str, esc, hex, word}
+use Rattle.json.specs.inner.Machine.{minus, nought, int, dot, frac, exp, sign, power, Next, live, dead, deep, done, isHexDigit, isSign, isEsc, closed}
+use Rattle.json.specs.inner.Machine.{due, hexes, levels, shut, opens, begin, ends, expo, point, step, over, ended, stops, takes, walk}
+use Rattle.json.specs.Places.{isWs}
+use Rattle.json.specs.Rfc7159.{Rule, Bytes, bytes, range, at-least, _⨾_, both, _or_, left, right, Opt, absent, present, Star, none, more, Plus, Byte}
+use Rattle.json.specs.Rfc7159.{ws as Ws, end-array as EndArray, end-object as EndObject, name-separator as NameSeparator}
+use Rattle.json.specs.Rfc7159.{value-separator as ValueSeparator, DIGIT as Digit, int as Int, frac as Frac, exp as Exp, HEXDIG as HexDig}
+use Rattle.json.specs.Rfc7159.{unescaped as Unescaped, char as Char, member as Member, value as Value, JSON-text as JsonText}
 use Rattle.json.proofs.Refusal.{Ends}
-use Rattle.json.proofs.Complete.{Escaped, test}
+use Rattle.json.proofs.Complete.{Escaped}
 
 -- a structural character with white space around it
 abbrev Structural : ℕ → Rule
@@ -86,15 +93,11 @@ no {s = s} o = absurd (onwards dead s o)
 no-deep : {A : Type 0} {s : List ℕ} → Onward deep s → A
 no-deep {s = s} o = absurd (onwards deep s o)
 
-picks : {x y : Next} {s : List ℕ} {A : Type 0} (t : Bool) → (t ≡ true → Onward x s → A) → (t ≡ false → Onward y s → A) → Onward (pick t x y) s → A
+picks : {x y : Next} {s : List ℕ} {A : Type 0} (t : Bool) → (t ≡ true → Onward x s → A) → (t ≡ false → Onward y s → A) → Onward (cond t x y) s → A
 picks true f g o = f refl o
 picks false f g o = g refl o
 
 -- Bytes of the classes.
-or-split : (x y : Bool) → (x || y) ≡ true → (x ≡ true) ⊎ (y ≡ true)
-or-split true y e = inl refl
-or-split false y e = inr e
-
 byte : {b c : ℕ} → b ≡ c → Byte c (b ∷ [])
 byte {b} {c} e = subst (λ (x : ℕ). Byte c (x ∷ [])) (sym e) bytes
 
@@ -104,21 +107,26 @@ is b c e = byte (eqb-true b c e)
 ws-of : (b : ℕ) → isWs b ≡ true → (Byte 0x20 or Byte 0x09 or Byte 0x0A or Byte 0x0D) (b ∷ [])
 unfolding isWs
 ws-of b h =
-    ⊎-elim (λ e. left (is b 32 e)) (λ h₁. ⊎-elim (λ e. right (left (is b 9 e))) (λ h₂. ⊎-elim (λ e. right (right (left (is b 10 e)))) (λ e. right (right (right (is b 13 e)))) (or-split (eqb b 10) _ h₂)) (or-split (eqb b 9) _ h₁)) (or-split (eqb b 32) _ h)
+    ⊎-elim (λ e. left (is b 32 e))
+    (λ h₁. ⊎-elim (λ e. right (left (is b 9 e))) (λ h₂. ⊎-elim (λ e. right (right (left (is b 10 e)))) (λ e. right (right (right (is b 13 e)))) (or-split (eqb b 10) _ h₂))
+    (or-split (eqb b 9) _ h₁)) (or-split (eqb b 32) _ h)
 
 digit-of : (b : ℕ) → isDigit b ≡ true → Digit (b ∷ [])
 digit-of b h = let p = digit-in b h in range (p .0) (p .1)
 
-hex-of : (b : ℕ) → isHex b ≡ true → HexDig (b ∷ [])
-unfolding isHex
+hex-of : (b : ℕ) → isHexDigit b ≡ true → HexDig (b ∷ [])
+unfolding isHexDigit
 hex-of b h =
     ⊎-elim (λ e. left (digit-of b e))
-    (λ h₁. ⊎-elim (λ e. let p = among-in 65 70 b e in right (left (range (p .0) (p .1)))) (λ e. let p = among-in 97 102 b e in right (right (range (p .0) (p .1)))) (or-split (among 65 70 b) _ h₁)) (or-split (isDigit b) _ h)
+    (λ h₁. ⊎-elim (λ e. let p = among-in 65 70 b e in right (left (range (p .0) (p .1)))) (λ e. let p = among-in 97 102 b e in right (right (range (p .0) (p .1))))
+    (or-split (among 65 70 b) _ h₁)) (or-split (isDigit b) _ h)
 
 unescaped-of : (b : ℕ) → (b ≡ 34 → ⊥) → (b ≡ 92 → ⊥) → 32 ≤ b → Unescaped (b ∷ [])
 unescaped-of b h₁ h₂ l =
     ⊎-elim (λ e. left (range l (leb-true b 33 e)))
-    (λ e. let u = leb-false b 33 e in ⊎-elim (λ f. let v = leb-true b 91 f in right (left (range (omega arith) v))) (λ f. let v = leb-false b 91 f in right (right (at-least (omega arith)))) (test (leb b 91))) (test (leb b 33))
+    (λ e. let u = leb-false b 33 e in
+    ⊎-elim (λ f. let v = leb-true b 91 f in right (left (range (omega arith) v))) (λ f. let v = leb-false b 91 f in right (right (at-least (omega arith))))
+    (either (leb b 91))) (either (leb b 33))
 
 sign-of : (b : ℕ) → isSign b ≡ true → (Byte 0x2D or Byte 0x2B) (b ∷ [])
 unfolding isSign
@@ -127,9 +135,11 @@ sign-of b h = ⊎-elim (λ e. right (is b 43 e)) (λ e. left (is b 45 e)) (or-sp
 esc-of : (b : ℕ) → isEsc b ≡ true → Escaped (b ∷ [])
 unfolding isEsc
 esc-of b h =
-    ⊎-elim (λ e. left (is b 34 e)) (λ h₁. ⊎-elim (λ e. right (left (is b 92 e))) (λ h₂. ⊎-elim (λ e. right (right (left (is b 47 e)))) (λ h₃. ⊎-elim (λ e. right (right (right (left (is b 98 e)))))
+    ⊎-elim (λ e. left (is b 34 e))
+    (λ h₁. ⊎-elim (λ e. right (left (is b 92 e))) (λ h₂. ⊎-elim (λ e. right (right (left (is b 47 e)))) (λ h₃. ⊎-elim (λ e. right (right (right (left (is b 98 e)))))
     (λ h₄. ⊎-elim (λ e. right (right (right (right (left (is b 102 e)))))) (λ h₅. ⊎-elim (λ e. right (right (right (right (right (left (is b 110 e)))))))
-    (λ h₆. ⊎-elim (λ e. right (right (right (right (right (right (left (is b 114 e)))))))) (λ e. right (right (right (right (right (right (right (left (is b 116 e))))))))) (or-split (eqb b 114) _ h₆))
+    (λ h₆. ⊎-elim (λ e. right (right (right (right (right (right (left (is b 114 e)))))))) (λ e. right (right (right (right (right (right (right (left (is b 116 e)))))))))
+    (or-split (eqb b 114) _ h₆))
     (or-split (eqb b 110) _ h₅)) (or-split (eqb b 102) _ h₄)) (or-split (eqb b 98) _ h₃)) (or-split (eqb b 47) _ h₂)) (or-split (eqb b 92) _ h₁)) (or-split (eqb b 34) _ h)
 
 -- One byte in front.
@@ -162,9 +172,11 @@ comma {X} {Z} {b} h (both {s = w} ws (both {s = v} x (both {s = m} {t = z} y r))
 shuts : {X Z : Rule} {b c : ℕ} {s : List ℕ} → b ≡ c → Z s → (Star X ⨾ Structural c ⨾ Z) (b ∷ s)
 shuts h z = both none (both (both none (both (byte h) none)) z)
 
-opened : {X Z : Rule} {b c d : ℕ} {s : List ℕ} → b ≡ c → (Ws ⨾ X ⨾ Star (ValueSeparator ⨾ X) ⨾ Structural d ⨾ Z) s → ((Structural c ⨾ Opt (X ⨾ Star (ValueSeparator ⨾ X)) ⨾ Structural d) ⨾ Z) (b ∷ s)
+opened : {X Z : Rule} {b c d : ℕ} {s : List ℕ} → b ≡ c → (Ws ⨾ X ⨾ Star (ValueSeparator ⨾ X) ⨾ Structural d ⨾ Z) s
+    → ((Structural c ⨾ Opt (X ⨾ Star (ValueSeparator ⨾ X)) ⨾ Structural d) ⨾ Z) (b ∷ s)
 opened {X} {Z} {b} {c} {d} h (both {s = w} ws (both {s = v} x (both {s = m} y (both {s = e} {t = z} en r)))) =
-    let all : ((Structural c ⨾ Opt (X ⨾ Star (ValueSeparator ⨾ X)) ⨾ Structural d) ⨾ Z) ((b ∷ (w ++ ((v ++ m) ++ e))) ++ z) = both (both (both none (both (byte h) ws)) (both (present (both x y)) en)) r in
+    let all : ((Structural c ⨾ Opt (X ⨾ Star (ValueSeparator ⨾ X)) ⨾ Structural d) ⨾ Z) ((b ∷ (w ++ ((v ++ m) ++ e))) ++ z) = both
+    (both (both none (both (byte h) ws)) (both (present (both x y)) en)) r in
     simp append-assoc at all
 
 empty : {X Z : Rule} {b c d : ℕ} {s : List ℕ} → b ≡ c → (Ws ⨾ Byte d ⨾ Z) s → ((Structural c ⨾ Opt X ⨾ Structural d) ⨾ Z) (b ∷ s)
@@ -184,7 +196,8 @@ escape {b} h (both {s = p} e (both {s = q} {t = r} cs z)) =
 
 uni : {b : ℕ} {s : List ℕ} → b ≡ 117 → (HexDig ⨾ HexDig ⨾ HexDig ⨾ HexDig ⨾ Quoted) s → (Escaped ⨾ Quoted) (b ∷ s)
 uni {b} h (both {s = p₁} x₁ (both {s = p₂} x₂ (both {s = p₃} x₃ (both {s = p₄} {t = z} x₄ q)))) =
-    let all : (Escaped ⨾ Quoted) ((b ∷ (p₁ ++ (p₂ ++ (p₃ ++ p₄)))) ++ z) = both (right (right (right (right (right (right (right (right (both (byte h) (both x₁ (both x₂ (both x₃ x₄)))))))))))) q in
+    let all : (Escaped ⨾ Quoted) ((b ∷ (p₁ ++ (p₂ ++ (p₃ ++ p₄)))) ++ z) = both
+    (right (right (right (right (right (right (right (right (both (byte h) (both x₁ (both x₂ (both x₃ x₄)))))))))))) q in
     simp append-assoc at all
 
 -- After a value.
@@ -192,8 +205,10 @@ back-ends : (k : Stack) (b : ℕ) (s : List ℕ) → Onward (ends k b) s → Aft
 unfolding ends
 back-ends (alone d) b s o = tt
 back-ends (text d) b s o = picks (isWs b) (λ w x. ws-front w (un x)) (λ w x. no x) o
-back-ends (arr k) b s o = picks (isWs b) (λ w x. ws-items w (un x)) (λ w. picks (eqb b 44) (λ e x. comma (eqb-true b 44 e) (un x)) (λ e. picks (eqb b 93) (λ f x. shuts (eqb-true b 93 f) (un x)) (λ f x. no x))) o
-back-ends (obj k) b s o = picks (isWs b) (λ w x. ws-items w (un x)) (λ w. picks (eqb b 44) (λ e x. comma (eqb-true b 44 e) (un x)) (λ e. picks (eqb b 125) (λ f x. shuts (eqb-true b 125 f) (un x)) (λ f x. no x))) o
+back-ends (arr k) b s o = picks (isWs b) (λ w x. ws-items w (un x))
+    (λ w. picks (eqb b 44) (λ e x. comma (eqb-true b 44 e) (un x)) (λ e. picks (eqb b 93) (λ f x. shuts (eqb-true b 93 f) (un x)) (λ f x. no x))) o
+back-ends (obj k) b s o = picks (isWs b) (λ w x. ws-items w (un x))
+    (λ w. picks (eqb b 44) (λ e x. comma (eqb-true b 44 e) (un x)) (λ e. picks (eqb b 125) (λ f x. shuts (eqb-true b 125 f) (un x)) (λ f x. no x))) o
 
 -- Numbers.
 module _ (k : Stack) (b : ℕ) (s : List ℕ) where
@@ -314,7 +329,8 @@ back name₁ k b s o =
     firsts : isWs b ≡ true → Rest name₁ k s → Rest name₁ k (b ∷ s)
     firsts w (left x) = left (ws-then w x)
     firsts w (right x) = right (ws-then w x)
-back colon k b s o = picks (isWs b) (λ w x. front (λ p y. struct-front w y) (un x)) (λ w. picks (eqb b 58) (λ e x. front (λ p y. both none (both (is b 58 e) y)) (un x)) (λ e x. no x)) o
+back colon k b s o = picks (isWs b) (λ w x. front (λ p y. struct-front w y) (un x))
+    (λ w. picks (eqb b 58) (λ e x. front (λ p y. both none (both (is b 58 e) y)) (un x)) (λ e x. no x)) o
 back after k b s o = back-ends k b s o
 back (str w) k b s o =
     picks (eqb b 34) (λ e x. both (both none (is b 34 e)) (closed-is w k b s x))
@@ -323,13 +339,14 @@ back (str w) k b s o =
 back (esc w) k b s o =
     picks (isEsc b) (λ e x. front (λ p y. both (esc-of b e) y) (un x))
     (λ e. picks (eqb b 117) (λ f x. front (λ p y. uni (eqb-true b 117 f) y) (hexes-is w k b s 4 (un x))) (λ f x. no x)) o
-back (hex w n) k b s o = picks (isHex b) (λ e x. front (λ p y. both (hex-of b e) y) (hexes-is w k b s n (un x))) (λ e x. no x) o
+back (hex w n) k b s o = picks (isHexDigit b) (λ e x. front (λ p y. both (hex-of b e) y) (hexes-is w k b s n (un x))) (λ e x. no x) o
 back (word y ys) k b s o = picks (eqb b y) (λ e x. front (λ p z. bytes-in (eqb-true b y e) z) (due-rest ys k s (un x))) (λ e x. no x) o
 back minus k b s o =
     picks (eqb b 48) (λ e x. front (λ p y. both (left (is b 48 e)) y) (un x))
     (λ e. picks (isDigit b) (λ d x. front (λ p y. int-in (eqb-false b 48 e) d y) (un x)) (λ d x. no x)) o
 back nought k b s o = back-point k b s (both absent absent) (λ p y. both absent (present y)) (λ p y. frac-in y) o
-back int k b s o = picks (isDigit b) (λ d x. front (λ p y. digits-in d y) (un x)) (λ d. back-point k b s (both none (both absent absent)) (λ p y. both none (both absent (present y))) (λ p y. both none (frac-in y))) o
+back int k b s o = picks (isDigit b) (λ d x. front (λ p y. digits-in d y) (un x))
+    (λ d. back-point k b s (both none (both absent absent)) (λ p y. both none (both absent (present y))) (λ p y. both none (frac-in y))) o
 back dot k b s o = picks (isDigit b) (λ d x. front (λ p y. plus-in d y) (un x)) (λ d x. no x) o
 back frac k b s o = picks (isDigit b) (λ d x. front (λ p y. digits-in d y) (un x)) (λ d. back-expo k b s (both none absent) (λ p y. both none (present y))) o
 back exp k b s o =

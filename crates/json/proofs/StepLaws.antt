@@ -3,11 +3,20 @@ use mathlib.Core.Path.{_≡_, refl, _∙_}
 use mathlib.Core.Bool.{true, false, not}
 use mathlib.Core.List.{[], _∷_}
 use Prim.Native.Nat.{ℕ, _≤_, _<_}
+use native.Mathlib.Omega.{arith}
 use borrow.Author.Tests.{lt-ltb, le-ltb, ne-eqb, leb-true, leb-false, not-true, eqb-false}
 use lib.Dec.{eqb}
 use Rattle.octets.specs.Class.{isDigit}
-use Rattle.octets.proofs.TextLaws.{and-parts}
-use Rattle.json.specs.Machine.{Stack, text, arr, obj, Role, label, plain, Mode, value, first, name, name₁, colon, after, str, esc, minus, nought, int, dot, frac, exp, sign, power, live, dead, deep, isWs, isSign, isEsc, isPlain, closed, due, hexes, levels, opens, begin, ends, expo, point, step}
+use Rattle.octets.proofs.TestLaws.{and-parts}
+use Rattle.json.specs.inner.Machine.{Stack, text, arr, obj, Role, label, plain, Mode, value, first, name, name₁, colon, after, str, esc, minus, nought}
+use Rattle.json.specs.inner.Machine.{int, dot, frac, exp, sign, power, live, dead, deep, isSign, isEsc, isPlain, closed, due, hexes, levels, opens, begin}
+use Rattle.json.specs.inner.Machine.{ends, expo, point, step}
+use Rattle.json.specs.Places.{isWs}
+
+-- no byte past the space is white space
+pub not-ws : (b : ℕ) → 32 < b → isWs b ≡ false
+unfolding isWs
+not-ws b h = simp (ne-eqb b 32 (omega arith), ne-eqb b 9 (omega arith), ne-eqb b 10 (omega arith), ne-eqb b 13 (omega arith))
 
 -- White space is passed over in each of these modes.
 module _ (k : Stack) (b : ℕ) (h : isWs b ≡ true) where

@@ -4,7 +4,7 @@ use mathlib.Core.List.{List, [], _∷_, _++_, append-assoc}
 use Prim.Native.Nat.{ℕ, zero, suc, _+_, _≤_, _<_}
 use native.Mathlib.Omega.{arith}
 use lib.ListN.{take, drop, take-append-drop}
-use Rattle.json.specs.Machine.{text, value, answer}
+use Rattle.json.specs.inner.Machine.{text, value, answer}
 use Rattle.json.specs.Rfc7159.{Rule, JSON-text as JsonText, JSON as Json}
 use Rattle.json.specs.Verdict.{Verdict, Refused, TooDeep}
 use Rattle.json.specs.declared.Walked.{Walked}
@@ -32,8 +32,10 @@ take-less (suc n) (suc q) (x ∷ s) h = ap (λ (r : List ℕ). x ∷ r) (take-le
 module _ (T : Rule) (s : List ℕ) (p q : ℕ) (h : p < q) (more : List ℕ) where
   beyond : ((u : List ℕ) → T (take (p + 1) s ++ u) → ⊥) → T (take q s ++ more) → ⊥
   beyond f x =
-      let a : take (p + 1) s ++ drop (p + 1) (take q s) ≡ take q s = ap (λ (r : List ℕ). r ++ drop (p + 1) (take q s)) (sym (take-less (p + 1) q s (omega arith))) ∙ take-append-drop (p + 1) (take q s) in
-      let e : take q s ++ more ≡ take (p + 1) s ++ (drop (p + 1) (take q s) ++ more) = ap (λ (r : List ℕ). r ++ more) (sym a) ∙ append-assoc (take (p + 1) s) (drop (p + 1) (take q s)) more in
+      let a : take (p + 1) s ++ drop (p + 1) (take q s) ≡ take q s = ap (λ (r : List ℕ). r ++ drop (p + 1) (take q s)) (sym (take-less (p + 1) q s (omega arith)))
+      ∙ take-append-drop (p + 1) (take q s) in
+      let e : take q s ++ more ≡ take (p + 1) s ++ (drop (p + 1) (take q s) ++ more) = ap (λ (r : List ℕ). r ++ more) (sym a)
+      ∙ append-assoc (take (p + 1) s) (drop (p + 1) (take q s)) more in
       f (drop (p + 1) (take q s) ++ more) (subst T e x)
 
 order : (p q : ℕ) → (p < q → ⊥) → (q < p → ⊥) → p ≡ q

@@ -1,31 +1,25 @@
 -- Where things stand in a text: what the contracts of `src/places.rt` cite, and how the layers above name a value, a member, an element.
 -- A place is a number of bytes from the start of the text. Each definition is total, on any bytes and at any place, and reads no further than
 -- the thing it passes. proofs/PlaceTie.antt shows that in a text of RFC 7159 they are the grammar's own. Assumes nothing.
-use mathlib.Core.Path.{_≡_}
-use Prim.Native.Nat.{ℕ, zero, suc, _+_, _-_, _≤_}
-use mathlib.Core.Bool.{Bool, true, false, _||_}
+use Prim.Native.Char.{code}
+use Prim.Native.Nat.{ℕ, zero, suc, _+_, _-_}
+use mathlib.Core.Bool.{Bool, _||_, cond}
 use mathlib.Core.List.{List, [], _∷_}
 use lib.ListN.{length, take, drop, getD}
 use lib.Dec.{eqb, ltb}
-use Rattle.json.specs.Machine.{isWs}
-
--- one of two numbers, and of two lists, by a test
-abbrev pub pickN : Bool → ℕ → ℕ → ℕ
-pickN true a b = a
-pickN false a b = b
-
-abbrev pub pickL : Bool → List ℕ → List ℕ → List ℕ
-pickL true a b = a
-pickL false a b = b
 
 -- the bytes from a up to e
 unfoldable pub part : List ℕ → ℕ → ℕ → List ℕ
 part s a e = take (e - a) (drop a s)
 
+-- white space: space, tab, line feed, carriage return
+unfoldable pub isWs : ℕ → Bool
+isWs b = eqb b (code " ") || (eqb b (code "\t") || (eqb b (code "\n") || eqb b (code "\r")))
+
 -- how many bytes of white space these begin with
 unfoldable pub spaces : List ℕ → ℕ
 spaces [] = 0
-spaces (b ∷ bs) = pickN (isWs b) (suc (spaces bs)) 0
+spaces (b ∷ bs) = cond (isWs b) (suc (spaces bs)) 0
 
 -- past the white space at a
 unfoldable pub past : List ℕ → ℕ → ℕ
@@ -33,14 +27,14 @@ past s a = a + spaces (drop a s)
 
 -- a bracket that opens, and one that closes
 unfoldable pub isOpen : ℕ → Bool
-isOpen b = eqb b 91 || eqb b 123
+isOpen b = eqb b (code "[") || eqb b (code "{")
 
 unfoldable pub isShut : ℕ → Bool
-isShut b = eqb b 93 || eqb b 125
+isShut b = eqb b (code "]") || eqb b (code "}")
 
 -- what ends a number or a literal: white space, a comma, a closing bracket
 unfoldable pub isMark : ℕ → Bool
-isMark b = isWs b || (eqb b 44 || isShut b)
+isMark b = isWs b || (eqb b (code ",") || isShut b)
 
 -- where a byte of a value stands: outside strings, in one, or in one behind a backslash
 pub data Inside : Type 0 where
@@ -48,19 +42,15 @@ pub data Inside : Type 0 where
   quoted : Inside
   escaped : Inside
 
-abbrev pub pickI : Bool → Inside → Inside → Inside
-pickI true a b = a
-pickI false a b = b
-
 -- a quote opens a string and closes it; a backslash takes the byte after it along
 abbrev pub turn : Inside → ℕ → Inside
-turn outside b = pickI (eqb b 34) quoted outside
-turn quoted b = pickI (eqb b 34) outside (pickI (eqb b 92) escaped quoted)
+turn outside b = cond (eqb b (code "\"")) quoted outside
+turn quoted b = cond (eqb b (code "\"")) outside (cond (eqb b (code "\\")) escaped quoted)
 turn escaped b = quoted
 
 -- how many brackets are open behind b, where n are
 abbrev pub depth : ℕ → ℕ → ℕ
-depth n b = pickN (isOpen b) (suc n) (pickN (isShut b) (n - 1) n)
+depth n b = cond (isOpen b) (suc n) (cond (isShut b) (n - 1) n)
 
 -- how many bytes are left of a string, an array or an object, where n brackets are open: none once nothing is
 unfoldable pub left : List ℕ → Inside → ℕ → ℕ
@@ -73,12 +63,12 @@ left (b ∷ bs) escaped n = suc (left bs (turn escaped b) n)
 -- how many bytes of a number or a literal these begin with
 unfoldable pub unmarked : List ℕ → ℕ
 unmarked [] = 0
-unmarked (b ∷ bs) = pickN (isMark b) 0 (suc (unmarked bs))
+unmarked (b ∷ bs) = cond (isMark b) 0 (suc (unmarked bs))
 
 -- how many bytes the value has that these begin with: its own bytes decide it
 unfoldable pub size : List ℕ → ℕ
 size [] = 0
-size (b ∷ bs) = pickN (eqb b 34) (suc (left bs quoted 0)) (pickN (isOpen b) (suc (left bs outside 1)) (unmarked (b ∷ bs)))
+size (b ∷ bs) = cond (eqb b (code "\"")) (suc (left bs quoted 0)) (cond (isOpen b) (suc (left bs outside 1)) (unmarked (b ∷ bs)))
 
 -- behind the value that begins at a
 unfoldable pub behind : List ℕ → ℕ → ℕ
@@ -98,7 +88,7 @@ raw s q = part s (q + 1) (closing s q)
 
 -- one byte further, if there is one
 unfoldable pub next : List ℕ → ℕ → ℕ
-next s p = pickN (ltb p (length s)) (p + 1) p
+next s p = cond (ltb p (length s)) (p + 1) p
 
 -- the value of the member whose name opens at q: past the name, the colon and white space
 unfoldable pub valueOf : List ℕ → ℕ → ℕ
@@ -110,11 +100,11 @@ follows s v = past s (behind s v)
 
 -- what comes behind the value at v: after a comma what f finds there, else nothing
 unfoldable pub more : List ℕ → (ℕ → List ℕ) → ℕ → List ℕ
-more s f v = pickL (eqb (getD s (follows s v) 0) 44) (f (follows s v + 1)) []
+more s f v = cond (eqb (getD s (follows s v) 0) (code ",")) (f (follows s v + 1)) []
 
 -- the member whose name opens at q, if a quote stands there, and those after it
 unfoldable pub memberAt : List ℕ → (ℕ → List ℕ) → ℕ → List ℕ
-memberAt s f q = pickL (eqb (getD s q 0) 34) (q ∷ more s f (valueOf s q)) []
+memberAt s f q = cond (eqb (getD s q 0) (code "\"")) (q ∷ more s f (valueOf s q)) []
 
 -- at most n members, from a place behind '{' or ',' on: for each the opening quote of its name
 unfoldable pub membersFrom : ℕ → List ℕ → ℕ → List ℕ
@@ -132,26 +122,20 @@ elementsFrom (suc n) s a = past s a ∷ more s (elementsFrom n s) (past s a)
 
 -- the elements of the array that opens at o, in order: for each its first byte
 unfoldable pub elements : List ℕ → ℕ → List ℕ
-elements s o = pickL (eqb (getD s (past s (o + 1)) 0) 93) [] (elementsFrom (length s) s (o + 1))
+elements s o = cond (eqb (getD s (past s (o + 1)) 0) (code "]")) [] (elementsFrom (length s) s (o + 1))
 
 -- a member as it is read: the bytes between its name's quotes, and its value's bytes
 abbrev pub spell : List ℕ → ℕ → List ℕ × List ℕ
 spell s q = (raw s q, bytes s (valueOf s q))
 
--- r is the place x, found by a walk from a: not before a, and inside s if a is
-pub record Found (s : List ℕ) (a x r : ℕ) : Type 0 where
-  pub is : r ≡ x
-  pub low : a ≤ r
-  pub inner : a ≤ length s → r ≤ length s
+-- the last of some places, and the last but one; 0 if there is none
+unfoldable pub lastOf : List ℕ → ℕ
+lastOf [] = 0
+lastOf (x ∷ []) = x
+lastOf (x ∷ (y ∷ ys)) = lastOf (y ∷ ys)
 
--- the member whose name opens at q: where its name ends, where its value begins and ends, and what follows
-pub record Row (s : List ℕ) (q name value end then : ℕ) : Type 0 where
-  pub named : Found s q (behind s q) name
-  pub begins : Found s name (valueOf s q) value
-  pub ends : Found s value (behind s (valueOf s q)) end
-  pub goes : Found s end (follows s (valueOf s q)) then
-
--- the element at v: where it ends, and what follows
-pub record Cell (s : List ℕ) (v end then : ℕ) : Type 0 where
-  pub ends : Found s v (behind s v) end
-  pub goes : Found s end (follows s v) then
+unfoldable pub prevOf : List ℕ → ℕ
+prevOf [] = 0
+prevOf (x ∷ []) = 0
+prevOf (x ∷ (y ∷ [])) = x
+prevOf (x ∷ (y ∷ (z ∷ zs))) = prevOf (y ∷ (z ∷ zs))

@@ -1,4 +1,4 @@
-// JSON (RFC 7159) to a depth of eight: whether bytes are a text, and where not; where a value ends.
+// JSON (RFC 7159) to a depth of eight: whether bytes are a text, and where not; where values, members and elements stand.
 // The answer of `read` is proved right in the words of the RFC's own grammar, kind and place, and a text has one answer only.
 // Any bytes may be handed over, and any place; nothing is kept, and the stack grows with the nesting alone.
 mod literals;
@@ -13,20 +13,16 @@ pub use passing::pass_member;
 pub use passing::pass_string;
 pub use places::Element;
 pub use places::Member;
-pub use places::behind;
-pub use places::closing;
 pub use places::element_at;
-pub use places::follows;
 pub use places::member_at;
 pub use places::name_part;
 pub use places::part;
-pub use places::skip;
-pub use places::value_of;
 pub use places::value_part;
 use spaces::past_spaces;
+pub use spaces::skip;
 use values::value;
 ghost use mathlib.Core.Path.{_≡_};
-ghost use Rattle.json.specs.Machine.{answer, one};
+ghost use Rattle.json.specs.inner.Machine.{answer};
 ghost use Rattle.json.specs.Verdict.{Verdict};
 
 // The answer of every reader: the place behind what it read; or the byte at which no text goes on; or
@@ -37,7 +33,7 @@ pub enum Walked {
     Deep(usize),
 }
 
-// A whole text, as the machine of specs/Machine.antt answers on it.
+// A whole text, as the machine of specs/inner/Machine.antt answers on it.
 fn text(s: &[u8]) -> Walked
     ensures { λ r. ⌜ r ≡ answer (now (s .entry)) ⌝ }
 {
@@ -58,15 +54,4 @@ pub fn read(s: &[u8]) -> Walked
     ensures { λ r. ⌜ Verdict (now (s .entry)) r ⌝ }
 {
     text(s)
-}
-
-// The value that starts at `at`, white space before it aside, with `left` levels left: where it ends,
-// or why there is none. Behind the last byte there is none.
-pub fn value_at(s: &[u8], at: usize, left: usize) -> Walked
-    ensures { λ r. ⌜ r ≡ one left (now (s .entry)) at ⌝ }
-{
-    if s.len() < at {
-        return Walked::Bad(at);
-    }
-    value(s, at, left)
 }

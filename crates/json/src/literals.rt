@@ -2,7 +2,7 @@
 use crate::Walked;
 ghost use Prim.Native.Nat.{_≤_};
 ghost use lib.ListN.{length};
-ghost use Rattle.json.specs.Machine.{Leaf, after, due};
+ghost use Rattle.json.specs.inner.Machine.{Leaf, after, due};
 
 // The bytes w, which are what is left of a literal name.
 pub fn literal(s: &[u8], at: usize, w: &[u8]) -> Walked

@@ -6,7 +6,7 @@ ghost use mathlib.Core.Path.{_≡_};
 ghost use Prim.Native.Nat.{_≤_};
 ghost use lib.ListN.{length};
 ghost use Rattle.octets.specs.Class.{isDigit};
-ghost use Rattle.json.specs.Machine.{Leaf, Pass, Tail, after, exp, expo, isSign, minus, point};
+ghost use Rattle.json.specs.inner.Machine.{Leaf, Pass, Tail, after, exp, expo, isSign, minus, point};
 
 // The first byte from `at` on that is no digit, or the length.
 fn past_digits(s: &[u8], at: usize) -> usize
@@ -27,7 +27,7 @@ fn past_digits(s: &[u8], at: usize) -> usize
 fn is_sign(b: u8) -> bool
     ensures { λ r. ⌜ r ≡ isSign b ⌝ }
 {
-    or(b == 43, b == 45)
+    or(b == b'+', b == b'-')
 }
 
 // An exponent, from behind its e.
@@ -64,10 +64,10 @@ fn exponent(s: &[u8], at: usize) -> Walked
         return Walked::End(at);
     }
     let b = s[at];
-    if b == 101 {
+    if b == b'e' {
         return power(s, at + 1);
     }
-    if b == 69 {
+    if b == b'E' {
         return power(s, at + 1);
     }
     Walked::End(at)
@@ -81,7 +81,7 @@ fn fraction(s: &[u8], at: usize) -> Walked
     if s.len() <= at {
         return Walked::End(at);
     }
-    if s[at] == 46 {
+    if s[at] == b'.' {
         let j = at + 1;
         if s.len() <= j {
             return Walked::Bad(j);
@@ -104,7 +104,7 @@ pub fn unsigned(s: &[u8], at: usize) -> Walked
         return Walked::Bad(at);
     }
     let b = s[at];
-    if b == 48 {
+    if b == b'0' {
         return fraction(s, at + 1);
     }
     if is_digit(b) {

@@ -1,7 +1,7 @@
 // Readers for a caller that walks an array or an object himself: a string, and a member, judged and passed in one walk over its bytes.
 use crate::Walked;
 use crate::places::Member;
-use crate::places::skip;
+use crate::spaces::skip;
 use crate::strings::string;
 use crate::values::value;
 use octets::byte;
@@ -9,7 +9,7 @@ use octets::or;
 ghost use mathlib.Core.Path.{_≡_};
 ghost use Prim.Native.Nat.{_<_};
 ghost use lib.ListN.{getD, length};
-ghost use Rattle.json.specs.Passing.{isNext, noMember, passed, passedMember};
+ghost use Rattle.json.specs.inner.Passing.{isNext, noMember, passed, passedMember};
 
 // The place behind the string that opens at q; 0 where none does.
 pub fn pass_string(s: &[u8], q: usize) -> usize
@@ -38,7 +38,7 @@ fn nothing() -> Member
 fn is_next(b: u8) -> bool
     ensures { λ r. ⌜ r ≡ isNext b ⌝ }
 {
-    or(b == 44, b == 125)
+    or(b == b',', b == b'}')
 }
 
 // The member whose name opens at q, with `left` levels left in its object, if it is followed as a member is; else 0 for each place.
@@ -51,7 +51,7 @@ pub fn pass_member(s: &[u8], q: usize, left: usize) -> Member
         return nothing();
     };
     let c = skip(s, e);
-    if byte(s, c) != 58 {
+    if byte(s, c) != b':' {
         return nothing();
     }
     let v = skip(s, c + 1);

@@ -1,47 +1,34 @@
-// Where things stand in a text: white space, values, members, elements. Any bytes and any place will
+// Where things stand in a text: values, members, elements. Any bytes and any place will
 // do, so nobody has to know that a text is JSON to walk it; a walk passes each byte once.
 use crate::spaces::is_space;
+use crate::spaces::skip;
 use crate::strings::plain_of_32;
 use octets::or;
 ghost use mathlib.Core.Path.{_≡_};
 ghost use Prim.Native.Nat.{_+_, _≤_, _<_};
 ghost use lib.ListN.{drop, length};
-ghost use Rattle.json.specs.Places.{Cell, Found, Row, behind, bytes, closing, follows, isMark, isOpen, isShut, left, next, outside, part, past, quoted, raw, unmarked, valueOf};
+ghost use Rattle.json.specs.Places.{behind, bytes, closing, follows, isMark, isOpen, isShut, left, next, outside, part, past, quoted, raw, unmarked, valueOf};
+ghost use Rattle.json.specs.inner.Landing.{Cell, Lands, Row};
 
 // A bracket that opens.
 fn is_open(b: u8) -> bool
     ensures { λ r. ⌜ r ≡ isOpen b ⌝ }
 {
-    or(b == 91, b == 123)
+    or(b == b'[', b == b'{')
 }
 
 // A bracket that closes.
 fn is_shut(b: u8) -> bool
     ensures { λ r. ⌜ r ≡ isShut b ⌝ }
 {
-    or(b == 93, b == 125)
+    or(b == b']', b == b'}')
 }
 
 // What ends a number or a literal.
 fn is_mark(b: u8) -> bool
     ensures { λ r. ⌜ r ≡ isMark b ⌝ }
 {
-    or(is_space(b), or(b == 44, is_shut(b)))
-}
-
-// Past the white space at a.
-pub fn skip(s: &[u8], a: usize) -> usize
-    ensures { λ r. ⌜ Found (now (s .entry)) a (past (now (s .entry)) a) r ⌝ }
-{
-    let mut i = a;
-    while i < s.len() {
-        if is_space(s[i]) {
-            i += 1;
-        } else {
-            return i;
-        }
-    }
-    i
+    or(is_space(b), or(b == b',', is_shut(b)))
 }
 
 // Behind the string of which a is the first byte after its opening quote, or any later one that stands
@@ -53,10 +40,10 @@ fn string_tail(s: &[u8], a: usize) -> usize
     let mut i = a;
     while i < s.len() {
         let b = s[i];
-        if b == 34 {
+        if b == b'"' {
             return i + 1;
         }
-        if b == 92 {
+        if b == b'\\' {
             if s.len() - i < 2 {
                 return s.len();
             }
@@ -81,10 +68,10 @@ fn string_end(s: &[u8], a: usize) -> usize
             i = j;
         } else {
             let b = s[j];
-            if b == 34 {
+            if b == b'"' {
                 return j + 1;
             }
-            if b == 92 {
+            if b == b'\\' {
                 if s.len() - j < 2 {
                     return s.len();
                 }
@@ -107,7 +94,7 @@ fn nest_end(s: &[u8], a: usize) -> usize
     let mut n: usize = 1;
     while i < s.len() {
         let b = s[i];
-        if b == 34 {
+        if b == b'"' {
             i = string_end(s, i + 1);
         } else if is_open(b) {
             n += 1;
@@ -141,14 +128,14 @@ fn plain_end(s: &[u8], a: usize) -> usize
 }
 
 // Behind the value that begins at a.
-pub fn behind(s: &[u8], a: usize) -> usize
-    ensures { λ r. ⌜ Found (now (s .entry)) a (behind (now (s .entry)) a) r ⌝ }
+fn behind(s: &[u8], a: usize) -> usize
+    ensures { λ r. ⌜ Lands (now (s .entry)) a (behind (now (s .entry)) a) r ⌝ }
 {
     if s.len() <= a {
         return a;
     }
     let b = s[a];
-    if b == 34 {
+    if b == b'"' {
         return string_end(s, a + 1);
     }
     if is_open(b) {
@@ -158,7 +145,7 @@ pub fn behind(s: &[u8], a: usize) -> usize
 }
 
 // The quote that closes the string that opens at q.
-pub fn closing(s: &[u8], q: usize) -> usize
+fn closing(s: &[u8], q: usize) -> usize
     ensures { λ r. ⌜ r ≡ closing (now (s .entry)) q ⌝ }
 {
     let e = behind(s, q);
@@ -167,34 +154,18 @@ pub fn closing(s: &[u8], q: usize) -> usize
 
 // One byte further, if there is one.
 fn next(s: &[u8], p: usize) -> usize
-    ensures { λ r. ⌜ Found (now (s .entry)) p (next (now (s .entry)) p) r ⌝ }
+    ensures { λ r. ⌜ Lands (now (s .entry)) p (next (now (s .entry)) p) r ⌝ }
 {
     if p < s.len() { p + 1 } else { p }
 }
 
 // The value of a member, from behind its name: past the colon and white space.
 fn past_colon(s: &[u8], e: usize) -> usize
-    ensures { λ r. ⌜ Found (now (s .entry)) e (past (now (s .entry)) (next (now (s .entry)) (past (now (s .entry)) e))) r ⌝ }
+    ensures { λ r. ⌜ Lands (now (s .entry)) e (past (now (s .entry)) (next (now (s .entry)) (past (now (s .entry)) e))) r ⌝ }
 {
     let c = skip(s, e);
     let d = next(s, c);
     skip(s, d)
-}
-
-// The value of the member whose name opens at q.
-pub fn value_of(s: &[u8], q: usize) -> usize
-    ensures { λ r. ⌜ Found (now (s .entry)) q (valueOf (now (s .entry)) q) r ⌝ }
-{
-    let e = behind(s, q);
-    past_colon(s, e)
-}
-
-// What follows the value that begins at v, past white space.
-pub fn follows(s: &[u8], v: usize) -> usize
-    ensures { λ r. ⌜ Found (now (s .entry)) v (follows (now (s .entry)) v) r ⌝ }
-{
-    let e = behind(s, v);
-    skip(s, e)
 }
 
 // A member by its places: where its name ends (behind the closing quote), where its value begins,

@@ -7,13 +7,13 @@ use octets::or;
 ghost use mathlib.Core.Path.{_≡_};
 ghost use Prim.Native.Nat.{_+_, _≤_};
 ghost use lib.ListN.{length};
-ghost use Rattle.json.specs.Machine.{Leaf, Pass, closed, esc, hexes, isEsc, isHex, isPlain, str};
-ghost use Rattle.json.specs.Runs.{Run, least, rank};
+ghost use Rattle.json.specs.inner.Machine.{Leaf, Pass, closed, esc, hexes, isEsc, isHexDigit, isPlain, str};
+ghost use Rattle.json.specs.inner.Runs.{Run, least, rank};
 
-fn is_hex(b: u8) -> bool
-    ensures { λ r. ⌜ r ≡ isHex b ⌝ }
+fn is_hex_digit(b: u8) -> bool
+    ensures { λ r. ⌜ r ≡ isHexDigit b ⌝ }
 {
-    or(is_digit(b), or(among(65, 70, b), among(97, 102, b)))
+    or(is_digit(b), or(among(b'A', b'F', b), among(b'a', b'f', b)))
 }
 
 // What may follow a backslash, u aside.
@@ -21,12 +21,15 @@ fn is_escaped(b: u8) -> bool
     ensures { λ r. ⌜ r ≡ isEsc b ⌝ }
 {
     or(
-        b == 34,
+        b == b'"',
         or(
-            b == 92,
+            b == b'\\',
             or(
-                b == 47,
-                or(b == 98, or(b == 102, or(b == 110, or(b == 114, b == 116)))),
+                b == b'/',
+                or(
+                    b == b'b',
+                    or(b == b'f', or(b == b'n', or(b == b'r', b == b't'))),
+                ),
             ),
         ),
     )
@@ -43,7 +46,7 @@ fn four_hex(s: &[u8], at: usize) -> Walked
         if s.len() <= i {
             return Walked::Bad(i);
         }
-        if is_hex(s[i]) {
+        if is_hex_digit(s[i]) {
             i += 1;
             n -= 1;
         } else {
@@ -65,7 +68,7 @@ fn escaped(s: &[u8], at: usize) -> Walked
     if is_escaped(b) {
         return Walked::End(at + 1);
     }
-    if b == 117 {
+    if b == b'u' {
         return four_hex(s, at + 1);
     }
     Walked::Bad(at)
@@ -75,7 +78,7 @@ fn escaped(s: &[u8], at: usize) -> Walked
 fn is_plain(b: u8) -> bool
     ensures { λ r. ⌜ r ≡ isPlain b ⌝ }
 {
-    and(b != 34, and(b != 92, 32 <= b))
+    and(b != b'"', and(b != b'\\', 32 <= b))
 }
 
 // 32 where b stands for itself, else k.
@@ -139,10 +142,10 @@ pub fn string(s: &[u8], at: usize) -> Walked
             return Walked::Bad(j);
         }
         let b = s[j];
-        if b == 34 {
+        if b == b'"' {
             return Walked::End(j + 1);
         }
-        if b != 92 {
+        if b != b'\\' {
             return Walked::Bad(j);
         }
         let r = escaped(s, j + 1);

@@ -7,7 +7,7 @@ use crate::spaces::past_spaces;
 use crate::strings::string;
 ghost use Prim.Native.Nat.{_≤_};
 ghost use lib.ListN.{length};
-ghost use Rattle.json.specs.Machine.{Leaf, Nest, Scalar, after, arr, first, name, name₁, obj, value};
+ghost use Rattle.json.specs.inner.Machine.{Leaf, Nest, Scalar, after, arr, first, name, name₁, obj, value};
 
 // A member's name and the colon after it.
 fn label(s: &[u8], at: usize) -> Walked
@@ -18,7 +18,7 @@ fn label(s: &[u8], at: usize) -> Walked
     if s.len() <= i {
         return Walked::Bad(i);
     }
-    if s[i] != 34 {
+    if s[i] != b'"' {
         return Walked::Bad(i);
     }
     let r = string(s, i + 1);
@@ -29,7 +29,7 @@ fn label(s: &[u8], at: usize) -> Walked
     if s.len() <= j {
         return Walked::Bad(j);
     }
-    if s[j] == 58 {
+    if s[j] == b':' {
         return Walked::End(j + 1);
     }
     Walked::Bad(j)
@@ -42,16 +42,16 @@ fn scalar(s: &[u8], at: usize) -> Walked
 {
     let b = s[at];
     let j = at + 1;
-    if b == 116 {
+    if b == b't' {
         return literal(s, j, b"rue");
     }
-    if b == 102 {
+    if b == b'f' {
         return literal(s, j, b"alse");
     }
-    if b == 110 {
+    if b == b'n' {
         return literal(s, j, b"ull");
     }
-    if b == 45 {
+    if b == b'-' {
         return unsigned(s, j);
     }
     unsigned(s, at)
@@ -67,16 +67,16 @@ pub fn value(s: &[u8], at: usize, left: usize) -> Walked
         return Walked::Bad(i);
     }
     let b = s[i];
-    if b == 34 {
+    if b == b'"' {
         return string(s, i + 1);
     }
-    if b == 91 {
+    if b == b'[' {
         if left == 0 {
             return Walked::Deep(i);
         }
         return array(s, i + 1, left - 1);
     }
-    if b == 123 {
+    if b == b'{' {
         if left == 0 {
             return Walked::Deep(i);
         }
@@ -94,7 +94,7 @@ fn array(s: &[u8], at: usize, left: usize) -> Walked
     if s.len() <= i {
         return Walked::Bad(i);
     }
-    if s[i] == 93 {
+    if s[i] == b']' {
         return Walked::End(i + 1);
     }
     let mut p = i;
@@ -108,10 +108,10 @@ fn array(s: &[u8], at: usize, left: usize) -> Walked
             return Walked::Bad(j);
         }
         let b = s[j];
-        if b == 93 {
+        if b == b']' {
             return Walked::End(j + 1);
         }
-        if b != 44 {
+        if b != b',' {
             return Walked::Bad(j);
         }
         p = j + 1;
@@ -127,7 +127,7 @@ fn object(s: &[u8], at: usize, left: usize) -> Walked
     if s.len() <= i {
         return Walked::Bad(i);
     }
-    if s[i] == 125 {
+    if s[i] == b'}' {
         return Walked::End(i + 1);
     }
     let mut p = i;
@@ -145,10 +145,10 @@ fn object(s: &[u8], at: usize, left: usize) -> Walked
             return Walked::Bad(j);
         }
         let b = s[j];
-        if b == 125 {
+        if b == b'}' {
             return Walked::End(j + 1);
         }
-        if b != 44 {
+        if b != b',' {
             return Walked::Bad(j);
         }
         p = j + 1;

@@ -1,3 +1,4 @@
 pub mod LogLaws
 pub mod WorkLaws
 pub mod WholeLog
+pub mod Marks

@@ -2,7 +2,7 @@
 // Input is taken in pieces of 64 KiB at most; answers go out before the next read, so that it can sit in a pipe.
 // An input of any length is worked off in the same memory. Where a write or a read fails it says so on standard error and ends, and
 // nothing more is written; a last line without its line feed is answered only where the input has ended.
-mod answers;
+mod answering;
 mod pieces;
 
 use pieces::answer_kept;
@@ -14,8 +14,9 @@ ghost use Prim.Native.Nat.{_<_, _≤_};
 ghost use lib.Dec.{ltb};
 ghost use lib.ListN.{drop, take};
 ghost use Rattle.keep.specs.Log.{lineDone};
-ghost use Rattle.lines.specs.Input.{last as lastLine};
-ghost use Rattle.lines.specs.Running.{Goes, Reached, Stepped, logTable, logText};
+ghost use Rattle.lines.specs.Input.{lastLine};
+ghost use Rattle.lines.specs.Log.{logTable, logText};
+ghost use Rattle.lines.specs.inner.Running.{Works, Reached, Stepped};
 ghost use Rattle.table.specs.Blank.{blankOf};
 ghost use Rattle.table.specs.WellFormed.{wellFormed};
 
@@ -65,7 +66,7 @@ fn piece(
     n: usize,
 ) -> State
     requires { ⌜ (wellFormed (now table) ≡ true) × (len ≤ 32790) × (from < n) × (n ≤ 65536) ⌝ }
-    ensures { λ r. ⌜ Goes lineDone 32790 (now (table .entry)) (take len (now (line .entry))) (drop from (take n (now (buf .entry)))) (now (table .exit)) (take (r .len) (now (line .exit))) (drop (r .from) (take n (now (buf .entry)))) (take (r .end) (now (out .exit)))
+    ensures { λ r. ⌜ Works lineDone 32790 (now (table .entry)) (take len (now (line .entry))) (drop from (take n (now (buf .entry)))) (now (table .exit)) (take (r .len) (now (line .exit))) (drop (r .from) (take n (now (buf .entry)))) (take (r .end) (now (out .exit)))
         × (wellFormed (now (table .exit)) ≡ true)
         × (r .len ≤ 32790)
         × (r .from ≤ n)

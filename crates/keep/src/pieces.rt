@@ -1,12 +1,12 @@
 // The lines of a piece of the input.
-use crate::answers::answer;
+use crate::answering::answer;
 use lines::Next;
 ghost use mathlib.Core.Bool.{true};
 ghost use mathlib.Core.Path.{_≡_};
 ghost use Prim.Native.Nat.{_+_, _<_, _≤_};
 ghost use lib.ListN.{drop, length, take};
 ghost use Rattle.keep.specs.Log.{lineDone};
-ghost use Rattle.lines.specs.Running.{Goes};
+ghost use Rattle.lines.specs.inner.Running.{Works};
 ghost use Rattle.octets.specs.Splice.{splice};
 ghost use Rattle.table.specs.WellFormed.{wellFormed};
 
@@ -40,7 +40,7 @@ pub fn work(
     out: &mut [u8],
 ) -> Worked
     requires { ⌜ (wellFormed (now table) ≡ true) × (32790 ≤ length (now line)) × (len0 ≤ length (now line)) × (64 ≤ length (now out)) × (from0 < length (now s)) ⌝ }
-    ensures { λ r. ⌜ Goes lineDone (length (now (line .entry))) (now (table .entry)) (take len0 (now (line .entry))) (drop from0 (now (s .entry))) (now (table .exit)) (take (r .len) (now (line .exit))) (drop (r .next) (now (s .entry))) (take (r .end) (now (out .exit)))
+    ensures { λ r. ⌜ Works lineDone (length (now (line .entry))) (now (table .entry)) (take len0 (now (line .entry))) (drop from0 (now (s .entry))) (now (table .exit)) (take (r .len) (now (line .exit))) (drop (r .next) (now (s .entry))) (take (r .end) (now (out .exit)))
         × (wellFormed (now (table .exit)) ≡ true)
         × (r .end ≤ length (now (out .entry)))
         × (r .len ≤ length (now (line .entry)))
@@ -58,7 +58,7 @@ pub fn work(
                 from = e + 1;
                 len = 0;
             }
-            Next::Held(n, next) => {
+            Next::Buffered(n, next) => {
                 at = answer_kept(table, line, n, out, at);
                 from = next;
                 len = 0;

@@ -1,6 +1,6 @@
 -- Each public contract determines its answer and the table after it: two results that it allows are equal. Assumes nothing.
 use Prim.Native.Nat.{ℕ}
-use Rattle.call.specs.declared.answers.Answer.{Answer}
+use Rattle.answers.specs.declared.Answer.{Answer}
 use Rattle.keeper.specs.Keeping.{Step, onMessage, onTick}
 use mathlib.Core.List.{List}
 use mathlib.Core.Path.{_≡_, sym, _∙_}

@@ -1,23 +1,23 @@
 -- The numbers of a sound record are a sound call, and back. Assumes nothing.
 use Prim.Native.Nat.{ℕ, _≤_, _<_}
-use Rattle.call.specs.Answer.{stateNumber}
-use Rattle.call.specs.Sound.{Sound, Numbered}
-use Rattle.call.specs.declared.answers.State.the-variants.{Calling, Ringing, Answered, Talking, Ended, Cancelling}
-use Rattle.call.specs.declared.answers.State.{State}
+use Rattle.answers.specs.Answer.{stateNumber}
+use Rattle.call.specs.inner.Sound.{Sound, Numbered}
+use Rattle.answers.specs.declared.State.the-variants.{Calling, Ringing, Answered, Talking, Ended, Cancelling}
+use Rattle.answers.specs.declared.State.{State}
 use Rattle.call.specs.declared.events.Event.{Event}
 use Rattle.call.specs.declared.records.Call.{Call}
-use Rattle.keeper.specs.Facts.{bit, callOf, Fitting, fieldsFrom, eventOf, pickEvent}
+use Rattle.keeper.specs.Facts.{callOf, fieldsFrom, eventOf}
+use Rattle.keeper.specs.inner.Known.{Fitting}
 use Rattle.message.specs.declared.facts.Message.{Message}
 use Rattle.octets.proofs.ClassLaws.{among-in, in-among}
-use Rattle.octets.proofs.TextLaws.{and-parts}
+use Rattle.octets.proofs.TestLaws.{and-parts, and-both}
 use Rattle.octets.specs.Class.{among}
 use Rattle.table.proofs.FieldLaws.{Fits}
-use Rattle.table.proofs.SearchLaws.{and-both}
 use Rattle.table.specs.WellFormed.{calleeSound, fieldsSound}
 use Rattle.table.specs.declared.numbers.Fields.{Fields}
 use borrow.Author.Tests.{eqb-true, eqb-false, leb-true, le-leb, eq-eqb, ne-eqb}
 use lib.Dec.{eqb, leb}
-use mathlib.Core.Bool.{Bool, true, false, not, _&&_, _||_}
+use mathlib.Core.Bool.{Bool, true, false, not, _&&_, _||_, cond}
 use mathlib.Core.Path.{_≡_, refl}
 use native.Mathlib.Decide.{ℕ-discrete}
 use native.Mathlib.Omega.{arith}
@@ -124,7 +124,7 @@ state-among Talking = refl
 state-among Ended = refl
 state-among Cancelling = refl
 
-bit-one : (b : Bool) → leb (bit b) 1 ≡ true
+bit-one : (b : Bool) → leb (cond b 1 0) 1 ≡ true
 bit-one true = refl
 bit-one false = refl
 
@@ -151,7 +151,7 @@ module _ (c : Call) (s : Sound c) where
       let g = s .last-fits in
       record { invite = omega arith; caller = b; callee = s .callee-fits; last = g; entry = omega arith; chat = omega arith }
 
-numbered-by : (b : Bool) (x y : Event) → Numbered x → Numbered y → Numbered (pickEvent b x y)
+numbered-by : (b : Bool) (x y : Event) → Numbered x → Numbered y → Numbered (cond b x y)
 numbered-by true x y p q = p
 numbered-by false x y p q = q
 

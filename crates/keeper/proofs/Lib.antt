@@ -2,3 +2,4 @@ pub mod FactLaws
 pub mod KeepingLaws
 pub mod StepLaws
 pub mod Determined
+pub mod Marks

@@ -2,8 +2,8 @@
 use Prim.Native.Nat.{ℕ, _≤_, _<_}
 use Rattle.call.proofs.Soundness.{decided-sound}
 use Rattle.call.specs.Rule.{decided}
-use Rattle.call.specs.Sound.{Numbered, SoundAfter}
-use Rattle.call.specs.declared.answers.Answer.{Answer}
+use Rattle.call.specs.inner.Sound.{Numbered, SoundAfter}
+use Rattle.answers.specs.declared.Answer.{Answer}
 use Rattle.call.specs.declared.events.Event.the-variants.{Tick}
 use Rattle.call.specs.declared.events.Event.{Event}
 use Rattle.call.specs.declared.records.Call.{Call}
@@ -11,19 +11,21 @@ use Rattle.call.specs.declared.records.Held.the-variants.{Nothing as Unheld, Is
 use Rattle.call.specs.declared.records.Outcome.{Outcome}
 use Rattle.keeper.proofs.FactLaws.{sound-call, numbered}
 use Rattle.keeper.proofs.KeepingLaws.{kept-well, taken-well}
-use Rattle.keeper.specs.Facts.{callOf, Fitting, fieldsFrom, eventOf}
-use Rattle.keeper.specs.Keeping.{Named, Step, kept, callAt, roomFor, recordFor, takenAt, taken, agreesAt, askedAt, tickedAt}
+use Rattle.keeper.specs.Facts.{callOf, fieldsFrom, eventOf}
+use Rattle.keeper.specs.inner.Known.{Fitting}
+use Rattle.keeper.specs.Keeping.{Step, tableAfter, callAt, roomFor, recordFor, takenAt, taken, agreesAt, askedAt, tickedAt}
+use Rattle.keeper.specs.inner.Known.{Named}
 use Rattle.message.proofs.Accepted.{facts}
 use Rattle.message.specs.Parties.{callIdOf, userOf, callerFireOf, calleeFireOf}
 use Rattle.message.specs.Reading.{reading}
 use Rattle.message.specs.declared.facts.Message.{Message}
 use Rattle.message.specs.declared.reading.Reading.the-variants.{Read}
-use Rattle.octets.proofs.TextLaws.{and-parts}
+use Rattle.octets.proofs.TestLaws.{and-parts}
 use Rattle.table.proofs.KeepLaws.{fields-of}
 use Rattle.table.proofs.LookupLaws.{found}
 use Rattle.table.specs.Image.{size, recordAt, withRecord}
 use Rattle.table.specs.Record.{fieldsOf, newRecord, sameParties, isFree, isNamed}
-use Rattle.table.specs.Search.{placeOf, freePlace}
+use Rattle.table.specs.Search.{placeNamed, freePlace}
 use Rattle.table.specs.WellFormed.{wellFormed}
 use Rattle.table.specs.declared.numbers.Fields.{Fields}
 use Rattle.table.specs.declared.searching.Found.the-variants.{At, Nothing}
@@ -47,9 +49,9 @@ unfolding recordFor
 taken-found t s m a c place p q r v w z = rw (place, sym p, sym q, sym r, sym v, sym w) (refl, z)
 
 -- an event on a call's record
-module _ (t id : List ℕ) (now : ℕ) (e : Event) {t′ : List ℕ} {k : ℕ} {f : Fields} {c : Call} {o : Outcome} (w : wellFormed t ≡ true) (place : placeOf id t ≡ At k)
+module _ (t id : List ℕ) (now : ℕ) (e : Event) {t′ : List ℕ} {k : ℕ} {f : Fields} {c : Call} {o : Outcome} (w : wellFormed t ≡ true) (place : placeNamed id t ≡ At k)
     (is-f : f ≡ fieldsOf (recordAt t k)) (is-c : c ≡ callOf f) (fit : Fitting f) (is-o : o ≡ decided (Is c) e now)
-    (is-t : t′ ≡ kept t k (o .after)) (n : Numbered e) (clock : now < 18446744073709551616) where
+    (is-t : t′ ≡ tableAfter t k (o .after)) (n : Numbered e) (clock : now < 18446744073709551616) where
   inside : k < size t
   inside = found id t k place .inside
 
@@ -67,41 +69,43 @@ module _ (t id : List ℕ) (now : ℕ) (e : Event) {t′ : List ℕ} {k : ℕ} {
 
 -- a request or a response on its call's record
 pub asked-found : (t s : List ℕ) (m : Message) (now : ℕ) {t′ id u x y : List ℕ} {k : ℕ} {agrees : Bool} {e : Event} {f : Fields} {c : Call} {o : Outcome} → wellFormed t ≡ true
-    → Named s m → id ≡ callIdOf s m → placeOf id t ≡ At k → u ≡ userOf s m → x ≡ callerFireOf s m → y ≡ calleeFireOf s m
+    → Named s m → id ≡ callIdOf s m → placeNamed id t ≡ At k → u ≡ userOf s m → x ≡ callerFireOf s m → y ≡ calleeFireOf s m
     → agrees ≡ sameParties u x y (recordAt t k) → f ≡ fieldsOf (recordAt t k) → c ≡ callOf f → Fitting f → e ≡ eventOf m agrees
-    → o ≡ decided (Is c) e now → t′ ≡ kept t k (o .after) → now < 18446744073709551616
-    → (o .answer ≡ askedAt t now s m (placeOf (callIdOf s m) t) .answer) × (t′ ≡ askedAt t now s m (placeOf (callIdOf s m) t) .table)
+    → o ≡ decided (Is c) e now → t′ ≡ tableAfter t k (o .after) → now < 18446744073709551616
+    → (o .answer ≡ askedAt t now s m (placeNamed (callIdOf s m) t) .answer) × (t′ ≡ askedAt t now s m (placeNamed (callIdOf s m) t) .table)
     × (wellFormed t′ ≡ true)
 asked-found t s m now {t′} {id} {u} {x} {y} {k} {agrees} {e} {f} {c} {o} w n is-id place is-u is-x is-y is-agrees is-f is-c fit is-e is-o is-t clock =
     let a : agrees ≡ agreesAt t s m k = rw (sym is-u, sym is-x, sym is-y) is-agrees in
     let v : e ≡ eventOf m (agreesAt t s m k) = rw (sym a) is-e in
-    let p : placeOf (callIdOf s m) t ≡ At k = rw (sym is-id) place in
-    let i : o ≡ decided (Is (callAt t k)) (eventOf m (agreesAt t s m k)) now = rw (sym v) (settled-is t id now e w place is-f is-c fit is-o is-t (rw is-e (numbered m agrees (n .low) (n .high))) clock) in
+    let p : placeNamed (callIdOf s m) t ≡ At k = rw (sym is-id) place in
+    let i : o ≡ decided (Is (callAt t k)) (eventOf m (agreesAt t s m k)) now = rw (sym v)
+    (settled-is t id now e w place is-f is-c fit is-o is-t (rw is-e (numbered m agrees (n .low) (n .high))) clock) in
     let z : wellFormed t′ ≡ true = settled-well t id now e w place is-f is-c fit is-o is-t (rw is-e (numbered m agrees (n .low) (n .high))) clock in
-    rw p (ap (λ (o : Outcome). o .answer) i, is-t ∙ ap (λ (o : Outcome). kept t k (o .after)) i, z)
+    rw p (ap (λ (o : Outcome). o .answer) i, is-t ∙ ap (λ (o : Outcome). tableAfter t k (o .after)) i, z)
 
 -- a request or a response that names no call on record
 pub asked-new : (t s : List ℕ) (m : Message) (now : ℕ) {t′ id : List ℕ} {e : Event} {o : Outcome} {r : Answer} → wellFormed t ≡ true
-    → Named s m → id ≡ callIdOf s m → placeOf id t ≡ Nothing → e ≡ eventOf m false → o ≡ decided Unheld e now
+    → Named s m → id ≡ callIdOf s m → placeNamed id t ≡ Nothing → e ≡ eventOf m false → o ≡ decided Unheld e now
     → (r ≡ taken t s m (o .answer) (o .after) .answer) × (t′ ≡ taken t s m (o .answer) (o .after) .table) → now < 18446744073709551616
-    → (r ≡ askedAt t now s m (placeOf (callIdOf s m) t) .answer) × (t′ ≡ askedAt t now s m (placeOf (callIdOf s m) t) .table)
+    → (r ≡ askedAt t now s m (placeNamed (callIdOf s m) t) .answer) × (t′ ≡ askedAt t now s m (placeNamed (callIdOf s m) t) .table)
     × (wellFormed t′ ≡ true)
 asked-new t s m now {t′} {id} {e} {o} {r} w n is-id place is-e is-o is clock =
-    let p : placeOf (callIdOf s m) t ≡ Nothing = rw (sym is-id) place in
+    let p : placeNamed (callIdOf s m) t ≡ Nothing = rw (sym is-id) place in
     let i : o ≡ decided Unheld (eventOf m false) now = rw (sym is-e) is-o in
     let f : Outcome → Step = λ (o : Outcome). taken t s m (o .answer) (o .after) in
-    let z : wellFormed (taken t s m (o .answer) (o .after) .table) ≡ true = taken-well t w s m n p (o .answer) (o .after) (rw i (decided-sound Unheld (eventOf m false) now tt (numbered m false (n .low) (n .high)) clock)) in
+    let z : wellFormed (taken t s m (o .answer) (o .after) .table) ≡ true = taken-well t w s m n p (o .answer) (o .after)
+    (rw i (decided-sound Unheld (eventOf m false) now tt (numbered m false (n .low) (n .high)) clock)) in
     rw p (is .0 ∙ ap (λ (o : Outcome). f o .answer) i, is .1 ∙ ap (λ (o : Outcome). f o .table) i, rw (is .1) z)
 
 -- a tick on its call's record
 pub ticked-found : (t id : List ℕ) (now : ℕ) {t′ : List ℕ} {k : ℕ} {f : Fields} {c : Call} {o : Outcome} → wellFormed t ≡ true
-    → placeOf id t ≡ At k → f ≡ fieldsOf (recordAt t k) → c ≡ callOf f → Fitting f
-    → o ≡ decided (Is c) Tick now → t′ ≡ kept t k (o .after) → now < 18446744073709551616
-    → (o .answer ≡ tickedAt t now (placeOf id t) .answer) × (t′ ≡ tickedAt t now (placeOf id t) .table) × (wellFormed t′ ≡ true)
+    → placeNamed id t ≡ At k → f ≡ fieldsOf (recordAt t k) → c ≡ callOf f → Fitting f
+    → o ≡ decided (Is c) Tick now → t′ ≡ tableAfter t k (o .after) → now < 18446744073709551616
+    → (o .answer ≡ tickedAt t now (placeNamed id t) .answer) × (t′ ≡ tickedAt t now (placeNamed id t) .table) × (wellFormed t′ ≡ true)
 ticked-found t id now {t′} {k} {f} {c} {o} w place is-f is-c fit is-o is-t clock =
     let i : o ≡ decided (Is (callAt t k)) Tick now = settled-is t id now Tick w place is-f is-c fit is-o is-t tt clock in
     let z : wellFormed t′ ≡ true = settled-well t id now Tick w place is-f is-c fit is-o is-t tt clock in
-    rw place (ap (λ (o : Outcome). o .answer) i, is-t ∙ ap (λ (o : Outcome). kept t k (o .after)) i, z)
+    rw place (ap (λ (o : Outcome). o .answer) i, is-t ∙ ap (λ (o : Outcome). tableAfter t k (o .after)) i, z)
 
 -- what the reading of a request or a response sees to
 pub read-named : (s : List ℕ) (m : Message) → reading s ≡ Read m → m .tag ≤ 2 → Named s m

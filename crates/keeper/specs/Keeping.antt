@@ -1,13 +1,13 @@
 -- What an event does to the table (01 Events): checks 1, then the reading's 2 to 10, then 28, then the rule of the call that is named, and 27.
 -- The public contracts cite `onMessage` and `onTick`, those of `src/steps.rt` the definitions on the way there too. Assumes nothing.
-use Prim.Native.Nat.{ℕ, _≤_, _<_}
+use Prim.Native.Nat.{ℕ}
 use Rattle.call.specs.Rule.{decided}
-use Rattle.call.specs.declared.answers.Answer.the-variants.{Refused}
-use Rattle.call.specs.declared.answers.Answer.{Answer}
-use Rattle.call.specs.declared.answers.Reason.the-variants.{NoRoom}
-use Rattle.call.specs.declared.answers.Refusal.the-variants.{Table, Reading as Unread, PingPong, Call as Ruled}
-use Rattle.call.specs.declared.answers.Refusal.{Refusal}
-use Rattle.call.specs.declared.answers.Waiting.the-variants.{Requester}
+use Rattle.answers.specs.declared.Answer.the-variants.{Refused}
+use Rattle.answers.specs.declared.Answer.{Answer}
+use Rattle.answers.specs.declared.Reason.the-variants.{NoRoom}
+use Rattle.answers.specs.declared.Refusal.the-variants.{Table, Reading as Unread, PingPong, Call as Ruled}
+use Rattle.answers.specs.declared.Refusal.{Refusal}
+use Rattle.answers.specs.declared.Waiting.the-variants.{Requester}
 use Rattle.call.specs.declared.events.Event.the-variants.{Tick}
 use Rattle.call.specs.declared.records.After.the-variants.{Same, Set, Free}
 use Rattle.call.specs.declared.records.After.{After}
@@ -20,48 +20,34 @@ use Rattle.message.specs.Reading.{reading}
 use Rattle.message.specs.declared.facts.Message.{Message}
 use Rattle.message.specs.declared.reading.Reading.the-variants as readings
 use Rattle.message.specs.declared.reading.Reading.{Reading}
-use Rattle.rules.specs.Texts.{callIdRule, userRule, fireRule}
+use Rattle.rules.specs.Texts.{callIdRule}
 use Rattle.table.specs.Image.{recordAt, withRecord, freeRecord}
 use Rattle.table.specs.Record.{fieldsOf, withFields, newRecord, sameParties}
-use Rattle.table.specs.Search.{placeOf, freePlace}
+use Rattle.table.specs.Search.{placeNamed, freePlace}
 use Rattle.table.specs.WellFormed.{wellFormed}
 use Rattle.table.specs.declared.searching.Found.the-variants.{At, Nothing}
 use Rattle.table.specs.declared.searching.Found.{Found}
 use lib.Dec.{ltb}
-use mathlib.Core.Bool.{Bool, true, false}
+use mathlib.Core.Bool.{Bool, false, cond}
 use mathlib.Core.List.{List}
-use mathlib.Core.Path.{_≡_}
-
--- what the reading of a request or a response sees to: its texts are within their rules, and its number is 1 to 4294967295
-pub record Named (s : List ℕ) (m : Message) : Type 0 where
-  pub call-id : callIdRule (callIdOf s m) ≡ true
-  pub user : userRule (userOf s m) ≡ true
-  pub caller-fire : fireRule (callerFireOf s m) ≡ true
-  pub callee-fire : fireRule (calleeFireOf s m) ≡ true
-  pub low : 1 ≤ m .number
-  pub high : m .number < 4294967296
 
 -- the answer to an event, and the table after it
 pub record Step : Type 0 where
   pub answer : Answer
   pub table : List ℕ
 
-abbrev pub choose : Bool → Step → Step → Step
-choose true a b = a
-choose false a b = b
-
 -- refused: the table as it was
 abbrev pub refusal : List ℕ → Refusal → Step
 refusal t f = record { answer = Refused f; table = t }
 
 -- the table after an event whose call has record k: as it was; with that record's numbers set; with that record free, all 00
-abbrev pub kept : List ℕ → ℕ → After → List ℕ
-kept t k Same = t
-kept t k (Set c) = withRecord t k (withFields (recordAt t k) (fieldsFrom c))
-kept t k Free = withRecord t k freeRecord
+abbrev pub tableAfter : List ℕ → ℕ → After → List ℕ
+tableAfter t k Same = t
+tableAfter t k (Set c) = withRecord t k (withFields (recordAt t k) (fieldsFrom c))
+tableAfter t k Free = withRecord t k freeRecord
 
-abbrev pub settled : List ℕ → ℕ → Outcome → Step
-settled t k o = record { answer = o .answer; table = kept t k (o .after) }
+abbrev pub stepOf : List ℕ → ℕ → Outcome → Step
+stepOf t k o = record { answer = o .answer; table = tableAfter t k (o .after) }
 
 -- the call of record k
 abbrev pub callAt : List ℕ → ℕ → Call
@@ -92,24 +78,24 @@ agreesAt t s m k = sameParties (userOf s m) (callerFireOf s m) (calleeFireOf s m
 
 -- a request or a response, by where its call's record is
 abbrev pub askedAt : List ℕ → ℕ → List ℕ → Message → Found → Step
-askedAt t now s m (At k) = settled t k (decided (Is (callAt t k)) (eventOf m (agreesAt t s m k)) now)
+askedAt t now s m (At k) = stepOf t k (decided (Is (callAt t k)) (eventOf m (agreesAt t s m k)) now)
 askedAt t now s m Nothing = taken t s m (decided Unheld (eventOf m false) now .answer) (decided Unheld (eventOf m false) now .after)
 
 -- 28: a ping or pong; then the rule
-abbrev pub onRead : List ℕ → ℕ → List ℕ → Reading → Step
-onRead t now s (readings.Refused n p) = refusal t (Unread n p)
-onRead t now s (readings.Read m) = choose (ltb 2 (m .tag)) (refusal t PingPong) (askedAt t now s m (placeOf (callIdOf s m) t))
+abbrev pub onReading : List ℕ → ℕ → List ℕ → Reading → Step
+onReading t now s (readings.Refused n p) = refusal t (Unread n p)
+onReading t now s (readings.Read m) = cond (ltb 2 (m .tag)) (refusal t PingPong) (askedAt t now s m (placeNamed (callIdOf s m) t))
 
 -- a message: 1, table not well-formed; 2 to 10, as read; and on
 unfoldable pub onMessage : List ℕ → ℕ → List ℕ → Step
-onMessage t now s = choose (wellFormed t) (onRead t now s (reading s)) (refusal t Table)
+onMessage t now s = cond (wellFormed t) (onReading t now s (reading s)) (refusal t Table)
 
 -- a tick, by where its call's record is
 abbrev pub tickedAt : List ℕ → ℕ → Found → Step
-tickedAt t now (At k) = settled t k (decided (Is (callAt t k)) Tick now)
+tickedAt t now (At k) = stepOf t k (decided (Is (callAt t k)) Tick now)
 tickedAt t now Nothing = record { answer = decided Unheld Tick now .answer; table = t }
 
 -- a tick for a Call-ID: 1; 9 at 0 for a bad Call-ID; and on
 unfoldable pub onTick : List ℕ → ℕ → List ℕ → Step
 onTick t now id =
-    choose (wellFormed t) (choose (callIdRule id) (tickedAt t now (placeOf id t)) (refusal t (Unread 9 0))) (refusal t Table)
+    cond (wellFormed t) (cond (callIdRule id) (tickedAt t now (placeNamed id t)) (refusal t (Unread 9 0))) (refusal t Table)

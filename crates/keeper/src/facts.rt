@@ -1,4 +1,5 @@
 // What the rule of one call is given: a record's numbers as a call, and back; a message's facts as an event.
+use answers::State;
 use call::Call;
 use call::Event;
 use call::Highest;
@@ -6,11 +7,12 @@ use call::Method;
 use call::Request;
 use call::Response;
 use call::Side;
-use call::State;
 use message::Message;
 use table::Fields;
+ghost use mathlib.Core.Bool.{cond};
 ghost use mathlib.Core.Path.{_≡_};
-ghost use Rattle.keeper.specs.Facts.{bit, callOf, eventOf, fieldsFrom, Fitting, methodOf, sideOf, stateOf};
+ghost use Rattle.keeper.specs.Facts.{callOf, eventOf, fieldsFrom, methodOfCode, sideOf, stateOf};
+ghost use Rattle.keeper.specs.inner.Known.{Fitting};
 
 // The state of a record's number.
 fn state_of(n: u8) -> State
@@ -27,8 +29,8 @@ fn state_of(n: u8) -> State
 }
 
 // The method of a message's code.
-fn method_of(n: u8) -> Method
-    ensures { λ r. ⌜ r ≡ methodOf n ⌝ }
+fn method_of_code(n: u8) -> Method
+    ensures { λ r. ⌜ r ≡ methodOfCode n ⌝ }
 {
     match n {
         1 => Method::Invite,
@@ -49,7 +51,7 @@ fn side_of(caller: bool) -> Side
 }
 
 fn bit_of(b: bool) -> u8
-    ensures { λ r. ⌜ r ≡ bit b ⌝ }
+    ensures { λ r. ⌜ r ≡ cond b 1 0 ⌝ }
 {
     if b { 1 } else { 0 }
 }
@@ -82,7 +84,7 @@ pub fn fields_from(c: Call) -> Fields
 {
     let state = c.state;
     Fields {
-        state: call::state_number(state),
+        state: answers::state_number(state),
         secure: bit_of(c.secure),
         invite: c.invite,
         caller: c.caller.number,
@@ -99,7 +101,7 @@ pub fn fields_from(c: Call) -> Fields
 pub fn event_of(m: Message, agrees: bool) -> Event
     ensures { λ r. ⌜ r ≡ eventOf m agrees ⌝ }
 {
-    let method = method_of(m.method);
+    let method = method_of_code(m.method);
     let from = side_of(m.caller);
     if m.tag == 1 {
         let r = Request {

@@ -4,8 +4,8 @@
 mod facts;
 mod steps;
 
-use call::Answer;
-use call::Refusal;
+use answers::Answer;
+use answers::Refusal;
 pub use steps::message_step;
 pub use steps::tick_step;
 ghost use mathlib.Core.Path.{_≡_};

@@ -3,33 +3,32 @@
 use crate::facts::call_of;
 use crate::facts::event_of;
 use crate::facts::fields_from;
+use answers::Answer;
+use answers::Reason;
+use answers::Refusal;
+use answers::Waiting;
 use call::After;
-use call::Answer;
 use call::Call;
 use call::Event;
 use call::Held;
 use call::Outcome;
-use call::Reason;
-use call::Refusal;
-use call::Waiting;
 use message::Message;
 use message::Reading;
 use table::Found;
 ghost use mathlib.Core.Bool.{true};
 ghost use mathlib.Core.Path.{_≡_};
 ghost use Prim.Native.Nat.{_<_};
-ghost use Rattle.call.specs.declared.events.Event.the-variants.{Tick};
-ghost use Rattle.keeper.specs.Keeping.{Named, askedAt, kept, onMessage, onTick, roomFor, taken, takenAt, tickedAt};
+ghost use Rattle.keeper.specs.Keeping.{askedAt, tableAfter, onMessage, onTick, roomFor, taken, takenAt, tickedAt};
+ghost use Rattle.keeper.specs.inner.Known.{Named};
 ghost use Rattle.message.specs.Parties.{callIdOf};
-ghost use Rattle.rules.specs.Texts.{callIdRule};
 ghost use Rattle.table.specs.Image.{size};
-ghost use Rattle.table.specs.Search.{placeOf};
+ghost use Rattle.table.specs.Search.{placeNamed};
 ghost use Rattle.table.specs.WellFormed.{wellFormed};
 
 // Leaves in record k what becomes of it.
-fn keep(t: &mut [u8], k: usize, after: After)
+fn leave(t: &mut [u8], k: usize, after: After)
     requires { ⌜ k < size (now t) ⌝ }
-    ensures { λ _. ⌜ now (t .exit) ≡ kept (now (t .entry)) k after ⌝ }
+    ensures { λ _. ⌜ now (t .exit) ≡ tableAfter (now (t .entry)) k after ⌝ }
 {
     match after {
         After::Same => {}
@@ -39,7 +38,7 @@ fn keep(t: &mut [u8], k: usize, after: After)
 }
 
 // A new call takes the lowest free record; 27 where there is none.
-fn take(t: &mut [u8], s: &[u8], m: Message, a: Answer, c: Call) -> Answer
+fn take_at(t: &mut [u8], s: &[u8], m: Message, a: Answer, c: Call) -> Answer
     requires { ⌜ Named (now s) m ⌝ }
     ensures { λ r. ⌜ (r ≡ takenAt (now (t .entry)) (now (s .entry)) m a c (roomFor (now (t .entry)) m) .answer)
         × (now (t .exit) ≡ takenAt (now (t .entry)) (now (s .entry)) m a c (roomFor (now (t .entry)) m) .table) ⌝ }
@@ -58,14 +57,14 @@ fn take(t: &mut [u8], s: &[u8], m: Message, a: Answer, c: Call) -> Answer
 }
 
 // A message that names no call on record: what it opens, if it opens one, is taken in.
-fn admit(t: &mut [u8], s: &[u8], m: Message, a: Answer, after: After) -> Answer
+fn take(t: &mut [u8], s: &[u8], m: Message, a: Answer, after: After) -> Answer
     requires { ⌜ Named (now s) m ⌝ }
     ensures { λ r. ⌜ (r ≡ taken (now (t .entry)) (now (s .entry)) m a after .answer)
         × (now (t .exit) ≡ taken (now (t .entry)) (now (s .entry)) m a after .table) ⌝ }
 {
     match after {
         After::Same => a,
-        After::Set(c) => take(t, s, m, a, c),
+        After::Set(c) => take_at(t, s, m, a, c),
         After::Free => a,
     }
 }
@@ -73,8 +72,8 @@ fn admit(t: &mut [u8], s: &[u8], m: Message, a: Answer, after: After) -> Answer
 // A request or a response on the record of its call, or on none.
 fn ask(t: &mut [u8], time: u64, s: &[u8], m: Message) -> Answer
     requires { ⌜ (wellFormed (now t) ≡ true) × Named (now s) m ⌝ }
-    ensures { λ r. ⌜ (r ≡ askedAt (now (t .entry)) time (now (s .entry)) m (placeOf (callIdOf (now (s .entry)) m) (now (t .entry))) .answer)
-        × (now (t .exit) ≡ askedAt (now (t .entry)) time (now (s .entry)) m (placeOf (callIdOf (now (s .entry)) m) (now (t .entry))) .table)
+    ensures { λ r. ⌜ (r ≡ askedAt (now (t .entry)) time (now (s .entry)) m (placeNamed (callIdOf (now (s .entry)) m) (now (t .entry))) .answer)
+        × (now (t .exit) ≡ askedAt (now (t .entry)) time (now (s .entry)) m (placeNamed (callIdOf (now (s .entry)) m) (now (t .entry))) .table)
         × (wellFormed (now (t .exit)) ≡ true) ⌝ }
 {
     match table::find(t, message::call_id(s, m)) {
@@ -86,14 +85,14 @@ fn ask(t: &mut [u8], time: u64, s: &[u8], m: Message) -> Answer
             let c = call_of(table::fields_at(t, k));
             let o = call::decide(Held::Is(c), event_of(m, agrees), time);
             let after = o.after;
-            keep(t, k, after);
+            leave(t, k, after);
             o.answer
         }
         Found::Nothing => {
             let o = call::decide(Held::Nothing, event_of(m, false), time);
             let a = o.answer;
             let after = o.after;
-            admit(t, s, m, a, after)
+            take(t, s, m, a, after)
         }
     }
 }
@@ -120,8 +119,8 @@ pub fn message_step(t: &mut [u8], time: u64, s: &[u8]) -> Answer
 // A tick on the record of its call, or on none.
 fn ticked(t: &mut [u8], time: u64, id: &[u8]) -> Answer
     requires { ⌜ wellFormed (now t) ≡ true ⌝ }
-    ensures { λ r. ⌜ (r ≡ tickedAt (now (t .entry)) time (placeOf (now (id .entry)) (now (t .entry))) .answer)
-        × (now (t .exit) ≡ tickedAt (now (t .entry)) time (placeOf (now (id .entry)) (now (t .entry))) .table)
+    ensures { λ r. ⌜ (r ≡ tickedAt (now (t .entry)) time (placeNamed (now (id .entry)) (now (t .entry))) .answer)
+        × (now (t .exit) ≡ tickedAt (now (t .entry)) time (placeNamed (now (id .entry)) (now (t .entry))) .table)
         × (wellFormed (now (t .exit)) ≡ true) ⌝ }
 {
     match table::find(t, id) {
@@ -129,7 +128,7 @@ fn ticked(t: &mut [u8], time: u64, id: &[u8]) -> Answer
             let c = call_of(table::fields_at(t, k));
             let o = call::decide(Held::Is(c), Event::Tick, time);
             let after = o.after;
-            keep(t, k, after);
+            leave(t, k, after);
             o.answer
         }
         Found::Nothing => {

@@ -3,9 +3,9 @@
 use Prim.Native.Nat.{ℕ, suc, _+_}
 use Rattle.lifting.proofs.Steps as steps
 use Rattle.lifting.proofs.Steps.{bool-clash}
-use Rattle.lifting.specs.First.{bit}
-use Rattle.lifting.specs.Keeper as keeper
-use Rattle.lifting.specs.Keeper.{Keeper}
+use Rattle.lifting.specs.inner.First.{bit}
+use Rattle.lifting.specs.inner.Keeper as keeper
+use Rattle.lifting.specs.inner.Keeper.{Keeper}
 use mathlib.Core.Bool.{Bool, true}
 use mathlib.Core.List.{List, [], _∷_}
 use mathlib.Core.Option.{Option, none, some}
@@ -195,20 +195,20 @@ module _ (K : Keeper) (L : keeper.Laws K) where
       by (some i) (some j) wa wb = both-named t g a b roomy i j wa wb (λ e. apart i wa (wb ∙ ap some (sym e)))
 
   same-run : (es : List Ev) (t u : Tab) → keeper.Good K t → keeper.Good K u → keeper.Alike K t u
-      → (keeper.answers K t es ≡ keeper.answers K u es) × keeper.Alike K (keeper.run K t es) (keeper.run K u es)
-  unfolding keeper.answers keeper.run
+      → (keeper.answers K t es ≡ keeper.answers K u es) × keeper.Alike K (keeper.afterAll K t es) (keeper.afterAll K u es)
+  unfolding keeper.answers keeper.afterAll
   same-run [] t u gt gu s = (refl, s)
   same-run (e ∷ es) t u gt gu s =
       let p : (answer t e ≡ answer u e) × keeper.Alike K (next t e) (next u e) = same-step t u e gt gu s in
-      let q : (keeper.answers K (next t e) es ≡ keeper.answers K (next u e) es) × keeper.Alike K (keeper.run K (next t e) es) (keeper.run K (next u e) es) =
+      let q : (keeper.answers K (next t e) es ≡ keeper.answers K (next u e) es) × keeper.Alike K (keeper.afterAll K (next t e) es) (keeper.afterAll K (next u e) es) =
       same-run es (next t e) (next u e) (step t e gt .good) (step u e gu .good) (p .1) in
       (rw (p .0, q .0), q .1)
 
   -- THE THEOREM: exchanging two neighbours that do not name the same call, neither of which is turned away in either order, alters no
   -- answer of the whole sequence and no call's final record
   pub exchange : (t : Tab) (xs : List Ev) (a b : Ev) (ys : List Ev) → keeper.Good K t → keeper.Apart K a b
-      → keeper.Roomy K (keeper.run K t xs) a b → keeper.Exchanged K t xs a b ys
-  unfolding keeper.answers keeper.run
+      → keeper.Roomy K (keeper.afterAll K t xs) a b → keeper.Exchanged K t xs a b ys
+  unfolding keeper.answers keeper.afterAll
   exchange t [] a b ys g apart r =
       let w = swapped t a b g apart r in
       let s = same-run ys (next (next t a) b) (next (next t b) a) (step (next t a) b (step t a g .good) .good) (step (next t b) a (step t b g .good) .good) (w .alike) in

@@ -1,6 +1,6 @@
 -- What a search for the first says, and how counts of two tests compare. Assumes nothing.
 use Prim.Native.Nat.{ℕ, zero, suc, _+_, _<_}
-use Rattle.lifting.specs.First.{first, bit, count}
+use Rattle.lifting.specs.inner.First.{first, bit, count}
 use mathlib.Core.Bool.{Bool, true, false, cond}
 use mathlib.Core.Path.{_≡_, refl, sym}
 use native.Mathlib.Decide.{ℕ-discrete}

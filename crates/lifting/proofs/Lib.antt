@@ -1,3 +1,4 @@
 pub mod FirstLaws
 pub mod Steps
 pub mod Exchange
+pub mod Marks

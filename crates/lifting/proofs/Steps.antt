@@ -2,19 +2,19 @@
 -- that is named gets the rule's record, unless it is new and turned away. Assumes nothing.
 use Prim.Native.Nat.{ℕ, _+_, _≤_, _<_}
 use Rattle.lifting.proofs.FirstLaws.{first-before, first-hit, count-but}
-use Rattle.lifting.specs.First.{count, bit}
-use Rattle.lifting.specs.Keeper as keeper
-use Rattle.lifting.specs.Keeper.{Keeper}
+use Rattle.lifting.specs.inner.First.{count, bit}
+use Rattle.lifting.specs.inner.Keeper as keeper
+use Rattle.lifting.specs.inner.Keeper.{Keeper}
 use borrow.Author.Tests.{ltb-true, ltb-false}
 use lib.Dec.{ltb}
-use mathlib.Core.Bool.{Bool, true, false, cond}
+use mathlib.Core.Bool.{Bool, true, false, true≢false}
 use mathlib.Core.Option.{Option, none, some}
 use mathlib.Core.Path.{_≡_, refl, sym, ap, _∙_}
 use native.Mathlib.Decide.{ℕ-discrete}
 use native.Mathlib.Omega.{arith}
 
 pub bool-clash : {A : Type 0} {b : Bool} → b ≡ true → b ≡ false → A
-bool-clash p q = absurd (let z : _≡_ {A = ℕ} 0 1 = ap {B = ℕ} (λ (b : Bool). cond b 0 1) (sym p ∙ q) in omega arith)
+bool-clash p q = absurd (true≢false (sym p ∙ q))
 
 module _ (K : Keeper) (L : keeper.Laws K) where
   open Keeper K using (Tab, Rec, Id, Ev, Ans, size, at, put, free, named, blank, names, mute, rule, admits, turned, Fit, Frame)
@@ -201,7 +201,7 @@ module _ (K : Keeper) (L : keeper.Laws K) where
       record { good = rw isNext g; other = λ i ne. rw isNext; bytes = λ k h i ne n. rw isNext; size-kept = rw isNext; outcome = o }
 
   named-step : (t : Tab) (e : Ev) (j : Id) → names e ≡ some j → keeper.Good K t → Stepped t e
-  unfolding keeper.answer keeper.next keeper.answerTo keeper.nextOf
+  unfolding keeper.answer keeper.next keeper.answerTo keeper.nextTo
   named-step t e j by g = go (where-is j t)
     where
       alone : (k : ℕ) → k < size t → isAt j t k ≡ true → (l : ℕ) → l < size t → (l ≡ k → ⊥) → isAt j t l ≡ false
@@ -226,7 +226,8 @@ module _ (K : Keeper) (L : keeper.Laws K) where
           → (m : Option Rec) → rule e none .1 ≡ m → (b : Bool) → admits t e ≡ b → Stepped t e
       go-new n q none r b v =
           left t e g (rw (by, q, r))
-          (done j by (rw (by, q, r)) (rw (by, q, r) q) (λ p. rw (by, q, r) refl) (λ x z w. absurd (let y : _≡_ {A = ℕ} 0 1 = (let u : none ≡ some x = sym r ∙ w in cc) in omega arith)))
+          (done j by (rw (by, q, r)) (rw (by, q, r) q) (λ p. rw (by, q, r) refl)
+          (λ x z w. absurd (let y : _≡_ {A = ℕ} 0 1 = (let u : none ≡ some x = sym r ∙ w in cc) in omega arith)))
       go-new n q (some x) r false v =
           left t e g (rw (by, q, r, v)) (away (record { call = j; by-name = by; unheld = q; opened = x; opens = r; full = v }) (rw (by, q, r, v)) (rw (by, q, r, v)))
       go-new n q (some x) r true v =

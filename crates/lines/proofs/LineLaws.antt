@@ -1,6 +1,6 @@
 -- What a line says is decided by its first bytes: 21 of them hold the time and its space, and 32,790 decide the rest. Assumes nothing.
 use Prim.Native.Nat.{ℕ, zero, suc, _+_, _-_, _≤_, _<_}
-use Rattle.lines.specs.Program.{lineOf, long, pickLine, said, saidBy, timed}
+use Rattle.lines.specs.Program.{lineOf, long, said, saidBy, timed}
 use Rattle.lines.specs.declared.reading.Line.the-variants.{Bad, Long, Message, Tick}
 use Rattle.lines.specs.declared.reading.Line.{Line}
 use Rattle.octets.proofs.DecimalLaws.{long as too-many}
@@ -14,7 +14,7 @@ use borrow.Author.Tests.{le-ltb, lt-ltb, ltb-true}
 use lib.Dec.{eqb, ltb}
 use lib.ListN.{drop, length, length-drop, take}
 use lib.Seq.{length-take-le, take-all, take-take}
-use mathlib.Core.Bool.{Bool, false, true}
+use mathlib.Core.Bool.{Bool, false, true, cond}
 use mathlib.Core.List.{List, [], _∷_}
 use mathlib.Core.Path.{_≡_, ap, refl, sym, _∙_}
 use native.Mathlib.Decide.{decLe, decLt}
@@ -56,7 +56,7 @@ module _ (s : List ℕ) (n : ℕ) (is : n ≡ before 32 (take 21 s)) where
   unfolding lineOf
   no-space h = go (decLt (before 32 s) 21)
     where
-      go : Dec (before 32 s < 21) → Bad ≡ pickLine (ltb (before 32 s) (length s)) (timed s (before 32 s) (decimalIn (take (before 32 s) s))) Bad
+      go : Dec (before 32 s < 21) → Bad ≡ cond (ltb (before 32 s) (length s)) (timed s (before 32 s) (decimalIn (take (before 32 s) s))) Bad
       go (yes a) = rw (le-ltb (before 32 s) (length s) (omega (arith, before-short 32 21 s a)))
       go (no a) = rw (le-ltb (before 32 s) (length s) (omega (arith, before-cut 32 21 s (omega arith), before-within 32 s)))
 
@@ -64,11 +64,11 @@ module _ (s : List ℕ) (n : ℕ) (is : n ≡ before 32 (take 21 s)) where
   unfolding lineOf timed
   no-time h e = go (decLt (before 32 s) 21)
     where
-      go : Dec (before 32 s < 21) → Bad ≡ pickLine (ltb (before 32 s) (length s)) (timed s (before 32 s) (decimalIn (take (before 32 s) s))) Bad
+      go : Dec (before 32 s < 21) → Bad ≡ cond (ltb (before 32 s) (length s)) (timed s (before 32 s) (decimalIn (take (before 32 s) s))) Bad
       go (yes a) = let q : n ≡ before 32 s = is ∙ before-short 32 21 s a in rw (← q, lt-ltb n (length s) h, e)
       go (no a) = within (ltb (before 32 s) (length s))
         where
-          within : (t : Bool) → Bad ≡ pickLine t (timed s (before 32 s) (decimalIn (take (before 32 s) s))) Bad
+          within : (t : Bool) → Bad ≡ cond t (timed s (before 32 s) (decimalIn (take (before 32 s) s))) Bad
           within false = refl
           within true = rw (← too-many (take (before 32 s) s) (rw (length-take-le (before 32 s) s (before-within 32 s)) (omega arith)))
 
@@ -79,7 +79,7 @@ module _ (s : List ℕ) (n : ℕ) (is : n ≡ before 32 (take 21 s)) where
   unfolding lineOf
   the-time v h e = go (decLt (before 32 s) 21) (time-few v h e)
     where
-      go : Dec (before 32 s < 21) → n ≤ 20 → pickLine (ltb (before 32 s) (length s)) (timed s (before 32 s) (decimalIn (take (before 32 s) s))) Bad ≡ timed s n (Value v)
+      go : Dec (before 32 s < 21) → n ≤ 20 → cond (ltb (before 32 s) (length s)) (timed s (before 32 s) (decimalIn (take (before 32 s) s))) Bad ≡ timed s n (Value v)
       go (yes a) l = let q : n ≡ before 32 s = is ∙ before-short 32 21 s a in rw (← q, lt-ltb n (length s) h, e)
       go (no a) l = absurd (omega (arith, before-cut 32 21 s (omega arith)))
 
@@ -117,7 +117,8 @@ cut-said cap room l h n is d e = go d e
     go Other e = rw (← no-time (take cap l) n is′ (omega (arith, small, size)) (rw front e), ← no-time l n is (omega (arith, small)) e)
     go (Value v) e =
         let few = time-few l n is v (omega (arith, small)) e in
-        rw (← too-long (take cap l) n is′ v (omega (arith, small, size)) (rw front e) (omega (arith, size)), ← too-long l n is v (omega (arith, small)) e (omega arith)) (ap long front)
+        rw (← too-long (take cap l) n is′ v (omega (arith, small, size)) (rw front e) (omega (arith, size)), ← too-long l n is v (omega (arith, small)) e (omega arith))
+        (ap long front)
 
 pub said-kept : (cap : ℕ) → 32790 ≤ cap → (l : List ℕ) → said (take cap l) ≡ said l
 said-kept cap room l = go (decLe (length l) cap)
@@ -148,7 +149,7 @@ ticks-fit l n e =
     let k : length (take 5 (drop (n + 1) l)) ≡ 5 = ap length q in
     omega (arith, taken-within 5 (drop (n + 1) l), length-drop (n + 1) l)
 
-behind : (l : List ℕ) (n v : ℕ) → (n ≤ 20) × (n < length l) → (u w : Bool) → standsAt l (n + 1) (ascii "tick ") ≡ w → Places l (pickLine u (Long n) (pickLine w (Tick n v) (Message n v)))
+behind : (l : List ℕ) (n v : ℕ) → (n ≤ 20) × (n < length l) → (u w : Bool) → standsAt l (n + 1) (ascii "tick ") ≡ w → Places l (cond u (Long n) (cond w (Tick n v) (Message n v)))
 behind l n v h true w e = long-places h
 behind l n v h false true e = tick-places (h .0, ticks-fit l n e)
 behind l n v h false false e = message-places h
@@ -157,7 +158,7 @@ pub places : (l : List ℕ) → Places l (lineOf l)
 unfolding lineOf timed
 places l = go (ltb (before 32 l) (length l)) refl (decimalIn (take (before 32 l) l)) refl
   where
-    go : (t : Bool) → ltb (before 32 l) (length l) ≡ t → (d : Spelt) → decimalIn (take (before 32 l) l) ≡ d → Places l (pickLine t (timed l (before 32 l) d) Bad)
+    go : (t : Bool) → ltb (before 32 l) (length l) ≡ t → (d : Spelt) → decimalIn (take (before 32 l) l) ≡ d → Places l (cond t (timed l (before 32 l) d) Bad)
     go false h d e = bad-places
     go true h Other e = bad-places
     go true h (Value v) e = behind l (before 32 l) v (timed-at l v h e) (ltb 32768 (length l - (before 32 l + 1))) (standsAt l (before 32 l + 1) (ascii "tick ")) refl

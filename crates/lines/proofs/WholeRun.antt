@@ -3,10 +3,11 @@
 use Prim.Native.Nat.{ℕ, zero, suc, _≤_, _<_}
 use Rattle.lines.proofs.Cutting.{ended-cut, step, take-kept, unended-cut, whole}
 use Rattle.lines.proofs.WorkLaws.{nothing, then-goes}
-use Rattle.lines.specs.Input.{ended, last, linesOf, unended}
-use Rattle.lines.specs.Running.{Goes, Reached, Run, Effect, Stepped, logTable, logText}
-use Rattle.lines.specs.Running.Run.{begun, read, answered}
-use Rattle.lines.specs.Running.Stepped.{reads, answers}
+use Rattle.lines.specs.Input.{endedLines, lastLine, linesOf, openLine}
+use Rattle.lines.specs.Log.{Effect, logTable, logText}
+use Rattle.lines.specs.inner.Running.{Works, Reached, Turns, Stepped}
+use Rattle.lines.specs.inner.Running.Turns.{begun, read, answered}
+use Rattle.lines.specs.inner.Running.Stepped.{reads, answers}
 use Rattle.octets.specs.Text.{before}
 use lib.ListN.{drop, length, take}
 use mathlib.Core.List.{List, [], _∷_, _++_, append-assoc, append-nil}
@@ -26,7 +27,8 @@ table-append done t [] y = refl
 table-append done t (l ∷ x) y = table-append done (done t l .table) x y
 
 -- two first lines that do the same
-same-head : (done : List ℕ → List ℕ → Effect) (t x y : List ℕ) (ls : List (List ℕ)) → done t x ≡ done t y → (logText done t (x ∷ ls) ≡ logText done t (y ∷ ls)) × (logTable done t (x ∷ ls) ≡ logTable done t (y ∷ ls))
+same-head : (done : List ℕ → List ℕ → Effect) (t x y : List ℕ) (ls : List (List ℕ)) → done t x ≡ done t y
+    → (logText done t (x ∷ ls) ≡ logText done t (y ∷ ls)) × (logTable done t (x ∷ ls) ≡ logTable done t (y ∷ ls))
 unfolding logText logTable
 same-head done t x y ls e = (
   ap (λ (d : Effect). d .text ++ logText done (d .table) ls) e,
@@ -40,9 +42,9 @@ clash (suc n) y k h e = let z = ap length e in omega arith
 module _ (done : List ℕ → List ℕ → Effect) (cap : ℕ) (some : 1 ≤ cap) (kept : (t l : List ℕ) → done t (take cap l) ≡ done t l) where
   -- two open lines of which the same is kept go on alike
   record Alike (t j k s : List ℕ) : Type 0 where
-    text : logText done t (ended j s) ≡ logText done t (ended k s)
-    table : logTable done t (ended j s) ≡ logTable done t (ended k s)
-    open-line : take cap (unended j s) ≡ take cap (unended k s)
+    text : logText done t (endedLines j s) ≡ logText done t (endedLines k s)
+    table : logTable done t (endedLines j s) ≡ logTable done t (endedLines k s)
+    open-line : take cap (openLine j s) ≡ take cap (openLine k s)
 
   does-alike : (t j k p : List ℕ) → take cap j ≡ take cap k → done t (j ++ p) ≡ done t (k ++ p)
   does-alike t j k p e =
@@ -57,7 +59,7 @@ module _ (done : List ℕ → List ℕ → Effect) (cap : ℕ) (some : 1 ≤ cap
           let a = step j s h in
           let b = step k s h in
           let q = does-alike t j k (take (before 10 s) s) e in
-          let h = same-head done t (j ++ take (before 10 s) s) (k ++ take (before 10 s) s) (ended [] (drop (suc (before 10 s)) s)) q in
+          let h = same-head done t (j ++ take (before 10 s) s) (k ++ take (before 10 s) s) (endedLines [] (drop (suc (before 10 s)) s)) q in
           record { text = rw (a .first, b .first) (h .0); table = rw (a .first, b .first) (h .1); open-line = rw (a .then, b .then) }
       go (no h) =
           let a = whole j s (omega arith) in
@@ -69,25 +71,25 @@ module _ (done : List ℕ → List ℕ → Effect) (cap : ℕ) (some : 1 ≤ cap
           }
 
   -- a piece is read behind what was read
-  read-on : (t₀ i p : List ℕ) {w t k : List ℕ} → Goes done cap t₀ [] i t k [] w → Goes done cap t₀ [] (i ++ p) t k p w
-  unfolding logText logTable ended unended
+  read-on : (t₀ i p : List ℕ) {w t k : List ℕ} → Works done cap t₀ [] i t k [] w → Works done cap t₀ [] (i ++ p) t k p w
+  unfolding logText logTable endedLines openLine
   read-on t₀ i p {w} {t} {k} g =
-      let r = alike t (unended [] i) k p (g .open-line) in
-      let v : logText done t₀ (ended [] i) ≡ w = g .written ∙ append-nil w in
+      let r = alike t (openLine [] i) k p (g .open-line) in
+      let v : logText done t₀ (endedLines [] i) ≡ w = g .written ∙ append-nil w in
       record {
-        written = rw (ended-cut [] i p, text-append done t₀ (ended [] i) (ended (unended [] i) p), v, g .table, r .text);
-        table = rw (ended-cut [] i p, table-append done t₀ (ended [] i) (ended (unended [] i) p), g .table) (r .table);
+        written = rw (ended-cut [] i p, text-append done t₀ (endedLines [] i) (endedLines (openLine [] i) p), v, g .table, r .text);
+        table = rw (ended-cut [] i p, table-append done t₀ (endedLines [] i) (endedLines (openLine [] i) p), g .table) (r .table);
         open-line = rw (unended-cut [] i p) (r .open-line);
       }
 
   -- at every place of a run: what was handed on, and then what is still to be handed on, is the text of the lines that have ended
-  pub so-far : {t₀ i w t k s : List ℕ} → Run done cap t₀ i w t k s → Goes done cap t₀ [] i t k s w
+  pub so-far : {t₀ i w t k s : List ℕ} → Turns done cap t₀ i w t k s → Works done cap t₀ [] i t k s w
   so-far {t₀} begun = nothing done cap t₀ [] []
   so-far {t₀} (read {i} {w} {t} {k} {p} r) = read-on t₀ i p (so-far r)
   so-far (answered r g) = then-goes done cap (so-far r) g
 
-  last-alike : (t j k : List ℕ) → take cap j ≡ take cap k → logText done t (last j) ≡ logText done t (last k)
-  unfolding logText last
+  last-alike : (t j k : List ℕ) → take cap j ≡ take cap k → logText done t (lastLine j) ≡ logText done t (lastLine k)
+  unfolding logText lastLine
   last-alike t [] [] e = refl
   last-alike t [] (y ∷ k) e = absurd (clash cap y k some e)
   last-alike t (x ∷ j) [] e = absurd (clash cap x j some (sym e))
@@ -96,13 +98,14 @@ module _ (done : List ℕ → List ℕ → Effect) (cap : ℕ) (some : 1 ≤ cap
       rw q
 
   -- at the end of the input: what was handed on, and then the answer to a last line without its line feed, is the text of the input
-  pub whole-run : {t₀ i w t k : List ℕ} → Run done cap t₀ i w t k [] → logText done t₀ (linesOf i) ≡ w ++ logText done t (last k)
-  unfolding linesOf logText logTable ended unended
+  pub whole-run : {t₀ i w t k : List ℕ} → Turns done cap t₀ i w t k [] → logText done t₀ (linesOf i) ≡ w ++ logText done t (lastLine k)
+  unfolding linesOf logText logTable endedLines openLine
   whole-run {t₀} {i} {w} {t} {k} r =
       let g = so-far r in
-      rw (text-append done t₀ (ended [] i) (last (unended [] i)), g .written, append-nil w, g .table, last-alike t (unended [] i) k (g .open-line))
+      rw (text-append done t₀ (endedLines [] i) (lastLine (openLine [] i)), g .written, append-nil w, g .table, last-alike t (openLine [] i) k (g .open-line))
 
 -- a run with one turn more
-pub further : {done : List ℕ → List ℕ → Effect} {cap : ℕ} {t₀ t k s t′ k′ s′ x : List ℕ} → Reached done cap t₀ t k s → Stepped done cap t k s t′ k′ s′ x → Reached done cap t₀ t′ k′ s′
+pub further : {done : List ℕ → List ℕ → Effect} {cap : ℕ} {t₀ t k s t′ k′ s′ x : List ℕ} → Reached done cap t₀ t k s → Stepped done cap t k s t′ k′ s′ x
+    → Reached done cap t₀ t′ k′ s′
 further r (reads {p}) = record { input = r .input ++ p; handed = r .handed; run = read (r .run) }
 further r (answers {x = x} g) = record { input = r .input; handed = r .handed ++ x; run = answered (r .run) g }

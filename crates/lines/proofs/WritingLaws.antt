@@ -1,8 +1,9 @@
 -- What was written stands there, and what is answered where there is room and where there is not. Assumes nothing.
 use Prim.Native.Nat.{ℕ, _+_, _≤_, _<_}
-use Rattle.call.specs.declared.answers.Word.the-variants.{Pass, Repeat, Bye, Timeout, Idle, Freed, None}
-use Rattle.call.specs.declared.answers.Word.{Word}
-use Rattle.lines.specs.Program.{afterWriting, spelling, wroteAt}
+use Rattle.answers.specs.declared.Word.the-variants.{Pass, Repeat, Bye, Timeout, Idle, Freed, None}
+use Rattle.answers.specs.declared.Word.{Word}
+use Rattle.answers.specs.Answer.{spelling}
+use Rattle.lines.specs.Program.{afterWriting, wroteAt}
 use Rattle.lines.specs.declared.answering.Wrote.the-variants.{End, NoRoom}
 use Rattle.octets.specs.Splice.{splice, written}
 use borrow.Author.Tests.{le-leb, lt-leb}

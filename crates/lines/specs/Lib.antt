@@ -1,3 +1,4 @@
 pub mod Program
 pub mod Input
-pub mod Running
+pub mod Log
+pub mod inner

@@ -1,13 +1,15 @@
 // The answer's line: the time as read, and behind it a space and the answer's text.
-use call::Answer;
-use call::Word;
+use answers::Answer;
+use answers::Word;
+use answers::put_word;
 use octets::put;
 use octets::put_decimal;
 ghost use mathlib.Core.List.{[], _++_, _∷_};
 ghost use mathlib.Core.Path.{_≡_};
 ghost use Prim.Native.Nat.{_+_, _≤_};
 ghost use lib.ListN.{length, take};
-ghost use Rattle.lines.specs.Program.{afterWriting, answerLine, badLine, spelling, textOf, wroteAt};
+ghost use Rattle.answers.specs.Answer.{spelling};
+ghost use Rattle.lines.specs.Program.{afterWriting, answerLine, badLine, answerText, wroteAt};
 ghost use Rattle.octets.specs.Ascii.{ascii};
 ghost use Rattle.octets.specs.Decimal.{shown};
 ghost use Rattle.octets.specs.Splice.{splice, written};
@@ -17,22 +19,6 @@ pub enum Wrote {
     End(usize),
     // There is no room for the whole line: the buffer is as it was.
     NoRoom,
-}
-
-// An acceptance's word.
-fn put_word(out: &mut [u8], at: usize, word: Word) -> usize
-    requires { ⌜ at + 7 ≤ length (now out) ⌝ }
-    ensures { λ r. ⌜ (r ≡ at + length (spelling word)) × (now (out .exit) ≡ splice (now (out .entry)) at (spelling word)) ⌝ }
-{
-    match word {
-        Word::Pass => put(out, at, b"pass"),
-        Word::Repeat => put(out, at, b"repeat"),
-        Word::Bye => put(out, at, b"bye"),
-        Word::Timeout => put(out, at, b"timeout"),
-        Word::Idle => put(out, at, b"idle"),
-        Word::Freed => put(out, at, b"freed"),
-        Word::None => put(out, at, b"none"),
-    }
 }
 
 // What follows the time in the line of an acceptance, at the buffer's front; its length.
@@ -57,11 +43,11 @@ fn put_refused(out: &mut [u8; 32], number: u8) -> usize
 
 // What follows the time.
 fn put_text(out: &mut [u8; 32], a: Answer) -> usize
-    ensures { λ r. ⌜ (r ≡ length (32 ∷ (textOf a ++ (10 ∷ [])))) × (now (out .exit) ≡ written (now (out .entry)) (32 ∷ (textOf a ++ (10 ∷ [])))) × (r ≤ 32) ⌝ }
+    ensures { λ r. ⌜ (r ≡ length (32 ∷ (answerText a ++ (10 ∷ [])))) × (now (out .exit) ≡ written (now (out .entry)) (32 ∷ (answerText a ++ (10 ∷ [])))) × (r ≤ 32) ⌝ }
 {
     match a {
-        Answer::Accepted(word, shown) => put_accepted(out, word, call::shown_number(shown)),
-        Answer::Refused(refusal) => put_refused(out, call::number(refusal)),
+        Answer::Accepted(word, shown) => put_accepted(out, word, answers::shown_number(shown)),
+        Answer::Refused(refusal) => put_refused(out, answers::number(refusal)),
     }
 }
 

@@ -6,14 +6,14 @@ ghost use mathlib.Core.Path.{_≡_};
 ghost use mathlib.Core.Bool.{false};
 ghost use Prim.Native.Nat.{_+_, _≤_};
 ghost use lib.ListN.{length, take};
-ghost use Rattle.lines.specs.Input.{bufferAfter, kept, lineEnd, nextOf};
+ghost use Rattle.lines.specs.inner.Splitting.{bufferAfter, firstBytes, lineEnd, nextLine};
 ghost use Rattle.octets.specs.Splice.{written};
 
 pub enum Next {
     // A whole line stands in the piece from where it was asked for; its line feed stands at this place.
     Here(usize),
     // A whole line stands at the buffer's front: so many bytes of it are kept, and the next line begins at this place.
-    Held(usize, usize),
+    Buffered(usize, usize),
     // The piece is used up; so many bytes of a line without its line feed are kept.
     Pending(usize),
 }
@@ -54,8 +54,8 @@ fn line_end(s: &[u8], from: usize) -> usize
 }
 
 // Keeps a further part of the line whose first `len` bytes are kept, and answers how many are kept then.
-fn keep(line: &mut [u8], len: usize, part: &[u8]) -> usize
-    ensures { λ r. ⌜ (r ≡ length (kept (now (line .entry)) (take len (now (line .entry)) ++ now (part .entry)))) × (now (line .exit) ≡ written (now (line .entry)) (kept (now (line .entry)) (take len (now (line .entry)) ++ now (part .entry)))) ⌝ }
+fn keep_part(line: &mut [u8], len: usize, part: &[u8]) -> usize
+    ensures { λ r. ⌜ (r ≡ length (firstBytes (now (line .entry)) (take len (now (line .entry)) ++ now (part .entry)))) × (now (line .exit) ≡ written (now (line .entry)) (firstBytes (now (line .entry)) (take len (now (line .entry)) ++ now (part .entry)))) ⌝ }
 {
     if line.len() <= len {
         return line.len();
@@ -70,17 +70,17 @@ fn keep(line: &mut [u8], len: usize, part: &[u8]) -> usize
 
 // The next line of a piece, from a place of it on, where the buffer's first `len` bytes are what is kept of the line so far.
 pub fn next_line(line: &mut [u8], len: usize, s: &[u8], from: usize) -> Next
-    ensures { λ r. ⌜ (r ≡ nextOf (now (line .entry)) len (now (s .entry)) from) × (now (line .exit) ≡ bufferAfter (now (line .entry)) len (now (s .entry)) from) ⌝ }
+    ensures { λ r. ⌜ (r ≡ nextLine (now (line .entry)) len (now (s .entry)) from) × (now (line .exit) ≡ bufferAfter (now (line .entry)) len (now (s .entry)) from) ⌝ }
 {
     if s.len() <= from {
-        return Next::Pending(keep(line, len, b""));
+        return Next::Pending(keep_part(line, len, b""));
     }
     let e = line_end(s, from);
     if s.len() <= e {
-        return Next::Pending(keep(line, len, &s[from..]));
+        return Next::Pending(keep_part(line, len, &s[from..]));
     }
     if len == 0 {
         return Next::Here(e);
     }
-    Next::Held(keep(line, len, &s[from..e]), e + 1)
+    Next::Buffered(keep_part(line, len, &s[from..e]), e + 1)
 }

@@ -1,29 +1,32 @@
 -- What is known of a message that was read, over the definitions alone, for the layers above. The idea: whatever refuses is passed, so that the
 -- fields of the tag kept their rules and the two sides differ. Assumes nothing.
+use Rattle.message.proofs.CheckLaws.{none-lowest}
 use Prim.Native.Nat.{ℕ, zero, suc, _+_, _≤_, _<_}
-use Rattle.json.specs.Machine.{answer}
-use Rattle.json.specs.Places.{pickN, bytes, part, members}
+use Rattle.json.specs.inner.Machine.{answer}
+use Rattle.json.specs.Places.{bytes, part, members}
 use Rattle.json.specs.declared.Walked.the-variants as walked
 use Rattle.json.specs.declared.Walked.{Walked}
-use Rattle.message.proofs.FieldLaws.{address-broken, sequence-broken, status-broken}
-use Rattle.message.proofs.TextLaws.{whole-cut, span-cut}
-use Rattle.message.specs.Checks.{asks, lacks, breaks, lowest, missing, broken, brokenPlace, judge, checked}
-use Rattle.message.specs.Field.{addressRule, textRule, statusField, byKind, keeps}
-use Rattle.message.specs.Known.{empty, noted, repeated}
-use Rattle.message.specs.Message.{numberIn, methodIn, callerIn, codeIn, numberOf, methodOf, fromCaller, toCaller, codeOf, settingOf, sameSide, wrongSide, wrongNumber, sidesDisagree, requestDisagrees, responseDisagrees, disagrees, userSpan, callerSpan, calleeSpan, callerAt, calleeAt, messageOf, probeOf}
-use Rattle.message.specs.Spans.{textAt}
-use Rattle.message.specs.Parties.{cut, callIdOf, userOf, callerFireOf, calleeFireOf}
-use Rattle.message.specs.Reading.{choose, unless, agreed, settled, judged, known, shaped, onJson, onUtf8, reading}
+use Rattle.fields.proofs.FieldLaws.{address-broken, sequence-broken, status-broken}
+use Rattle.fields.proofs.TextLaws.{whole-cut, span-cut}
+use Rattle.message.specs.Checks.{asks, lacks, breaks, lowest, missing, broken, brokenPlace, checked}
+use Rattle.fields.specs.Field.{addressRule, statusField, keeps}
+use Rattle.fields.specs.Known.{empty, noted, repeated}
+use Rattle.message.specs.Message.{numberIn, methodIn, callerIn, codeIn, numberOf, methodOf, fromCaller, toCaller, codeOf, settingOf, sameSide, wrongSide, wrongNumber}
+use Rattle.message.specs.Message.{sidesDisagree, requestDisagrees, responseDisagrees, disagrees, userSpan, callerSpan, calleeSpan, callerAt, calleeAt, messageOf, probeOf}
+use Rattle.fields.specs.Spans.{textAt}
+use Rattle.fields.specs.Spans.{cut}
+use Rattle.message.specs.Parties.{callIdOf, userOf, callerFireOf, calleeFireOf}
+use Rattle.message.specs.Reading.{unless, agreed, settled, judged, known, shaped, onJson, onUtf8, reading}
 use Rattle.message.proofs.ShapeLaws.{tag-few}
 use Rattle.message.specs.Shape.{tagOf, objectOf}
-use Rattle.message.specs.Value.{isString, textOf, freely, ruled}
+use Rattle.fields.specs.Value.{isString, textOf, freely, ruled}
 use Rattle.message.specs.declared.checking.Check.the-variants.{Good, Fault}
 use Rattle.message.specs.declared.checking.Check.{Check}
 use Rattle.message.specs.declared.facts.Message.{Message}
-use Rattle.message.specs.declared.fields.Setting.{Setting}
+use Rattle.fields.specs.declared.judging.Setting.{Setting}
 use Rattle.message.specs.declared.reading.Reading.the-variants.{Refused, Read}
 use Rattle.message.specs.declared.reading.Reading.{Reading}
-use Rattle.octets.proofs.TextLaws.{and-parts}
+use Rattle.octets.proofs.TestLaws.{and-parts}
 use Rattle.octets.specs.Class.{all}
 use Rattle.rules.proofs.PartLaws.{call-id-length, caller-address-parts, callee-address-parts}
 use Rattle.rules.proofs.SequenceLaws.{Ranges, sequence-ranges}
@@ -46,7 +49,7 @@ use Rattle.utf8.specs.declared.Verdict.{Verdict}
 use borrow.Author.Tests.{eqb-false, ltb-true, ltb-false, lt-ltb, not-false}
 use lib.Dec.{eqb, leb, ltb}
 use lib.ListN.{length, getD}
-use mathlib.Core.Bool.{Bool, true, false, not, _&&_, _||_}
+use mathlib.Core.Bool.{Bool, true, false, not, _&&_, _||_, cond}
 use mathlib.Core.List.{List}
 use mathlib.Core.Logic.{_⊎_, inl, inr}
 use mathlib.Core.Path.{_≡_, refl, sym, ap, _∙_}
@@ -90,11 +93,11 @@ sides false false e = never e
 
 -- What refuses is passed.
 
-passed : {m : Message} (b : Bool) (n p : ℕ) (r : Reading) → choose b (Refused n p) r ≡ Read m → (b ≡ false) × (r ≡ Read m)
+passed : {m : Message} (b : Bool) (n p : ℕ) (r : Reading) → cond b (Refused n p) r ≡ Read m → (b ≡ false) × (r ≡ Read m)
 passed true n p r e = absurd (let z : _≡_ {A = ℕ} 0 1 = cc in omega arith)
 passed false n p r e = (refl, e)
 
-within : {m : Message} (b : Bool) (n p : ℕ) (r : Reading) → choose b r (Refused n p) ≡ Read m → r ≡ Read m
+within : {m : Message} (b : Bool) (n p : ℕ) (r : Reading) → cond b r (Refused n p) ≡ Read m → r ≡ Read m
 within true n p r e = e
 within false n p r e = absurd (let z : _≡_ {A = ℕ} 0 1 = cc in omega arith)
 
@@ -117,22 +120,7 @@ reading-shaped s e = utf8-passed s (verdict s) (within (leb 1 (length s) && leb 
 
 -- a run that finds nothing: each field that the tag asks for is there and keeps its rule
 
-pick-none : (t : Bool) (a b : ℕ) → 0 < a → pickN t a b ≡ 0 → (t ≡ false) × (b ≡ 0)
-pick-none true a b h e = absurd (omega arith)
-pick-none false a b h e = (refl, e)
-
-next-one : (f : ℕ → Bool) (a n : ℕ) → a ≤ n → Dec (a ≡ n) → f a ≡ false → (a + 1 ≤ n → f n ≡ false) → f n ≡ false
-next-one f a n h (yes e) z g = rw (← e) z
-next-one f a n h (no e) z g = g (omega arith)
-
-none-lowest : (f : ℕ → Bool) (k a n : ℕ) → 0 < a → lowest f a k ≡ 0 → a ≤ n → n < a + k → f n ≡ false
-unfolding lowest
-none-lowest f zero a n o e h g = absurd (omega arith)
-none-lowest f (suc k) a n o e h g =
-    let p = pick-none (f a) a (lowest f (a + 1) k) o e in
-    next-one f a n h (ℕ-discrete a n) (p .0) (λ l. none-lowest f k (a + 1) n (omega arith) (p .1) l (omega arith))
-
-both-good : (a b : Bool) (n p n′ p′ : ℕ) → judge a (Fault n p) (judge b (Fault n′ p′) Good) ≡ Good → (a ≡ false) × (b ≡ false)
+both-good : (a b : Bool) (n p n′ p′ : ℕ) → cond a (Fault n p) (cond b (Fault n′ p′) Good) ≡ Good → (a ≡ false) × (b ≡ false)
 both-good true b n p n′ p′ e = absurd (let z : _≡_ {A = ℕ} 0 1 = cc in omega arith)
 both-good false true n p n′ p′ e = absurd (let z : _≡_ {A = ℕ} 0 1 = cc in omega arith)
 both-good false false n p n′ p′ e = (refl, refl)
@@ -140,7 +128,7 @@ both-good false false n p n′ p′ e = (refl, refl)
 module _ (s : List ℕ) (run : Bool) (k : Setting) (t : List ℕ) (good : checked s run k t ≡ Good) where
   both : (ltb 0 (missing run k t) ≡ false) × (ltb 0 (broken s run k t) ≡ false)
   unfolding checked
-  both = both-good (ltb 0 (missing run k t)) (ltb 0 (broken s run k t)) 8 (missing run k t) 9 (brokenPlace t (broken s run k t)) good
+  both = both-good (ltb 0 (missing run k t)) (ltb 0 (broken s run k t)) 8 (missing run k t) 9 (brokenPlace s k t (broken s run k t)) good
 
   -- a field that the run requires is there and keeps its rule
   pub kept : (n : ℕ) → 1 ≤ n → n < 27 → asks run k n ≡ 1 → (0 < getD t n 0) × (keeps k n (bytes s (getD t n 0)) ≡ true)
@@ -171,8 +159,10 @@ module _ (s : List ℕ) (v : ℕ) (rule : addressRule (textAt s v) ≡ true) whe
   caller-side : (a : Address) → addressOf (textAt s v) ≡ a → callerIn a ≡ true → (userRule (cut s (userSpan v a)) ≡ true) × (fireRule (cut s (callerSpan v a)) ≡ true)
   unfolding part
   caller-side (addresses.Caller u f) e h =
-      let p = caller-address-parts (textAt s v) u f e in
-      (ap userRule (span-cut s v 7 u (omega (arith, p .starts)) (omega (arith, p .goes-on, p .ends))) ∙ p .user, ap fireRule (span-cut s v (u + 1) f (omega (arith, p .goes-on)) (omega (arith, p .ends))) ∙ p .fire)
+      let p = caller-address-parts (textAt s v) u f e in (
+        ap userRule (span-cut s v 7 u (omega (arith, p .starts)) (omega (arith, p .goes-on, p .ends))) ∙ p .user,
+        ap fireRule (span-cut s v (u + 1) f (omega (arith, p .goes-on)) (omega (arith, p .ends))) ∙ p .fire,
+      )
   caller-side (addresses.Callee f) e h = never (sym h)
   caller-side addresses.Broken e h = never (sym h)
 
@@ -200,20 +190,20 @@ module _ (s : List ℕ) (tag : ℕ) (t : List ℕ) (two : (tag ≡ 1) ⊎ (tag �
   asked n a b (inr e) = rw e b
 
   sequence-kept : sequenceRule (textAt s (getD t 1 0)) ≡ true
-  unfolding textAt tagAsks isIn keeps byKind textRule
-  sequence-kept = ruled-text (textRule 1) (bytes s (getD t 1 0)) (kept s true _ t good 1 (omega arith) (omega arith) (asked 1 refl refl two) .1)
+  unfolding textAt tagAsks isIn keeps
+  sequence-kept = ruled-text sequenceRule (bytes s (getD t 1 0)) (kept s true _ t good 1 (omega arith) (omega arith) (asked 1 refl refl two) .1)
 
   to-kept : addressRule (textAt s (getD t 2 0)) ≡ true
-  unfolding textAt tagAsks isIn keeps byKind textRule
-  to-kept = ruled-text (textRule 2) (bytes s (getD t 2 0)) (kept s true _ t good 2 (omega arith) (omega arith) (asked 2 refl refl two) .1)
+  unfolding textAt tagAsks isIn keeps
+  to-kept = ruled-text addressRule (bytes s (getD t 2 0)) (kept s true _ t good 2 (omega arith) (omega arith) (asked 2 refl refl two) .1)
 
   from-kept : addressRule (textAt s (getD t 3 0)) ≡ true
-  unfolding textAt tagAsks isIn keeps byKind textRule
-  from-kept = ruled-text (textRule 3) (bytes s (getD t 3 0)) (kept s true _ t good 3 (omega arith) (omega arith) (asked 3 refl refl two) .1)
+  unfolding textAt tagAsks isIn keeps
+  from-kept = ruled-text addressRule (bytes s (getD t 3 0)) (kept s true _ t good 3 (omega arith) (omega arith) (asked 3 refl refl two) .1)
 
   call-kept : callIdRule (textAt s (getD t 5 0)) ≡ true
-  unfolding textAt tagAsks isIn keeps byKind textRule
-  call-kept = ruled-text (textRule 5) (bytes s (getD t 5 0)) (kept s true _ t good 5 (omega arith) (omega arith) (asked 5 refl refl two) .1)
+  unfolding textAt tagAsks isIn keeps
+  call-kept = ruled-text callIdRule (bytes s (getD t 5 0)) (kept s true _ t good 5 (omega arith) (omega arith) (asked 5 refl refl two) .1)
 
   status-kept : tag ≡ 2 → statusRule (textAt s (getD t 7 0)) ≡ true
   unfolding textAt tagAsks isIn keeps statusField
@@ -236,7 +226,8 @@ module _ (s : List ℕ) (tag : ℕ) (t : List ℕ) (two : (tag ≡ 1) ⊎ (tag �
   it = messageOf s (settingOf s tag t) t
 
   -- which of the two addresses is the caller's
-  parties : ((fromCaller s t ≡ true) × (toCaller s t ≡ false)) ⊎ ((fromCaller s t ≡ false) × (toCaller s t ≡ true)) → (userRule (userOf s it) ≡ true) × ((fireRule (callerFireOf s it) ≡ true) × (fireRule (calleeFireOf s it) ≡ true))
+  parties : ((fromCaller s t ≡ true) × (toCaller s t ≡ false)) ⊎ ((fromCaller s t ≡ false) × (toCaller s t ≡ true))
+      → (userRule (userOf s it) ≡ true) × ((fireRule (callerFireOf s it) ≡ true) × (fireRule (calleeFireOf s it) ≡ true))
   unfolding messageOf userOf callerFireOf calleeFireOf callerAt calleeAt fromCaller toCaller
   parties (inl e) =
       let v = getD t 3 0 in
@@ -289,7 +280,7 @@ settled-is : (s : List ℕ) (k : Setting) (t : List ℕ) {m : Message} → settl
 unfolding settled
 settled-is s k t {m} e = by (eqb (k .tag) 1) e
   where
-    by : (b : Bool) → choose b (unless (checked s false k t) (agreed s k t)) (agreed s k t) ≡ Read m → agreed s k t ≡ Read m
+    by : (b : Bool) → cond b (unless (checked s false k t) (agreed s k t)) (agreed s k t) ≡ Read m → agreed s k t ≡ Read m
     by true e = faultless (checked s false k t) (agreed s k t) e .1
     by false e = e
 
@@ -321,10 +312,10 @@ module _ (s : List ℕ) (tag : ℕ) (t : List ℕ) (low : 1 ≤ tag) (high : tag
       k : Setting
       k = record { tag = tag; method = 0; content = 0 }
 
-      r : (checked s true k t ≡ Good) × (choose (ltb 2 tag) (Read (probeOf tag)) (settled s (settingOf s tag t) t) ≡ Read m)
-      r = faultless (checked s true k t) (choose (ltb 2 tag) (Read (probeOf tag)) (settled s (settingOf s tag t) t)) e
+      r : (checked s true k t ≡ Good) × (cond (ltb 2 tag) (Read (probeOf tag)) (settled s (settingOf s tag t) t) ≡ Read m)
+      r = faultless (checked s true k t) (cond (ltb 2 tag) (Read (probeOf tag)) (settled s (settingOf s tag t) t)) e
 
-      by : (b : Bool) → ltb 2 tag ≡ b → choose b (Read (probeOf tag)) (settled s (settingOf s tag t) t) ≡ Read m → Facts s m
+      by : (b : Bool) → ltb 2 tag ≡ b → cond b (Read (probeOf tag)) (settled s (settingOf s tag t) t) ≡ Read m → Facts s m
       by true q z = probe-facts (cc) (ltb-true 2 tag q)
       by false q z = message-facts (ltb-false 2 tag q) (r .0) (settled-is s (settingOf s tag t) t z)
 

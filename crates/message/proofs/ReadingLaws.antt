@@ -1,9 +1,10 @@
 -- The rows of the reading, one law for each way that the code goes. Assumes nothing.
+use Rattle.message.specs.inner.Shaping.{Shaped}
+use Rattle.fields.specs.inner.Gathering.{Gathered}
 use Prim.Native.Nat.{ℕ, _≤_, _<_}
 use Rattle.message.proofs.ShapeLaws.{object-opens}
-use Rattle.message.specs.Known.{Gathered}
 use Rattle.message.specs.Reading.{judged, known, shaped, onUtf8, reading}
-use Rattle.message.specs.Shape.{objectOf, Shaped}
+use Rattle.message.specs.Shape.{objectOf}
 use Rattle.message.specs.declared.reading.Reading.the-variants.{Refused}
 use Rattle.rules.specs.Names.{fields}
 use Rattle.utf8.specs.Rfc3629.{verdict}

@@ -1,16 +1,17 @@
 -- Row 6: what the elements of the outer array are, one law for each way that `shape_of` goes. Assumes nothing.
+use Rattle.message.specs.inner.Shaping.{openAt, openOf, Shaped}
 use Prim.Native.Nat.{ℕ, _+_, _-_, _≤_, _<_}
-use Rattle.json.specs.Places.{pickN, past, follows, more, raw, elements, elementsFrom}
-use Rattle.message.proofs.ElementLaws.{no-elements, some-elements, one-element}
-use Rattle.message.proofs.GatherLaws.{comma, no-comma, from-few}
-use Rattle.message.specs.Shape.{pair, tagAt, tagOf, objectOf, openAt, openOf, Shaped}
+use Rattle.json.specs.Places.{past, follows, more, raw, elements, elementsFrom}
+use Rattle.fields.proofs.ElementLaws.{no-elements, some-elements, one-element}
+use Rattle.fields.proofs.GatherLaws.{comma, no-comma, from-few}
+use Rattle.message.specs.Shape.{pair, tagAt, tagOf, objectOf}
 use Rattle.rules.proofs.NameLaws.{place-below}
 use Rattle.rules.specs.Names.{tags}
-use Rattle.rules.specs.Pieces.{placeOf}
+use Rattle.rules.specs.Pieces.{wordNumber}
 use borrow.Author.Tests.{eq-eqb, ne-eqb}
 use lib.Dec.{eqb}
 use lib.ListN.{length, getD}
-use mathlib.Core.Bool.{Bool, true, false, _&&_}
+use mathlib.Core.Bool.{Bool, true, false, _&&_, cond}
 use mathlib.Core.List.{List, [], _∷_}
 use mathlib.Core.Path.{_≡_, refl, sym, ap, _∙_}
 use native.Mathlib.Decide.{ℕ-discrete}
@@ -25,7 +26,7 @@ pub shapeless : (s : List ℕ) {tag object : ℕ} → Shapeless s → (tag ≡ 0
 shapeless s e f =
     record { is = f .0 ∙ e .untagged; few = omega (arith, f .0); opens = f .1 ∙ e .unopened; inside = λ h. absurd (omega (arith, f .0)) }
 
-pick-pair : (ps : List ℕ) (f : ℕ → ℕ → ℕ) (b : Bool) → ((x y : ℕ) → ps ≡ x ∷ y ∷ [] → f x y ≡ 0) → 0 ≡ pickN b (pair ps f) 0
+pick-pair : (ps : List ℕ) (f : ℕ → ℕ → ℕ) (b : Bool) → ((x y : ℕ) → ps ≡ x ∷ y ∷ [] → f x y ≡ 0) → 0 ≡ cond b (pair ps f) 0
 pick-pair ps f false h = refl
 pick-pair [] f true h = refl
 pick-pair (x ∷ []) f true h = refl
@@ -103,7 +104,8 @@ module _ (s : List ℕ) {o : ℕ} (at-o : o ≡ past s 0) where
                   nil-cons (sym (tail-of (tail-of (sym two-listed ∙ e)))
                   ∙ comma s (elementsFrom (n - 1 - 1) s) y at-z f ∙ one-element s (n - 1 - 1) (z + 1) g refl))
 
-              pub a-pair : getD s o 0 ≡ 91 → getD s y 0 ≡ 123 → (getD s z 0 ≡ 44 → ⊥) → y < length s → {name : List ℕ} {tag : ℕ} → name ≡ raw s x → tag ≡ placeOf tags name → Shaped s tag y
+              pub a-pair : getD s o 0 ≡ 91 → getD s y 0 ≡ 123 → (getD s z 0 ≡ 44 → ⊥) → y < length s → {name : List ℕ} {tag : ℕ} → name ≡ raw s x → tag ≡ wordNumber tags name
+                  → Shaped s tag y
               unfolding tagOf tagAt openOf openAt
               a-pair array object ne inside {name} {tag} e f =
                   let two : elements s o ≡ x ∷ y ∷ [] = two-listed ∙ ap (λ (l : List ℕ). x ∷ y ∷ l) (no-comma s (elementsFrom (n - 1 - 1) s) y at-z ne) in
@@ -121,7 +123,7 @@ pair-opens s [] h = refl
 pair-opens s (x ∷ []) h = refl
 pair-opens s (x ∷ y ∷ []) h = by (eqb (getD s x 0) 34 && eqb (getD s y 0) 123) h
   where
-    by : (b : Bool) → 0 < pickN b (placeOf tags (raw s x)) 0 → pickN b y 0 ≡ y
+    by : (b : Bool) → 0 < cond b (wordNumber tags (raw s x)) 0 → cond b y 0 ≡ y
     by true g = refl
     by false g = absurd (omega arith)
 pair-opens s (x ∷ y ∷ z ∷ zs) h = refl
@@ -130,7 +132,7 @@ pub object-opens : (s : List ℕ) {tag object : ℕ} → Shaped s tag object →
 unfolding tagOf openOf objectOf
 object-opens s f h = f .opens ∙ by (eqb (getD s (past s 0) 0) 91) (omega (arith, f .is))
   where
-    by : (b : Bool) → 0 < pickN b (pair (elements s (past s 0)) (tagAt s)) 0 → pickN b (pair (elements s (past s 0)) (openAt s)) 0 ≡ pair (elements s (past s 0)) (λ x y. y)
+    by : (b : Bool) → 0 < cond b (pair (elements s (past s 0)) (tagAt s)) 0 → cond b (pair (elements s (past s 0)) (openAt s)) 0 ≡ pair (elements s (past s 0)) (λ x y. y)
     by true g = pair-opens s (elements s (past s 0)) g
     by false g = absurd (omega arith)
 
@@ -141,7 +143,7 @@ few-pair (x ∷ []) f h = omega arith
 few-pair (x ∷ y ∷ []) f h = h x y
 few-pair (x ∷ y ∷ z ∷ zs) f h = omega arith
 
-pick-le : (b : Bool) (a n : ℕ) → a ≤ n → pickN b a 0 ≤ n
+pick-le : (b : Bool) (a n : ℕ) → a ≤ n → cond b a 0 ≤ n
 pick-le true a n h = h
 pick-le false a n h = omega arith
 
@@ -149,4 +151,4 @@ pub tag-few : (s : List ℕ) → tagOf s ≤ 4
 unfolding tagOf tagAt
 tag-few s =
     pick-le (eqb (getD s (past s 0) 0) 91) (pair (elements s (past s 0)) (tagAt s)) 4
-    (few-pair (elements s (past s 0)) (tagAt s) (λ x y. pick-le (eqb (getD s x 0) 34 && eqb (getD s y 0) 123) (placeOf tags (raw s x)) 4 (place-below tags (raw s x))))
+    (few-pair (elements s (past s 0)) (tagAt s) (λ x y. pick-le (eqb (getD s x 0) 34 && eqb (getD s y 0) 123) (wordNumber tags (raw s x)) 4 (place-below tags (raw s x))))

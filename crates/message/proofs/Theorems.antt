@@ -8,14 +8,14 @@ use Rattle.json.specs.Verdict.{Verdict}
 use Rattle.json.specs.declared.Walked.the-variants as walked
 use Rattle.json.specs.declared.Walked.{Walked}
 use Rattle.message.proofs.ReadingLaws.{too-short, too-long, in-bounds}
-use Rattle.message.specs.Checks.{missing, broken, brokenPlace, judge, checked}
-use Rattle.message.specs.Known.{empty, noted, repeated}
+use Rattle.message.specs.Checks.{missing, broken, brokenPlace, checked}
+use Rattle.fields.specs.Known.{empty, noted, repeated}
 use Rattle.message.specs.Message.{settingOf, disagrees}
-use Rattle.message.specs.Reading.{choose, unless, agreed, settled, judged, known, shaped, onJson, onUtf8, reading}
+use Rattle.message.specs.Reading.{unless, agreed, settled, judged, known, shaped, onJson, onUtf8, reading}
 use Rattle.message.specs.Shape.{tagOf, objectOf}
 use Rattle.message.specs.declared.checking.Check.the-variants.{Good, Fault}
 use Rattle.message.specs.declared.facts.Message.{Message}
-use Rattle.message.specs.declared.fields.Setting.{Setting}
+use Rattle.fields.specs.declared.judging.Setting.{Setting}
 use Rattle.message.specs.declared.reading.Reading.the-variants.{Refused, Read}
 use Rattle.message.specs.declared.reading.Reading.{Reading}
 use Rattle.rules.specs.Names.{fields}
@@ -24,7 +24,7 @@ use Rattle.utf8.specs.declared.Verdict.the-variants as utf8
 use Rattle.utf8.specs.declared.Verdict.{Verdict as Utf8}
 use lib.Dec.{eqb, ltb}
 use lib.ListN.{length}
-use mathlib.Core.Bool.{Bool, true, false}
+use mathlib.Core.Bool.{Bool, true, false, cond}
 use mathlib.Core.List.{List}
 use mathlib.Core.Logic.{_↔_}
 use mathlib.Core.Path.{_≡_, refl, sym, ap, subst, _∙_}
@@ -47,12 +47,12 @@ pub data Late : Reading → Type 0 where
   refused : {n p : ℕ} → 6 ≤ n → n ≤ 10 → Late (Refused n p)
   read : {m : Message} → Late (Read m)
 
-late-choose : (b : Bool) {x y : Reading} → Late x → Late y → Late (choose b x y)
+late-choose : (b : Bool) {x y : Reading} → Late x → Late y → Late (cond b x y)
 late-choose true x y = x
 late-choose false x y = y
 
 -- a run of rows 8 and 9
-late-run : (a b : Bool) (p q : ℕ) {r : Reading} → Late r → Late (unless (judge a (Fault 8 p) (judge b (Fault 9 q) Good)) r)
+late-run : (a b : Bool) (p q : ℕ) {r : Reading} → Late r → Late (unless (cond a (Fault 8 p) (cond b (Fault 9 q) Good)) r)
 late-run true b p q r = refused {n = 8} (omega arith) (omega arith)
 late-run false true p q r = refused {n = 9} (omega arith) (omega arith)
 late-run false false p q r = r
@@ -61,7 +61,7 @@ module _ (s : List ℕ) where
   late-checked : (run : Bool) (k : Setting) (t : List ℕ) {r : Reading} → Late r → Late (unless (checked s run k t) r)
   unfolding checked
   late-checked run k t r =
-      late-run (ltb 0 (missing run k t)) (ltb 0 (broken s run k t)) (missing run k t) (brokenPlace t (broken s run k t)) r
+      late-run (ltb 0 (missing run k t)) (ltb 0 (broken s run k t)) (missing run k t) (brokenPlace s k t (broken s run k t)) r
 
   late-agreed : (k : Setting) (t : List ℕ) → Late (agreed s k t)
   unfolding agreed

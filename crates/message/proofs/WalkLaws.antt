@@ -1,29 +1,33 @@
 -- One walk over a text of the usual shape: its beginning, one turn for each member, its end. The machine's answer is carried along from place to
 -- place, and beside it what is gathered so far; where the walk breaks off, the text has not the usual shape. Assumes nothing.
+use Rattle.message.specs.inner.Shaping.{Shaped}
+use Rattle.fields.specs.inner.Gathering.{endsOf, Ended}
 use Prim.Native.Nat.{ℕ, _+_, _-_, _≤_, _<_}
 use Rattle.json.proofs.AroundLaws.{value-around, one-ends}
 use Rattle.json.proofs.EndLaws.{ends-open}
 use Rattle.json.proofs.MoveLaws.{moves, alike, whole, trail, from-alone}
-use Rattle.json.proofs.PassLaws.{past-same, past-ink, passed-end, passed-none, none-passed, stuck-on, dead-end, arr-end, obj-end, PassedString, string-passed, string-stuck, PassedMember}
+use Rattle.json.proofs.PassLaws.{past-same, past-ink, passed-end, passed-none, none-passed, stuck-on, dead-end, arr-end, obj-end, PassedString, string-passed, string-stuck}
+use Rattle.json.proofs.PassLaws.{PassedMember}
 use Rattle.json.proofs.PlaceLaws.{closing-is, raw-is, past-low, past-inner}
-use Rattle.json.proofs.StepLaws.{ws-value, ws-first, ws-name, ws-name₁, ws-text, ws-arr, value-arr, value-obj, first-value, arr-comma, arr-close, arr-miss, name-miss, name₁-name, obj-comma, obj-close}
-use Rattle.json.specs.Machine.{alone, text, arr, obj, value, first, name, name₁, after, live, isWs, from, answer, one, onward}
-use Rattle.json.specs.Passing.{isEnd, passed}
-use Rattle.json.specs.Places.{pickN, pickL, past, behind, part, valueOf, follows, more, members, membersFrom}
+use Rattle.json.proofs.StepLaws.{ws-value, ws-first, ws-name, ws-name₁, ws-text, ws-arr, value-arr, value-obj, first-value, arr-comma, arr-close, arr-miss, name-miss, name₁-name}
+use Rattle.json.proofs.StepLaws.{obj-comma, obj-close}
+use Rattle.json.specs.inner.Machine.{alone, text, arr, obj, value, first, name, name₁, after, live, from, answer, one, onward}
+use Rattle.json.specs.inner.Passing.{isEnd, passed}
+use Rattle.json.specs.Places.{past, behind, part, valueOf, follows, more, members, membersFrom, isWs}
 use Rattle.json.specs.declared.Walked.the-variants.{End, Bad, Deep}
 use Rattle.json.specs.declared.Walked.{Walked}
-use Rattle.message.proofs.GatherLaws.{Sofar, started, over, repeats, goes-on, no-more, one-more, comma, no-comma, has-is, note-is, number-is, no-ends, note-ends, ends-known, there}
+use Rattle.fields.proofs.GatherLaws.{Sofar, started, over, repeats, goes-on, no-more, one-more, comma, no-comma, has-is, note-is, number-is, no-ends, note-ends, ends-known, there}
 use Rattle.message.proofs.ShapeLaws.{no-array, no-tag, one-alone, no-object, three, a-pair, object-opens, tag-few}
-use Rattle.message.specs.Known.{numberAt, empty, noted, repeated, endsOf, Ended}
+use Rattle.fields.specs.Known.{numberAt, empty, noted, repeated}
 use Rattle.message.specs.Reading.{judged, known, shaped, onJson}
-use Rattle.message.specs.Shape.{tagOf, objectOf, Shaped}
-use Rattle.message.specs.Walk.{isOnce, isUsual, fieldsOf, isListed, Begins, Begun, Listed, Usual}
+use Rattle.message.specs.Shape.{tagOf, objectOf}
+use Rattle.message.specs.inner.Walk.{isOnce, isUsual, fieldsOf, isListed, Begins, Begun, Listed, Usual}
 use Rattle.rules.specs.Names.{fields, tags}
-use Rattle.rules.specs.Pieces.{placeOf}
+use Rattle.rules.specs.Pieces.{wordNumber}
 use borrow.Author.Tests.{ne-eqb, lt-ltb, ltb-true, ltb-false, eqb-true}
 use lib.Dec.{eqb, ltb}
 use lib.ListN.{length, getD, set}
-use mathlib.Core.Bool.{Bool, true, false, _&&_}
+use mathlib.Core.Bool.{Bool, true, false, _&&_, cond}
 use mathlib.Core.List.{List, [], _∷_}
 use mathlib.Core.Logic.{_⊎_, inl, inr}
 use mathlib.Core.Path.{_≡_, refl, sym, ap, _∙_}
@@ -102,7 +106,7 @@ module _ {s : List ℕ} {o : ℕ} {at end : List ℕ} {n p : ℕ} (f : Walking s
     no-member e = stuck s o (ap isEnd (f .json ∙ ap (λ (i : ℕ). from s i name (obj (alone 7))) (sym at-q)) ∙ e)
 
     module _ (more-turns : 0 < n) (late : 0 < p) (quote : getD s q 0 ≡ 34) {e v w t : ℕ} (m : PassedMember s q 6 e v w t)
-        {x : List ℕ} {k : ℕ} (called : x ≡ part s (q + 1) (e - 1)) (numbered : k ≡ placeOf fields x) {r : Bool} (seen : r ≡ (ltb 0 k && ltb 0 (getD at k 0))) where
+        {x : List ℕ} {k : ℕ} (called : x ≡ part s (q + 1) (e - 1)) (numbered : k ≡ wordNumber fields x) {r : Bool} (seen : r ≡ (ltb 0 k && ltb 0 (getD at k 0))) where
       number : k ≡ numberAt fields s q
       number = number-is fields s q (called ∙ raw-is s q (closing-is s q (m .row .named))) numbered
 
@@ -128,7 +132,7 @@ module _ {s : List ℕ} {o : ℕ} {at end : List ℕ} {n p : ℕ} (f : Walking s
           by (inl z) = h z
           by (inr z) = g z
 
-      module _ (new : r ≡ false) {at′ end′ : List ℕ} (put : at′ ≡ pickL (eqb k 0) at (set at k v)) (put-end : end′ ≡ pickL (eqb k 0) end (set end k w)) where
+      module _ (new : r ≡ false) {at′ end′ : List ℕ} (put : at′ ≡ cond (eqb k 0) at (set at k v)) (put-end : end′ ≡ cond (eqb k 0) end (set end k w)) where
         next-ends : end′ ≡ endsOf s at′
         next-ends =
             let l = q-late in
@@ -237,7 +241,7 @@ module _ (s : List ℕ) {o : ℕ} (at-o : o ≡ past s 0) where
                 let h = there s c 43 more-one in
                 untagged s (no-object s at-o at-x (length s) refl (omega arith) quote at-follow more-one (let l = early in omega arith) at-y ne .untagged)
 
-            module _ (object : getD s y 0 ≡ 123) {u : List ℕ} {tag : ℕ} (called : u ≡ part s (x + 1) (e - 1)) (numbered : tag ≡ placeOf tags u) where
+            module _ (object : getD s y 0 ≡ 123) {u : List ℕ} {tag : ℕ} (called : u ≡ part s (x + 1) (e - 1)) (numbered : tag ≡ wordNumber tags u) where
               begun : Begun s tag y
               begun =
                   let h = there s c 43 more-one in
@@ -288,7 +292,7 @@ module _ {s : List ℕ} {tag o e : ℕ} {t es : List ℕ} (some : 0 < tag) (b : 
   unfolding isListed
   fields-unusual z = by (ltb 0 (passed 7 s o)) (isOnce s (members s o)) refl refl (sym (l .behind) ∙ z)
     where
-      by : (x y : Bool) → ltb 0 (passed 7 s o) ≡ x → isOnce s (members s o) ≡ y → pickN (ltb 0 (passed 7 s o) && isOnce s (members s o)) (passed 7 s o) 0 ≡ 0 → isUsual s ≡ false
+      by : (x y : Bool) → ltb 0 (passed 7 s o) ≡ x → isOnce s (members s o) ≡ y → cond (ltb 0 (passed 7 s o) && isOnce s (members s o)) (passed 7 s o) 0 ≡ 0 → isUsual s ≡ false
       by true true g h k = let w : passed 7 s o ≡ 0 = rw (g, h) at k in absurd (omega (arith, ltb-true 0 (passed 7 s o) g))
       by true false g h k =
           by-comma (isUsual s ≡ false) (untagged s) (λ p. not-listed s (let q = object-opens s p some in rw (← q) h))
@@ -302,7 +306,7 @@ module _ {s : List ℕ} {tag o e : ℕ} {t es : List ℕ} (some : 0 < tag) (b : 
     unfolding isListed
     is-listed = by (isListed s o) refl (l .behind)
       where
-        by : (x : Bool) → isListed s o ≡ x → e ≡ pickN x (passed 7 s o) 0 → (passed 7 s o ≡ e) × (isOnce s (members s o) ≡ true)
+        by : (x : Bool) → isListed s o ≡ x → e ≡ cond x (passed 7 s o) 0 → (passed 7 s o ≡ e) × (isOnce s (members s o) ≡ true)
         by true g h = (sym h, and-true (ltb 0 (passed 7 s o)) (isOnce s (members s o)) g .1)
         by false g h = absurd (omega arith)
 
@@ -368,7 +372,7 @@ module _ {s : List ℕ} {tag : ℕ} {t es : List ℕ} (u : Usual s tag t es) (so
   is-usual : isUsual s ≡ true
   is-usual = by (isUsual s) refl (u .tagged)
     where
-      by : (x : Bool) → isUsual s ≡ x → tag ≡ pickN x (tagOf s) 0 → isUsual s ≡ true
+      by : (x : Bool) → isUsual s ≡ x → tag ≡ cond x (tagOf s) 0 → isUsual s ≡ true
       by true e f = e
       by false e f = absurd (omega arith)
 

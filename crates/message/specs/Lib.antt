@@ -1,13 +1,6 @@
-pub mod Value
-pub mod Known
-pub mod Spans
-pub mod Via
-pub mod Route
-pub mod Field
 pub mod Checks
 pub mod Shape
-pub mod Walk
 pub mod Message
 pub mod Parties
-pub mod Hop
 pub mod Reading
+pub mod inner

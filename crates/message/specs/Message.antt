@@ -1,17 +1,21 @@
 -- What is read of a message (01 Reading): facts, each a function of the text s and of the places t of its known fields; and row 10, where
 -- fields disagree. Assumes nothing.
 use Prim.Native.Nat.{ℕ, _+_, _<_}
-use Rattle.json.specs.Places.{pickN, bytes}
-use Rattle.message.specs.Route.{noRoute, routeIn, moved}
-use Rattle.message.specs.Spans.{textAt, spanIn, nowhere, textSpan}
+use Rattle.json.specs.Places.{bytes}
+use Rattle.fields.specs.Trail.{noTrail, trailIn, moved}
+use Rattle.fields.specs.Spans.{textAt, spanIn, nowhere, textSpan}
 use Rattle.message.specs.declared.facts.Message.{Message}
-use Rattle.message.specs.declared.facts.Span.{Span}
-use Rattle.message.specs.declared.fields.Setting.{Setting}
+use Rattle.fields.specs.declared.spans.Span.{Span}
+use Rattle.fields.specs.declared.judging.Setting.{Setting}
 use Rattle.rules.specs.Address.{addressOf}
-use Rattle.rules.specs.Pieces.{placeOf}
+use Rattle.octets.specs.Ascii.{ascii}
+use Rattle.octets.specs.Text.{same}
+use Rattle.rules.specs.Numbers.{contentText, fieldCSeq, fieldCallId, fieldCallMode, fieldContentType, fieldFrom, fieldRequestService, fieldSecureCall, fieldStatus, fieldTo}
+use Rattle.rules.specs.Numbers.{fieldVia, methodAck, methodCallback, methodCancel, methodInvite, methodMessage, methodNotify, methodRefer, tagRequest, tagResponse}
+use Rattle.rules.specs.Pieces.{wordNumber}
 use Rattle.rules.specs.Sequence.{sequenceOf}
 use Rattle.rules.specs.Status.{statusOf}
-use Rattle.rules.specs.Words.{contentTypes, callModes, truths, services}
+use Rattle.rules.specs.Words.{contentTypes}
 use Rattle.rules.specs.declared.addresses.Address.the-variants as addresses
 use Rattle.rules.specs.declared.addresses.Address.{Address}
 use Rattle.rules.specs.declared.sequences.Sequence.the-variants as sequences
@@ -20,7 +24,7 @@ use Rattle.rules.specs.declared.statuses.Status.the-variants as statuses
 use Rattle.rules.specs.declared.statuses.Status.{Status}
 use lib.Dec.{eqb}
 use lib.ListN.{getD}
-use mathlib.Core.Bool.{Bool, true, false, not, _&&_, _||_}
+use mathlib.Core.Bool.{Bool, true, false, not, _&&_, _||_, cond}
 use mathlib.Core.List.{List}
 use mathlib.Core.Path.{_≡_}
 
@@ -49,32 +53,36 @@ codeIn (statuses.Code n) = n
 codeIn statuses.Broken = 0
 
 unfoldable pub numberOf : List ℕ → List ℕ → ℕ
-numberOf s t = numberIn (sequenceOf (fieldText s t 1))
+numberOf s t = numberIn (sequenceOf (fieldText s t fieldCSeq))
 
 unfoldable pub methodOf : List ℕ → List ℕ → ℕ
-methodOf s t = methodIn (sequenceOf (fieldText s t 1))
+methodOf s t = methodIn (sequenceOf (fieldText s t fieldCSeq))
 
 unfoldable pub fromCaller : List ℕ → List ℕ → Bool
-fromCaller s t = callerIn (addressOf (fieldText s t 3))
+fromCaller s t = callerIn (addressOf (fieldText s t fieldFrom))
 
 unfoldable pub toCaller : List ℕ → List ℕ → Bool
-toCaller s t = callerIn (addressOf (fieldText s t 2))
+toCaller s t = callerIn (addressOf (fieldText s t fieldTo))
 
 -- the number of the Content-Type at v, 0 where there is none
 unfoldable pub contentAt : List ℕ → ℕ → ℕ
-contentAt s v = pickN (eqb v 0) 0 (placeOf contentTypes (textAt s v))
+contentAt s v = cond (eqb v 0) 0 (wordNumber contentTypes (textAt s v))
 
 -- the code of the Status at v, of a response; a request has none
 unfoldable pub codeOf : List ℕ → ℕ → ℕ → ℕ
-codeOf s tag v = pickN (eqb tag 2) (codeIn (statusOf (textAt s v))) 0
+codeOf s tag v = cond (eqb tag tagResponse) (codeIn (statusOf (textAt s v))) 0
 
 -- the Secure-Call at v, of an INVITE request
 unfoldable pub secureOf : List ℕ → Setting → ℕ → Bool
-secureOf s k v = (eqb (k .tag) 1 && eqb (k .method) 1) && eqb (placeOf truths (bytes s v)) 2
+secureOf s k v = (eqb (k .tag) tagRequest && eqb (k .method) methodInvite) && same (bytes s v) (ascii "true")
 
--- what the rules of a request or a response see besides their value
+-- what the rules see besides their value on the run of the tag: no method and no Content-Type yet
+abbrev pub first : ℕ → Setting
+first tag = record { tag = tag; method = 0; content = 0 }
+
+-- what the rules of a request or a response see on the run of its method
 unfoldable pub settingOf : List ℕ → ℕ → List ℕ → Setting
-settingOf s tag t = record { tag = tag; method = methodOf s t; content = contentAt s (getD t 9 0) }
+settingOf s tag t = record { tag = tag; method = methodOf s t; content = contentAt s (getD t fieldContentType 0) }
 
 -- Row 10.
 
@@ -85,11 +93,12 @@ sameSide from to = (from && to) || (not from && not to)
 -- INVITE, CANCEL, ACK, NOTIFY not from a caller; CALLBACK, REFER not from a callee
 unfoldable pub wrongSide : ℕ → Bool → Bool
 wrongSide m from =
-    ((eqb m 1 || (eqb m 3 || (eqb m 4 || eqb m 8))) && not from) || ((eqb m 6 || eqb m 7) && from)
+    ((eqb m methodInvite || (eqb m methodCancel || (eqb m methodAck || eqb m methodNotify))) && not from)
+    || ((eqb m methodCallback || eqb m methodRefer) && from)
 
 -- CALLBACK numbered other than 1
 unfoldable pub wrongNumber : ℕ → ℕ → Bool
-wrongNumber m n = eqb m 6 && not (eqb n 1)
+wrongNumber m n = eqb m methodCallback && not (eqb n 1)
 
 -- what binds requests and responses: the sides, and CALLBACK's 1
 unfoldable pub sidesDisagree : ℕ → ℕ → Bool → Bool → Bool
@@ -97,30 +106,24 @@ sidesDisagree m n from to = sameSide from to || (wrongSide m from || wrongNumber
 
 -- the Request-Service at v is `callback`, and the Call-Mode at w `training`
 unfoldable pub callbackTraining : List ℕ → ℕ → ℕ → Bool
-callbackTraining s v w = eqb (placeOf services (textAt s v)) 4 && eqb (placeOf callModes (textAt s w)) 2
+callbackTraining s v w = same (textAt s v) (ascii "callback") && same (textAt s w) (ascii "training")
 
 -- what only a request can have: an INVITE with these two; a callee's MESSAGE not `text/plain`
 unfoldable pub requestDisagrees : List ℕ → Setting → List ℕ → Bool → Bool
 requestDisagrees s k t from =
-    (eqb (k .method) 1 && callbackTraining s (getD t 19 0) (getD t 15 0)) || (eqb (k .method) 5 && (not from && not (eqb (k .content) 1)))
+    (eqb (k .method) methodInvite && callbackTraining s (getD t fieldRequestService 0) (getD t fieldCallMode 0))
+    || (eqb (k .method) methodMessage && (not from && not (eqb (k .content) contentText)))
 
 -- what only a response can have: status 202 outside REFER
 unfoldable pub responseDisagrees : ℕ → ℕ → Bool
-responseDisagrees code m = eqb code 202 && not (eqb m 7)
+responseDisagrees code m = eqb code 202 && not (eqb m methodRefer)
 
 -- fields disagree
 unfoldable pub disagrees : List ℕ → Setting → List ℕ → Bool
 disagrees s k t =
     sidesDisagree (k .method) (numberOf s t) (fromCaller s t) (toCaller s t)
-    || ((eqb (k .tag) 1 && requestDisagrees s k t (fromCaller s t))
-    || (eqb (k .tag) 2 && responseDisagrees (codeOf s (k .tag) (getD t 7 0)) (k .method)))
-
--- What is taken from CSeq, Status, From and To once for the rest.
-pub record Taken (s : List ℕ) (k : Setting) (t : List ℕ) (number code : ℕ) (from to : Address) : Type 0 where
-  pub numbered : number ≡ numberOf s t
-  pub coded : code ≡ codeOf s (k .tag) (getD t 7 0)
-  pub sent : from ≡ addressOf (fieldText s t 3)
-  pub meant : to ≡ addressOf (fieldText s t 2)
+    || ((eqb (k .tag) tagRequest && requestDisagrees s k t (fromCaller s t))
+    || (eqb (k .tag) tagResponse && responseDisagrees (codeOf s (k .tag) (getD t fieldStatus 0)) (k .method)))
 
 -- Where the texts stand that name the parties.
 
@@ -140,31 +143,15 @@ calleeSpan v (addresses.Caller user fire) = nowhere
 calleeSpan v (addresses.Callee fire) = spanIn v 12 fire
 calleeSpan v addresses.Broken = nowhere
 
--- the parts of an address at v stand within the numbers of 64 bits
-abbrev pub Held : ℕ → Address → Type 0
-Held v (addresses.Caller user fire) = (7 < user) × ((user + 2 < fire) × (v + 1 + fire < 18446744073709551616))
-Held v (addresses.Callee fire) = (13 < fire) × (v + 1 + fire < 18446744073709551616)
-Held v addresses.Broken = Unit
-
--- where the texts of the two parties stand: the caller's address is a, at v, and the callee's b, at w
-pub record PartiesOf (v : ℕ) (a : Address) (w : ℕ) (b : Address) (user callerfire calleefire : Span) : Type 0 where
-  pub users : user ≡ userSpan v a
-  pub callers : callerfire ≡ callerSpan v a
-  pub callees : calleefire ≡ calleeSpan w b
-
-abbrev pub pickA : Bool → Address → Address → Address
-pickA true a b = a
-pickA false a b = b
-
 -- where the caller's address stands, From if the message is from a caller, else To; and the callee's, the other one
 unfoldable pub callerAt : Bool → List ℕ → ℕ
-callerAt from t = pickN from (getD t 3 0) (getD t 2 0)
+callerAt from t = cond from (getD t fieldFrom 0) (getD t fieldTo 0)
 
 unfoldable pub calleeAt : Bool → List ℕ → ℕ
-calleeAt from t = pickN from (getD t 2 0) (getD t 3 0)
+calleeAt from t = cond from (getD t fieldTo 0) (getD t fieldFrom 0)
 
 -- The message: the facts that the keeper and the writer go by, the places of the five values that a reply copies, where the texts stand
--- that name the call and its parties, and the route, by places of the message.
+-- that name the call and its parties, and the trail, by places of the message.
 
 unfoldable pub messageOf : List ℕ → Setting → List ℕ → Message
 messageOf s k t =
@@ -172,19 +159,19 @@ messageOf s k t =
       tag = k .tag;
       method = k .method;
       number = numberOf s t;
-      status = codeOf s (k .tag) (getD t 7 0);
+      status = codeOf s (k .tag) (getD t fieldStatus 0);
       caller = fromCaller s t;
-      secure = secureOf s k (getD t 17 0);
-      cseq = getD t 1 0;
-      to = getD t 2 0;
-      from = getD t 3 0;
-      call = getD t 5 0;
-      via = getD t 6 0;
-      callid = textSpan s (getD t 5 0);
+      secure = secureOf s k (getD t fieldSecureCall 0);
+      cseq = getD t fieldCSeq 0;
+      to = getD t fieldTo 0;
+      from = getD t fieldFrom 0;
+      call = getD t fieldCallId 0;
+      via = getD t fieldVia 0;
+      callid = textSpan s (getD t fieldCallId 0);
       user = userSpan (callerAt (fromCaller s t) t) (addressOf (textAt s (callerAt (fromCaller s t) t)));
       callerfire = callerSpan (callerAt (fromCaller s t) t) (addressOf (textAt s (callerAt (fromCaller s t) t)));
       calleefire = calleeSpan (calleeAt (fromCaller s t) t) (addressOf (textAt s (calleeAt (fromCaller s t) t)));
-      route = moved (getD t 6 0) (routeIn (bytes s (getD t 6 0)));
+      trail = moved (getD t fieldVia 0) (trailIn (bytes s (getD t fieldVia 0)));
     }
 
 -- a ping or a pong
@@ -206,5 +193,5 @@ probeOf tag =
       user = nowhere;
       callerfire = nowhere;
       calleefire = nowhere;
-      route = noRoute;
+      trail = noTrail;
     }

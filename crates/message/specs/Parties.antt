@@ -1,14 +1,9 @@
 -- The texts that name a call and its two parties (01 Reading, To and From; 01 Events, 21): what the layers above compare and store of a
 -- message m that was read of s. They stand where `messageOf` says. Total on any text and any facts. Assumes nothing.
 use Prim.Native.Nat.{ℕ}
-use Rattle.json.specs.Places.{part}
+use Rattle.fields.specs.Spans.{cut}
 use Rattle.message.specs.declared.facts.Message.{Message}
-use Rattle.message.specs.declared.facts.Span.{Span}
 use mathlib.Core.List.{List}
-
--- the bytes of s at a span
-unfoldable pub cut : List ℕ → Span → List ℕ
-cut s x = part s (x .start) (x .end)
 
 -- the Call-ID
 unfoldable pub callIdOf : List ℕ → Message → List ℕ

@@ -1,14 +1,15 @@
 // 01 Reading, rows 8 and 9, on a run of fields: what a tag asks for, or what a request's method asks for.
-use crate::fields::Setting;
-use crate::fields::keeps_rule;
-use crate::values::value_at;
+use fields::Judged;
+use fields::Setting;
+use fields::judge;
+use fields::value_at;
+use rules::REQUIRED;
+use rules::UNLISTED;
+ghost use Rattle.fields.specs.inner.Gathering.{Ended};
 ghost use mathlib.Core.Path.{_≡_};
-ghost use Prim.Native.Nat.{_<_};
-ghost use Rattle.message.specs.Known.{Ended};
-ghost use lib.ListN.{getD};
-ghost use Rattle.json.specs.Places.{bytes};
-ghost use Rattle.message.specs.Via.{viaRule};
-ghost use Rattle.message.specs.Checks.{asks, breaks, broken, checked, lacks, missing};
+ghost use Prim.Native.Nat.{_+_, _<_};
+ghost use Rattle.message.specs.Checks.{asks, lacks, missing};
+ghost use Rattle.message.specs.inner.Facts.{nineFrom, ofField};
 
 // What a run of rows 8 and 9 finds: nothing, or a number with its place.
 pub enum Check {
@@ -37,11 +38,11 @@ fn is_lacking(run: bool, k: Setting, at: &[usize; 27], n: usize) -> bool
     if at[n] != 0 {
         return false;
     }
-    asks(run, k, n) == 1
+    asks(run, k, n) == REQUIRED
 }
 
 // The lowest field that is missing, or 0.
-fn lacking(run: bool, k: Setting, at: &[usize; 27]) -> usize
+pub fn lacking(run: bool, k: Setting, at: &[usize; 27]) -> usize
     requires { ⌜ (k .tag < 5) × (k .method < 9) ⌝ }
     ensures { λ r. ⌜ (r ≡ missing run k (now (at .entry))) × (r < 27) ⌝ }
 {
@@ -55,71 +56,49 @@ fn lacking(run: bool, k: Setting, at: &[usize; 27]) -> usize
     0
 }
 
-// Whether field n is listed and there, and breaks its rule.
-fn is_broken(
+// What row 9 says of field n, from 4 on: that it breaks its rule, if it is listed and there and does.
+fn judge_field(
     s: &[u8],
     run: bool,
     k: Setting,
     at: &[usize; 27],
     end: &[usize; 27],
-    kept: bool,
     n: usize,
-) -> bool
-    requires { ⌜ (k .tag < 5) × ((k .method < 9) × ((n < 27) × (Ended (now s) (now at) (now end) × (kept ≡ viaRule (bytes (now s) (getD (now at) 6 0)))))) ⌝ }
-    ensures { λ r. ⌜ r ≡ breaks (now (s .entry)) run k (now (at .entry)) n ⌝ }
+) -> Judged
+    requires { ⌜ (k .tag < 5) × ((k .method < 9) × ((3 < n) × ((n < 27) × Ended (now s) (now at) (now end)))) ⌝ }
+    ensures { λ r. ⌜ r ≡ ofField (now (s .entry)) run k (now (at .entry)) n ⌝ }
 {
     let v = at[n];
     if v == 0 {
-        return false;
+        return Judged::Kept;
     }
-    if asks(run, k, n) == 0 {
-        return false;
+    if asks(run, k, n) == UNLISTED {
+        return Judged::Kept;
     }
     let e = end[n];
-    !keeps_rule(k, n, value_at(s, v, e), kept)
+    judge(k, n, value_at(s, v, e))
 }
 
-// The lowest field that breaks its rule, or 0.
-fn breaking(
-    s: &[u8],
-    run: bool,
-    k: Setting,
-    at: &[usize; 27],
-    end: &[usize; 27],
-    kept: bool,
-) -> usize
-    requires { ⌜ (k .tag < 5) × ((k .method < 9) × (Ended (now s) (now at) (now end) × (kept ≡ viaRule (bytes (now s) (getD (now at) 6 0))))) ⌝ }
-    ensures { λ r. ⌜ (r ≡ broken (now (s .entry)) run k (now (at .entry))) × (r < 27) ⌝ }
+// The place p of the value at v: a fault stands at a value's first byte, so the sum stays in bounds.
+pub fn place_in(v: usize, p: usize) -> usize
+    requires { ⌜ p ≡ 0 ⌝ }
+    ensures { λ r. ⌜ r ≡ v + p ⌝ }
 {
-    let mut n: usize = 1;
+    v + p
+}
+
+// Row 9 on a run that asks for none of the fields 1 to 3.
+pub fn breaking(s: &[u8], run: bool, k: Setting, at: &[usize; 27], end: &[usize; 27]) -> Check
+    requires { ⌜ (k .tag < 5) × ((k .method < 9) × (Ended (now s) (now at) (now end) × (nineFrom (now s) run k (now at) 1 ≡ nineFrom (now s) run k (now at) 4))) ⌝ }
+    ensures { λ r. ⌜ r ≡ nineFrom (now (s .entry)) run k (now (at .entry)) 1 ⌝ }
+{
+    let mut n: usize = 4;
     while n < 27 {
-        if is_broken(s, run, k, at, end, kept, n) {
-            return n;
+        let j = judge_field(s, run, k, at, end, n);
+        if let Judged::Broken(p) = j {
+            return Check::Fault(9, place_in(at[n], p));
         }
         n += 1;
-    }
-    0
-}
-
-// Rows 8 and 9 on a run; `kept` says whether Via keeps its rule.
-pub fn check_run(
-    s: &[u8],
-    run: bool,
-    k: Setting,
-    at: &[usize; 27],
-    end: &[usize; 27],
-    kept: bool,
-) -> Check
-    requires { ⌜ (k .tag < 5) × ((k .method < 9) × (Ended (now s) (now at) (now end) × (kept ≡ viaRule (bytes (now s) (getD (now at) 6 0))))) ⌝ }
-    ensures { λ r. ⌜ r ≡ checked (now (s .entry)) run k (now (at .entry)) ⌝ }
-{
-    let m = lacking(run, k, at);
-    if m != 0 {
-        return Check::Fault(8, m);
-    }
-    let b = breaking(s, run, k, at, end, kept);
-    if b != 0 {
-        return Check::Fault(9, at[b]);
     }
     Check::Good
 }

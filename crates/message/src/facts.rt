@@ -1,42 +1,58 @@
 // What is read of a message, and row 10, where fields disagree (01 Reading).
-use crate::fields::Setting;
-use crate::values::text_at;
-use crate::values::value_at;
+use fields::Setting;
+use fields::Span;
+use fields::Trail;
+use fields::no_trail;
+use fields::text_at;
+use fields::text_span;
+use fields::value_at;
 use octets::and;
 use octets::or;
-ghost use mathlib.Core.Bool.{_&&_};
+use octets::same;
+use rules::ACK;
+use rules::CALL_ID;
+use rules::CALL_MODE;
+use rules::CALLBACK;
+use rules::CANCEL;
+use rules::CONTENT_TYPE;
+use rules::CSEQ;
+use rules::FROM;
+use rules::INVITE;
+use rules::MESSAGE;
+use rules::NOTIFY;
+use rules::REFER;
+use rules::REQUEST;
+use rules::REQUEST_SERVICE;
+use rules::RESPONSE;
+use rules::SECURE_CALL;
+use rules::TEXT_CONTENT;
+use rules::TO;
+use rules::VIA;
+ghost use Rattle.fields.specs.inner.Asked.{Within};
+ghost use Rattle.fields.specs.inner.Gathering.{Ended};
+ghost use mathlib.Core.Bool.{_&&_, cond};
 ghost use mathlib.Core.Path.{_≡_};
 ghost use Prim.Native.Nat.{_<_, _+_, _-_};
 ghost use lib.Dec.{eqb};
 ghost use lib.ListN.{getD};
-ghost use Rattle.json.specs.Places.{behind, bytes, pickN};
-ghost use Rattle.message.specs.Known.{Ended};
-ghost use Rattle.message.specs.Message.{Held, PartiesOf, Taken, calleeSpan, callerSpan, callbackTraining, callerIn, codeIn, codeOf, disagrees, contentAt, messageOf, pickA, methodIn, methodOf, numberIn, probeOf, requestDisagrees, responseDisagrees, sameSide, secureOf, sidesDisagree, settingOf, userSpan, wrongNumber, wrongSide};
-ghost use Rattle.message.specs.Spans.{textAt, textSpan};
-ghost use Rattle.message.specs.Route.{Within, moved, noRoute, routeIn};
-ghost use Rattle.rules.specs.Address.{addressOf};
-ghost use Rattle.rules.specs.Sequence.{sequenceOf};
-ghost use Rattle.rules.specs.Status.{statusOf};
+ghost use Rattle.json.specs.Places.{behind};
+ghost use Rattle.message.specs.Message.{calleeSpan, callerSpan, callbackTraining, callerIn, contentAt, disagrees, messageOf, methodOf, probeOf, requestDisagrees, responseDisagrees, sameSide, secureOf, sidesDisagree, settingOf, userSpan, wrongNumber, wrongSide};
+ghost use Rattle.message.specs.inner.Facts.{FactsOf, PartiesOf, Placed};
+ghost use Rattle.fields.specs.Trail.{moved};
 
-// Where a text stands, in the message or in the bytes of a value: from `start` up to `end`.
-pub struct Span {
-    pub start: usize,
-    pub end: usize,
+// What the fields 1 to 7 tell on the way through row 9: CSeq's number and method, To and From, Via's trail, a response's status code.
+pub struct Facts {
+    pub number: u32,
+    pub method: u8,
+    pub to: rules::Address,
+    pub from: rules::Address,
+    pub trail: Trail,
+    pub code: u16,
 }
 
-// What the writer goes by in Via: how many objects it has, where the last begins, where the last and the last but one end, and where the
-// host of the last but one stands. With one object alone the seam and the host are at Via's first byte; of a ping or a pong all is 0.
-pub struct Route {
-    pub count: usize,
-    pub last: usize,
-    pub end: usize,
-    pub seam: usize,
-    pub host: Span,
-}
-
-// The facts that the keeper and the writer go by: the tag (1 request, 2 response, 3 ping, 4 pong), the method's code, CSeq's number, a
+// The facts that the keeper and the writer go by: the tag, the method's code, CSeq's number, a
 // response's status code, whether it is from a caller, Secure-Call of an INVITE, where the five values stand that a reply copies, where
-// the texts stand that name the call and its parties, and the route.
+// the texts stand that name the call and its parties, and the trail.
 pub struct Message {
     pub tag: u8,
     pub method: u8,
@@ -53,7 +69,7 @@ pub struct Message {
     pub user: Span,
     pub callerfire: Span,
     pub calleefire: Span,
-    pub route: Route,
+    pub trail: Trail,
 }
 
 // From and To on the same side.
@@ -67,23 +83,18 @@ fn same_side(from: bool, to: bool) -> bool
 fn wrong_side(m: u8, from: bool) -> bool
     ensures { λ r. ⌜ r ≡ wrongSide m from ⌝ }
 {
-    let inviting = or(m == 1, or(m == 3, or(m == 4, m == 8)));
-    or(and(inviting, !from), and(or(m == 6, m == 7), from))
+    let inviting = or(m == INVITE, or(m == CANCEL, or(m == ACK, m == NOTIFY)));
+    or(
+        and(inviting, !from),
+        and(or(m == CALLBACK, m == REFER), from),
+    )
 }
 
 // CALLBACK numbered other than 1.
 fn wrong_number(m: u8, n: u32) -> bool
     ensures { λ r. ⌜ r ≡ wrongNumber m n ⌝ }
 {
-    and(m == 6, !(n == 1))
-}
-
-// The address at v, which ends at e.
-pub fn address_at(s: &[u8], v: usize, e: usize) -> rules::Address
-    requires { ⌜ (0 < e → e ≡ behind (now s) v) ⌝ }
-    ensures { λ r. ⌜ r ≡ addressOf (textAt (now (s .entry)) v) ⌝ }
-{
-    rules::address_of(text_at(s, v, e))
+    and(m == CALLBACK, !(n == 1))
 }
 
 // Whether an address is a caller's.
@@ -94,17 +105,6 @@ fn side_of(a: rules::Address) -> bool
         rules::Address::Caller(_, _) => true,
         rules::Address::Callee(_) => false,
         rules::Address::Broken => false,
-    }
-}
-
-// The code of the Status at v.
-fn code_at(s: &[u8], v: usize, e: usize) -> u16
-    requires { ⌜ (0 < e → e ≡ behind (now s) v) ⌝ }
-    ensures { λ r. ⌜ r ≡ codeIn (statusOf (textAt (now (s .entry)) v)) ⌝ }
-{
-    match rules::status_of(text_at(s, v, e)) {
-        rules::Status::Code(n) => n,
-        rules::Status::Broken => 0,
     }
 }
 
@@ -125,8 +125,11 @@ fn is_callback_training(s: &[u8], at: &[usize; 27], end: &[usize; 27]) -> bool
     ensures { λ r. ⌜ r ≡ callbackTraining (now (s .entry)) (getD (now (at .entry)) 19 0) (getD (now (at .entry)) 15 0) ⌝ }
 {
     and(
-        rules::service(text_at(s, at[19], end[19])) == 4,
-        rules::call_mode(text_at(s, at[15], end[15])) == 2,
+        same(
+            text_at(s, at[REQUEST_SERVICE], end[REQUEST_SERVICE]),
+            b"callback",
+        ),
+        same(text_at(s, at[CALL_MODE], end[CALL_MODE]), b"training"),
     )
 }
 
@@ -138,20 +141,20 @@ fn request_disagrees(s: &[u8], k: Setting, at: &[usize; 27], end: &[usize; 27], 
     let tag = k.tag;
     let method = k.method;
     let content = k.content;
-    if tag != 1 {
+    if tag != REQUEST {
         return false;
     }
-    if method == 1 {
+    if method == INVITE {
         return is_callback_training(s, at, end);
     }
-    and(method == 5, and(!from, !(content == 1)))
+    and(method == MESSAGE, and(!from, !(content == TEXT_CONTENT)))
 }
 
 // What only a response can have: status 202 outside REFER.
 fn response_disagrees(code: u16, method: u8) -> bool
     ensures { λ r. ⌜ r ≡ responseDisagrees code method ⌝ }
 {
-    and(code == 202, !(method == 7))
+    and(code == 202, !(method == REFER))
 }
 
 // What binds both: the sides, and CALLBACK's 1.
@@ -164,17 +167,6 @@ fn sides_disagree(method: u8, number: u32, from: bool, to: bool) -> bool
     )
 }
 
-// A response's status code; a request has none.
-pub fn code_of(s: &[u8], tag: u8, v: usize, e: usize) -> u16
-    requires { ⌜ (0 < e → e ≡ behind (now s) v) ⌝ }
-    ensures { λ r. ⌜ r ≡ codeOf (now (s .entry)) tag v ⌝ }
-{
-    if tag == 2 {
-        return code_at(s, v, e);
-    }
-    0
-}
-
 // Secure-Call of an INVITE request.
 fn secure_of(s: &[u8], k: Setting, v: usize, e: usize) -> bool
     requires { ⌜ (0 < e → e ≡ behind (now s) v) ⌝ }
@@ -182,30 +174,10 @@ fn secure_of(s: &[u8], k: Setting, v: usize, e: usize) -> bool
 {
     let tag = k.tag;
     let method = k.method;
-    if and(tag == 1, method == 1) {
-        return rules::secure_call(value_at(s, v, e)) == 2;
+    if and(tag == REQUEST, method == INVITE) {
+        return same(value_at(s, v, e), b"true");
     }
     false
-}
-
-// CSeq's number and method.
-pub struct Sequenced {
-    pub number: u32,
-    pub method: u8,
-}
-
-// The CSeq at v; 0 and 0 where it is broken.
-pub fn sequence_at(s: &[u8], v: usize, e: usize) -> Sequenced
-    requires { ⌜ (0 < e → e ≡ behind (now s) v) ⌝ }
-    ensures { λ r. ⌜ (r .number ≡ numberIn (sequenceOf (textAt (now (s .entry)) v))) × ((r .method ≡ methodIn (sequenceOf (textAt (now (s .entry)) v))) × (r .method < 9)) ⌝ }
-{
-    match rules::sequence_of(text_at(s, v, e)) {
-        rules::Sequence::Of(number, method) => Sequenced { number, method },
-        rules::Sequence::Broken => Sequenced {
-            number: 0,
-            method: 0,
-        },
-    }
 }
 
 // What the rules of a request or a response see besides their value.
@@ -216,51 +188,29 @@ pub fn setting_of(s: &[u8], tag: u8, method: u8, at: &[usize; 27], end: &[usize;
     Setting {
         tag,
         method,
-        content: content_at(s, at[9], end[9]),
+        content: content_at(s, at[CONTENT_TYPE], end[CONTENT_TYPE]),
     }
 }
 
 // Whether fields disagree.
-pub fn disagree(
-    s: &[u8],
-    k: Setting,
-    number: u32,
-    code: u16,
-    from: rules::Address,
-    to: rules::Address,
-    at: &[usize; 27],
-    end: &[usize; 27],
-) -> bool
-    requires { ⌜ Taken (now s) k (now at) number code from to × Ended (now s) (now at) (now end) ⌝ }
+pub fn disagree(s: &[u8], k: Setting, f: Facts, at: &[usize; 27], end: &[usize; 27]) -> bool
+    requires { ⌜ FactsOf (now s) (k .tag) (now at) f × Ended (now s) (now at) (now end) ⌝ }
     ensures { λ r. ⌜ r ≡ disagrees (now (s .entry)) k (now (at .entry)) ⌝ }
 {
     let tag = k.tag;
     let method = k.method;
+    let from = f.from;
+    let to = f.to;
     let sent = side_of(from);
-    let both = sides_disagree(method, number, sent, side_of(to));
+    let both = sides_disagree(method, f.number, sent, side_of(to));
     let request = request_disagrees(s, k, at, end, sent);
-    let response = and(tag == 2, response_disagrees(code, method));
+    let response = and(tag == RESPONSE, response_disagrees(f.code, method));
     or(both, or(request, response))
-}
-
-// The whole text of the value at v.
-pub fn text_span(s: &[u8], v: usize, e: usize) -> Span
-    requires { ⌜ (0 < e → e ≡ behind (now s) v) ⌝ }
-    ensures { λ r. ⌜ r ≡ textSpan (now (s .entry)) v ⌝ }
-{
-    if s.len() <= v {
-        return Span { start: 0, end: 0 };
-    }
-    let t = text_at(s, v, e);
-    Span {
-        start: v + 1,
-        end: v + 1 + t.len(),
-    }
 }
 
 // The user in the address a at v.
 fn user_span(v: usize, a: rules::Address) -> Span
-    requires { ⌜ Held v a ⌝ }
+    requires { ⌜ Placed v a ⌝ }
     ensures { λ r. ⌜ r ≡ userSpan v a ⌝ }
 {
     match a {
@@ -275,7 +225,7 @@ fn user_span(v: usize, a: rules::Address) -> Span
 
 // The caller's Fire-ID in the address a at v.
 fn caller_span(v: usize, a: rules::Address) -> Span
-    requires { ⌜ Held v a ⌝ }
+    requires { ⌜ Placed v a ⌝ }
     ensures { λ r. ⌜ r ≡ callerSpan v a ⌝ }
 {
     match a {
@@ -290,7 +240,7 @@ fn caller_span(v: usize, a: rules::Address) -> Span
 
 // The callee's Fire-ID in the address a at v.
 fn callee_span(v: usize, a: rules::Address) -> Span
-    requires { ⌜ Held v a ⌝ }
+    requires { ⌜ Placed v a ⌝ }
     ensures { λ r. ⌜ r ≡ calleeSpan v a ⌝ }
 {
     match a {
@@ -312,7 +262,7 @@ struct Parties {
 
 // The parties of the caller's address a at v and the callee's b at w.
 fn parties_of(v: usize, a: rules::Address, w: usize, b: rules::Address) -> Parties
-    requires { ⌜ Held v a × Held w b ⌝ }
+    requires { ⌜ Placed v a × Placed w b ⌝ }
     ensures { λ r. ⌜ PartiesOf v a w b (r .user) (r .callerfire) (r .calleefire) ⌝ }
 {
     Parties {
@@ -324,8 +274,8 @@ fn parties_of(v: usize, a: rules::Address, w: usize, b: rules::Address) -> Parti
 
 // The parties of From's address at v and To's at w: the caller's is From's where the message is from a caller.
 fn sorted(from: rules::Address, to: rules::Address, v: usize, w: usize) -> Parties
-    requires { ⌜ Held v from × Held w to ⌝ }
-    ensures { λ r. ⌜ PartiesOf (pickN (callerIn from) v w) (pickA (callerIn from) from to) (pickN (callerIn from) w v) (pickA (callerIn from) to from) (r .user) (r .callerfire) (r .calleefire) ⌝ }
+    requires { ⌜ Placed v from × Placed w to ⌝ }
+    ensures { λ r. ⌜ PartiesOf (cond (callerIn from) v w) (cond (callerIn from) from to) (cond (callerIn from) w v) (cond (callerIn from) to from) (r .user) (r .callerfire) (r .calleefire) ⌝ }
 {
     if side_of(from) {
         return parties_of(v, from, w, to);
@@ -333,26 +283,13 @@ fn sorted(from: rules::Address, to: rules::Address, v: usize, w: usize) -> Parti
     parties_of(w, to, v, from)
 }
 
-// No route.
-pub fn no_route() -> Route
-    ensures { λ r. ⌜ r ≡ noRoute ⌝ }
-{
-    Route {
-        count: 0,
-        last: 0,
-        end: 0,
-        seam: 0,
-        host: Span { start: 0, end: 0 },
-    }
-}
-
-// The route by the places of the message, in which Via begins at a.
-fn moved(a: usize, r: Route) -> Route
+// The trail by the places of the message, in which Via begins at a.
+fn moved(a: usize, r: Trail) -> Trail
     requires { ⌜ Within r (18446744073709551615 - a) ⌝ }
     ensures { λ m. ⌜ m ≡ moved a r ⌝ }
 {
     let host = r.host;
-    Route {
+    Trail {
         count: r.count,
         last: a + r.last,
         end: a + r.end,
@@ -365,47 +302,40 @@ fn moved(a: usize, r: Route) -> Route
 }
 
 // The message.
-pub fn message_of(
-    s: &[u8],
-    k: Setting,
-    number: u32,
-    code: u16,
-    from: rules::Address,
-    to: rules::Address,
-    at: &[usize; 27],
-    end: &[usize; 27],
-    route: Route,
-) -> Message
-    requires { ⌜ Taken (now s) k (now at) number code from to × (Ended (now s) (now at) (now end) × (route ≡ routeIn (bytes (now s) (getD (now at) 6 0)))) ⌝ }
+pub fn message_of(s: &[u8], k: Setting, f: Facts, at: &[usize; 27], end: &[usize; 27]) -> Message
+    requires { ⌜ FactsOf (now s) (k .tag) (now at) f × Ended (now s) (now at) (now end) ⌝ }
     ensures { λ r. ⌜ r ≡ messageOf (now (s .entry)) k (now (at .entry)) ⌝ }
 {
     let tag = k.tag;
     let method = k.method;
+    let from = f.from;
+    let to = f.to;
+    let trail = f.trail;
     let caller = side_of(from);
-    let secure = secure_of(s, k, at[17], end[17]);
-    let callid = text_span(s, at[5], end[5]);
-    let p = sorted(from, to, at[3], at[2]);
+    let secure = secure_of(s, k, at[SECURE_CALL], end[SECURE_CALL]);
+    let callid = text_span(s, at[CALL_ID], end[CALL_ID]);
+    let p = sorted(from, to, at[FROM], at[TO]);
     let user = p.user;
     let callerfire = p.callerfire;
     let calleefire = p.calleefire;
-    let there = moved(at[6], route);
+    let there = moved(at[VIA], trail);
     Message {
         tag,
         method,
-        number,
-        status: code,
+        number: f.number,
+        status: f.code,
         caller,
         secure,
-        cseq: at[1],
-        to: at[2],
-        from: at[3],
-        call: at[5],
-        via: at[6],
+        cseq: at[CSEQ],
+        to: at[TO],
+        from: at[FROM],
+        call: at[CALL_ID],
+        via: at[VIA],
         callid,
         user,
         callerfire,
         calleefire,
-        route: there,
+        trail: there,
     }
 }
 
@@ -430,6 +360,6 @@ pub fn probe_of(tag: u8) -> Message
         user: nowhere,
         callerfire: nowhere,
         calleefire: nowhere,
-        route: no_route(),
+        trail: no_trail(),
     }
 }

@@ -3,13 +3,12 @@ use json::member_at;
 use json::part;
 use json::skip;
 use octets::byte;
-ghost use mathlib.Core.Bool.{_&&_};
+ghost use Rattle.fields.specs.inner.Gathering.{Gathered};
+ghost use mathlib.Core.Bool.{_&&_, cond};
 ghost use mathlib.Core.Path.{_≡_};
 ghost use Prim.Native.Nat.{_<_};
 ghost use lib.Dec.{eqb, ltb};
 ghost use lib.ListN.{getD, length, set};
-ghost use Rattle.json.specs.Places.{pickL};
-ghost use Rattle.message.specs.Known.{Gathered};
 ghost use Rattle.rules.specs.Names.{fields};
 
 // The place of each value by its member's number, 0 where there is none; and the opening quote of the first repeat, 0 where there is none.
@@ -32,7 +31,7 @@ pub fn is_noted(at: &[usize; 27], k: usize) -> bool
 // Puts v at number k; 0 is no number.
 pub fn note(at: &mut [usize; 27], k: usize, v: usize)
     requires { ⌜ k < 27 ⌝ }
-    ensures { λ _. ⌜ now (at .exit) ≡ pickL (eqb k 0) (now (at .entry)) (set (now (at .entry)) k v) ⌝ }
+    ensures { λ _. ⌜ now (at .exit) ≡ cond (eqb k 0) (now (at .entry)) (set (now (at .entry)) k v) ⌝ }
 {
     if k != 0 {
         at[k] = v;
@@ -49,7 +48,7 @@ pub fn gather(s: &[u8], o: usize) -> Places
     let mut n = s.len();
     while 0 < n {
         let q = skip(s, p);
-        if byte(s, q) != 34 {
+        if byte(s, q) != b'"' {
             return Places { twice: 0, at: at };
         }
         let m = member_at(s, q);
@@ -60,7 +59,7 @@ pub fn gather(s: &[u8], o: usize) -> Places
         }
         note(&mut at, k, m.value);
         let then = m.then;
-        if byte(s, then) != 44 {
+        if byte(s, then) != b',' {
             return Places { twice: 0, at: at };
         }
         p = then + 1;

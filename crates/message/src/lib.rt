@@ -1,27 +1,19 @@
 // A message of TS-1022 as document 01 reads it (01 Reading): any bytes to the message's facts, or to a refusal with number and place.
 // `read` is proved equal to document 01's rows 2 to 10, tried in its order; each field's rule sees the bytes of its own value alone.
-// A caller may count on every place of a message that is read, and gets a value's text through one function, `text_of`.
+// A caller may count on every place of a message that is read, and gets the texts that name its call here alone.
 mod checking;
+mod envelopes;
 mod facts;
-mod fields;
 mod gathering;
-mod hops;
 mod parties;
 mod reading;
 mod shapes;
-mod values;
-mod vias;
 mod walking;
 
 pub use facts::Message;
-pub use facts::Route;
-pub use facts::Span;
-pub use hops::Hop;
-pub use hops::hop_of;
 pub use parties::call_id;
 pub use parties::callee_fire;
 pub use parties::caller_fire;
 pub use parties::user;
 pub use reading::Reading;
 pub use reading::read;
-pub use values::text_of;

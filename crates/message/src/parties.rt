@@ -1,18 +1,8 @@
 // The texts that name a call and its two parties (01 Reading, To and From), as parts of the message that was read: those above get them here alone.
 use crate::facts::Message;
-use crate::facts::Span;
-use json::part;
+use fields::part_at;
 ghost use mathlib.Core.Path.{_≡_};
-ghost use Rattle.message.specs.Parties.{callIdOf, calleeFireOf, callerFireOf, cut, userOf};
-
-// The bytes at a span.
-fn part_at(s: &[u8], x: Span) -> &[u8]
-    ensures { λ r. ⌜ now r ≡ cut (now (s .entry)) x ⌝ }
-{
-    let a = x.start;
-    let e = x.end;
-    part(s, a, e)
-}
+ghost use Rattle.message.specs.Parties.{callIdOf, calleeFireOf, callerFireOf, userOf};
 
 // The Call-ID.
 pub fn call_id(s: &[u8], m: Message) -> &[u8]

@@ -1,34 +1,32 @@
 // The reading of a message (01 Reading, rows 2 to 10), tried in the paper's order.
 use crate::checking::Check;
-use crate::checking::check_run;
+use crate::checking::breaking;
+use crate::checking::lacking;
+use crate::envelopes::Envelope;
+use crate::envelopes::judge_envelope;
+use crate::facts::Facts;
 use crate::facts::Message;
-use crate::facts::Route;
-use crate::facts::address_at;
-use crate::facts::code_of;
 use crate::facts::disagree;
 use crate::facts::message_of;
 use crate::facts::probe_of;
-use crate::facts::sequence_at;
 use crate::facts::setting_of;
-use crate::fields::Setting;
 use crate::gathering::gather;
 use crate::shapes::shape_of;
-use crate::values::value_at;
-use crate::vias::Via;
-use crate::vias::walk_via;
 use crate::walking::walk_text;
+use fields::Setting;
 use json::Walked;
+use rules::REQUEST;
+use rules::RESPONSE;
 use utf8::Verdict;
+ghost use Rattle.fields.specs.inner.Gathering.{Ended};
+ghost use mathlib.Core.Bool.{false, true};
 ghost use mathlib.Core.Path.{_≡_};
 ghost use Prim.Native.Nat.{_<_};
-ghost use lib.ListN.{getD};
-ghost use Rattle.json.specs.Machine.{answer};
-ghost use Rattle.json.specs.Places.{bytes};
-ghost use Rattle.message.specs.Known.{Ended};
-ghost use Rattle.message.specs.Message.{numberOf};
-ghost use Rattle.message.specs.Route.{routeIn};
-ghost use Rattle.message.specs.Via.{viaRule};
-ghost use Rattle.message.specs.Reading.{agreed, judged, onJson, reading, settled, shaped};
+ghost use Rattle.json.specs.inner.Machine.{answer};
+ghost use Rattle.message.specs.Message.{probeOf, first};
+ghost use Rattle.message.specs.Reading.{agreed, judged, onJson, reading, settled, shaped, unless};
+ghost use Rattle.message.specs.inner.Facts.{FactsOf, nineFrom};
+ghost use Rattle.message.specs.declared.reading.Reading.the-variants.{Read};
 
 // What is read of any bytes: a refusal with its number and place, or the message.
 pub enum Reading {
@@ -37,72 +35,73 @@ pub enum Reading {
 }
 
 // Row 10, and what is read.
-fn agree(
-    s: &[u8],
-    k: Setting,
-    number: u32,
-    at: &[usize; 27],
-    end: &[usize; 27],
-    route: Route,
-) -> Reading
-    requires { ⌜ (number ≡ numberOf (now s) (now at)) × (Ended (now s) (now at) (now end) × (route ≡ routeIn (bytes (now s) (getD (now at) 6 0)))) ⌝ }
+fn agree(s: &[u8], k: Setting, f: Facts, at: &[usize; 27], end: &[usize; 27]) -> Reading
+    requires { ⌜ FactsOf (now s) (k .tag) (now at) f × Ended (now s) (now at) (now end) ⌝ }
     ensures { λ r. ⌜ r ≡ agreed (now (s .entry)) k (now (at .entry)) ⌝ }
 {
-    let tag = k.tag;
-    let from = address_at(s, at[3], end[3]);
-    let to = address_at(s, at[2], end[2]);
-    let code = code_of(s, tag, at[7], end[7]);
-    if disagree(s, k, number, code, from, to, at, end) {
+    if disagree(s, k, f, at, end) {
         return Reading::Refused(10, 0);
     }
-    Reading::Read(message_of(s, k, number, code, from, to, at, end, route))
+    Reading::Read(message_of(s, k, f, at, end))
 }
 
 // The second run of rows 8 and 9, on the fields of a request's method, and on.
-fn settle(
-    s: &[u8],
-    k: Setting,
-    number: u32,
-    at: &[usize; 27],
-    end: &[usize; 27],
-    via: Via,
-) -> Reading
-    requires { ⌜ (k .tag < 5) × ((k .method < 9) × ((number ≡ numberOf (now s) (now at)) × (Ended (now s) (now at) (now end) × ((via .good ≡ viaRule (bytes (now s) (getD (now at) 6 0))) × (via .route ≡ routeIn (bytes (now s) (getD (now at) 6 0))))))) ⌝ }
+fn settle(s: &[u8], k: Setting, f: Facts, at: &[usize; 27], end: &[usize; 27]) -> Reading
+    requires { ⌜ (k .tag < 5) × ((k .method < 9) × (FactsOf (now s) (k .tag) (now at) f × Ended (now s) (now at) (now end))) ⌝ }
     ensures { λ r. ⌜ r ≡ settled (now (s .entry)) k (now (at .entry)) ⌝ }
 {
     let tag = k.tag;
-    let good = via.good;
-    let route = via.route;
-    if tag == 1 {
-        return match check_run(s, false, k, at, end, good) {
-            Check::Good => agree(s, k, number, at, end, route),
-            Check::Fault(n, p) => Reading::Refused(n, p),
-        };
+    if tag != REQUEST {
+        return agree(s, k, f, at, end);
     }
-    agree(s, k, number, at, end, route)
+    let m = lacking(false, k, at);
+    if m != 0 {
+        return Reading::Refused(8, m);
+    }
+    match breaking(s, false, k, at, end) {
+        Check::Fault(n, p) => Reading::Refused(n, p),
+        Check::Good => agree(s, k, f, at, end),
+    }
 }
 
-// The first run of rows 8 and 9, on the fields of the tag, and on. Via is walked before it, once for its rule and its route.
-fn judge(s: &[u8], tag: u8, at: &[usize; 27], end: &[usize; 27]) -> Reading
-    requires { ⌜ (tag < 5) × Ended (now s) (now at) (now end) ⌝ }
-    ensures { λ r. ⌜ r ≡ judged (now (s .entry)) tag (now (at .entry)) ⌝ }
+// Row 9 on the fields of a ping or a pong, which is read with it.
+fn settle_probe(s: &[u8], tag: u8, at: &[usize; 27], end: &[usize; 27]) -> Reading
+    requires { ⌜ (2 < tag) × ((tag < 5) × Ended (now s) (now at) (now end)) ⌝ }
+    ensures { λ r. ⌜ r ≡ unless (nineFrom (now (s .entry)) true (first tag) (now (at .entry)) 1) (Read (probeOf tag)) ⌝ }
 {
-    let first = Setting {
+    let k = Setting {
         tag,
         method: 0,
         content: 0,
     };
-    let via = walk_via(value_at(s, at[6], end[6]));
-    match check_run(s, true, first, at, end, via.good) {
+    match breaking(s, true, k, at, end) {
         Check::Fault(n, p) => Reading::Refused(n, p),
-        Check::Good => {
-            if 2 < tag {
-                return Reading::Read(probe_of(tag));
-            }
-            let q = sequence_at(s, at[1], end[1]);
-            let number = q.number;
-            let method = q.method;
-            settle(s, setting_of(s, tag, method, at, end), number, at, end, via)
+        Check::Good => Reading::Read(probe_of(tag)),
+    }
+}
+
+// The first run of rows 8 and 9, on the fields of the tag, and on.
+fn judge(s: &[u8], tag: u8, at: &[usize; 27], end: &[usize; 27]) -> Reading
+    requires { ⌜ (0 < tag) × ((tag < 5) × Ended (now s) (now at) (now end)) ⌝ }
+    ensures { λ r. ⌜ r ≡ judged (now (s .entry)) tag (now (at .entry)) ⌝ }
+{
+    let k = Setting {
+        tag,
+        method: 0,
+        content: 0,
+    };
+    let m = lacking(true, k, at);
+    if m != 0 {
+        return Reading::Refused(8, m);
+    }
+    if RESPONSE < tag {
+        return settle_probe(s, tag, at, end);
+    }
+    match judge_envelope(s, tag, at, end) {
+        Envelope::Broken(p) => Reading::Refused(9, p),
+        Envelope::Kept(f) => {
+            let method = f.method;
+            settle(s, setting_of(s, tag, method, at, end), f, at, end)
         }
     }
 }

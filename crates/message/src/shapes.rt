@@ -3,8 +3,8 @@ use json::element_at;
 use json::name_part;
 use json::skip;
 use octets::byte;
+ghost use Rattle.message.specs.inner.Shaping.{Shaped};
 ghost use mathlib.Core.Path.{_≡_};
-ghost use Rattle.message.specs.Shape.{Shaped};
 
 // The tag's number, 0 where the text has not this shape; and where the object opens.
 pub struct Shape {
@@ -23,23 +23,23 @@ pub fn shape_of(s: &[u8]) -> Shape
     ensures { λ r. ⌜ Shaped (now (s .entry)) (r .tag) (r .object) ⌝ }
 {
     let o = skip(s, 0);
-    if byte(s, o) != 91 {
+    if byte(s, o) != b'[' {
         return none();
     }
     let x = skip(s, o + 1);
-    if byte(s, x) != 34 {
+    if byte(s, x) != b'"' {
         return none();
     }
     let c = element_at(s, x).then;
-    if byte(s, c) != 44 {
+    if byte(s, c) != b',' {
         return none();
     }
     let y = skip(s, c + 1);
-    if byte(s, y) != 123 {
+    if byte(s, y) != b'{' {
         return none();
     }
     let z = element_at(s, y).then;
-    if byte(s, z) == 44 {
+    if byte(s, z) == b',' {
         return none();
     }
     Shape {

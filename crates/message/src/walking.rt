@@ -10,8 +10,8 @@ use octets::byte;
 ghost use mathlib.Core.Path.{_≡_};
 ghost use Prim.Native.Nat.{_<_};
 ghost use lib.ListN.{getD, length};
-ghost use Rattle.message.specs.Known.{empty};
-ghost use Rattle.message.specs.Walk.{Begins, Listed, Usual};
+ghost use Rattle.fields.specs.Known.{empty};
+ghost use Rattle.message.specs.inner.Walk.{Begins, Listed, Usual};
 
 // The tag's number, and where the object opens; 0 where the text does not begin so.
 struct Beginning {
@@ -30,11 +30,11 @@ fn begin(s: &[u8]) -> Beginning
     ensures { λ r. ⌜ Begins (now (s .entry)) (r .tag) (r .object) ⌝ }
 {
     let o = skip(s, 0);
-    if byte(s, o) != 91 {
+    if byte(s, o) != b'[' {
         return no_beginning();
     }
     let x = skip(s, o + 1);
-    if byte(s, x) != 34 {
+    if byte(s, x) != b'"' {
         return no_beginning();
     }
     let e = pass_string(s, x);
@@ -42,11 +42,11 @@ fn begin(s: &[u8]) -> Beginning
         return no_beginning();
     }
     let c = skip(s, e);
-    if byte(s, c) != 44 {
+    if byte(s, c) != b',' {
         return no_beginning();
     }
     let y = skip(s, c + 1);
-    if byte(s, y) != 123 {
+    if byte(s, y) != b'{' {
         return no_beginning();
     }
     Beginning {
@@ -71,7 +71,7 @@ fn walk_fields(s: &[u8], o: usize) -> Fields
     let mut end = [0usize; 27];
     let mut p = o + 1;
     let mut n = s.len();
-    if byte(s, skip(s, p)) != 34 {
+    if byte(s, skip(s, p)) != b'"' {
         return Fields {
             shut: 0,
             at: at,
@@ -80,7 +80,7 @@ fn walk_fields(s: &[u8], o: usize) -> Fields
     }
     while 0 < n {
         let q = skip(s, p);
-        if byte(s, q) != 34 {
+        if byte(s, q) != b'"' {
             return Fields {
                 shut: 0,
                 at: at,
@@ -108,14 +108,14 @@ fn walk_fields(s: &[u8], o: usize) -> Fields
         note(&mut at, k, m.value);
         note(&mut end, k, m.end);
         let b = byte(s, then);
-        if b == 125 {
+        if b == b'}' {
             return Fields {
                 shut: then + 1,
                 at: at,
                 end: end,
             };
         }
-        if b != 44 {
+        if b != b',' {
             return Fields {
                 shut: 0,
                 at: at,
@@ -167,7 +167,7 @@ pub fn walk_text(s: &[u8]) -> Walk
         return no_walk();
     }
     let z = skip(s, shut);
-    if byte(s, z) != 93 {
+    if byte(s, z) != b']' {
         return no_walk();
     }
     if skip(s, z + 1) < s.len() {

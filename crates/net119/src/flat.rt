@@ -1,11 +1,11 @@
 // The answers as C sees them: numbers of document 01, and 0 for what is not there.
-use call::Answer;
-use call::Word;
+use answers::Answer;
+use answers::Word;
 use message::Reading;
 use writing::Removed;
 use writing::Written;
 ghost use mathlib.Core.Path.{_≡_};
-ghost use Rattle.net119.specs.Flat.{flatAnswer, flatReading, flatRemoved, flatWritten, wordNumber};
+ghost use Rattle.net119.specs.Flat.{flatAnswer, flatReading, flatRemoved, flatWritten, flatWord};
 
 // A reading: number 0, accepted; else the number and the place of the refusal.
 #[repr(C)]
@@ -56,8 +56,8 @@ pub fn flat_reading(r: Reading) -> ReadAnswer
 }
 
 // A word's number.
-fn word_number(w: Word) -> u8
-    ensures { λ n. ⌜ n ≡ wordNumber w ⌝ }
+fn flat_word(w: Word) -> u8
+    ensures { λ n. ⌜ n ≡ flatWord w ⌝ }
 {
     match w {
         Word::Pass => 1,
@@ -76,17 +76,17 @@ pub fn flat_answer(a: Answer) -> EventAnswer
     match a {
         Answer::Accepted(w, s) => EventAnswer {
             number: 0,
-            word: word_number(w),
-            state: call::shown_number(s),
+            word: flat_word(w),
+            state: answers::shown_number(s),
             reply: 0,
             place: 0,
         },
         Answer::Refused(f) => EventAnswer {
-            number: call::number(f),
+            number: answers::number(f),
             word: 0,
             state: 0,
-            reply: call::reply(f),
-            place: call::place(f),
+            reply: answers::reply(f),
+            place: answers::place(f),
         },
     }
 }

@@ -1,11 +1,12 @@
 -- Parts written one after the other: `At` makes a chain of puts cheap, one `more` for each. Assumes nothing.
-use Prim.Native.Nat.{ℕ, _+_, _-_, _≤_}
+use Prim.Native.Nat.{ℕ, _+_, _≤_, _<_}
 use Rattle.octets.specs.Splice.{splice, written}
-use lib.ListN.{length, take, drop, length-append, length-drop}
-use lib.Seq.{paste, take-length, take-append-seam, drop-append-add, drop-drop, length-take-le}
-use mathlib.Core.List.{List, [], _++_, append-assoc}
+use lib.ListN.{length, take, drop, set, length-append, length-drop}
+use lib.Seq.{paste, take-length, take-append-seam, drop-append-add, drop-drop, length-take-le, set-split}
+use mathlib.Core.List.{List, [], _∷_, _++_, append-assoc}
 use mathlib.Core.Path.{_≡_, refl, _∙_}
 use native.Mathlib.Nat.{add-sub-of-le}
+use native.Mathlib.Numerals.{add-one}
 use native.Mathlib.Omega.{arith}
 
 -- a copy of the whole of s is a splice
@@ -28,6 +29,18 @@ splice-two o at a b h =
     let l : length (take at o ++ a) ≡ at + length a = length-append (take at o) a ∙ rw (length-take-le at o (omega arith)) in
     let k : at + length a + length b ≡ at + (length a + length b) = omega arith in
     rw (← append-assoc (take at o) a (drop (at + length a) o), ← l, take-append-seam, drop-append-add, l, drop-drop, length-append, k) (simp append-assoc)
+
+-- one byte stored
+pub set-one : (o : List ℕ) (at x : ℕ) → at < length o → set o at x ≡ splice o at (x ∷ [])
+unfolding splice
+set-one o at x h = rw (set-split o at x h, add-one)
+
+-- what stands before a part, and the part
+pub take-splice : (o : List ℕ) (at : ℕ) (p : List ℕ) → at ≤ length o → take (at + length p) (splice o at p) ≡ take at o ++ p
+unfolding splice
+take-splice o at p h =
+    let l : length (take at o ++ p) ≡ at + length p = length-append (take at o) p ∙ rw (length-take-le at o h) in
+    rw (← append-assoc (take at o) p (drop (at + length p) o), ← l) (take-append-seam (take at o ++ p) _)
 
 -- one more part behind w
 put-on : (o w p : List ℕ) → splice (written o w) (length w) p ≡ written o (w ++ p)

@@ -1,14 +1,14 @@
 -- A class at every byte of a text, one byte at a time. Assumes nothing.
 use Prim.Native.Nat.{ℕ, _≤_, _<_, _+_}
-use Rattle.octets.proofs.TextLaws.{and-parts}
+use Rattle.octets.proofs.TestLaws.{and-parts}
 use Rattle.octets.specs.Class.{all, among, isDigit}
 use borrow.Author.Tests.{le-leb, lt-leb, leb-true}
 use lib.Dec.{leb}
 use lib.ListN.{length, drop, getD, drop-of-length-le}
 use lib.Seq.{drop-cons}
-use mathlib.Core.Bool.{Bool, true, false, _&&_}
+use mathlib.Core.Bool.{Bool, true, false, _&&_, and-assoc}
 use mathlib.Core.List.{List, [], _∷_, _++_}
-use mathlib.Core.Path.{_≡_, refl}
+use mathlib.Core.Path.{_≡_, refl, sym}
 use native.Mathlib.Numerals.{add-one}
 
 module _ (f : ℕ → Bool) (s : List ℕ) (i : ℕ) where
@@ -50,8 +50,4 @@ digit-in b e = among-in 48 57 b e
 pub all-append : (f : ℕ → Bool) (s t : List ℕ) → all f (s ++ t) ≡ (all f s && all f t)
 unfolding all
 all-append f [] t = refl
-all-append f (x ∷ s) t = rw (all-append f s t) (and-assoc (f x) (all f s) (all f t))
-  where
-    and-assoc : (a b c : Bool) → (a && (b && c)) ≡ ((a && b) && c)
-    and-assoc true b c = refl
-    and-assoc false b c = refl
+all-append f (x ∷ s) t = rw (all-append f s t) (sym (and-assoc (f x) (all f s) (all f t)))

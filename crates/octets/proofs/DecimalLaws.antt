@@ -1,6 +1,7 @@
 -- Decimal digits: the steps of the loop that reads them and of the function that writes them, and that what is written is read back.
 -- Assumes nothing.
 use Prim.Native.Nat.{ℕ, zero, suc, _+_, _-_, _*_, _/_, _%_, _≤_, _<_}
+use Rattle.octets.proofs.Chain.{length-splice, set-one, splice-two}
 use Rattle.octets.proofs.ClassLaws.{all-append, in-among}
 use Rattle.octets.specs.Class.{all, isDigit}
 use Rattle.octets.specs.Decimal.{tens, decimalOf, isDecimal, decimalIn, shownIn, shown}
@@ -8,10 +9,10 @@ use Rattle.octets.specs.Splice.{splice}
 use Rattle.octets.specs.declared.decimals.Spelt.the-variants.{Value, Other}
 use borrow.Author.Tests.{lt-ltb, le-ltb, le-leb, lt-leb}
 use lib.Dec.{ltb}
-use lib.ListN.{length, drop, getD, set, take, length-append, drop-of-length-le}
-use lib.Seq.{drop-cons, set-split, set-at, length-take-le}
+use lib.ListN.{length, drop, getD, set, length-append, drop-of-length-le}
+use lib.Seq.{drop-cons}
 use mathlib.Core.Bool.{Bool, true, false}
-use mathlib.Core.List.{List, [], _∷_, _++_, append-assoc}
+use mathlib.Core.List.{List, [], _∷_, _++_}
 use mathlib.Core.Path.{_≡_, refl, sym, ap, _∙_}
 use native.Mathlib.Decide.{decLt}
 use native.Mathlib.Numerals.{add-one}
@@ -108,19 +109,22 @@ length-small v h = ap length (shown-small v h)
 pub length-large : (v : ℕ) → 10 ≤ v → v < 18446744073709551616 → length (shown v) ≡ length (shown (v / 10)) + 1
 length-large v h g = ap length (shown-large v h g) ∙ length-append (shown (v / 10)) ((48 + v % 10) ∷ [])
 
--- one byte stored, and one more behind a part
-pub set-one : (o : List ℕ) (at x : ℕ) → at < length o → set o at x ≡ splice o at (x ∷ [])
-unfolding splice
-set-one o at x h = rw (set-split o at x h, add-one)
-
-pub set-behind : (o : List ℕ) (at : ℕ) (p : List ℕ) (x : ℕ) → at + length p < length o → set (splice o at p) (at + length p) x ≡ splice o at (p ++ (x ∷ []))
-unfolding splice
-set-behind o at p x h =
-    let k : ℕ = at + length p in
-    let f : List ℕ = take at o ++ p in
-    let l : length f ≡ k = length-append (take at o) p ∙ rw (length-take-le at o (omega arith)) in
-    let n : at + length (p ++ (x ∷ [])) ≡ suc k = rw length-append (omega arith) in
-    rw (← append-assoc (take at o) p, drop-cons o k 0, set-at f (getD o k 0) (drop (suc k) o) x k l, n) (simp append-assoc)
+-- behind the digits of v / 10 there is room for the last, and with it those of v are written
+pub digit-behind : (o : List ℕ) (at v : ℕ) {o′ : List ℕ} {r : ℕ} → 10 ≤ v → v < 18446744073709551616 → at + length (shown v) ≤ length o
+    → (r ≡ at + length (shown (v / 10))) × (o′ ≡ splice o at (shown (v / 10)))
+    → (r < length o′) × ((r + 1 ≡ at + length (shown v)) × (set o′ r (48 + v % 10) ≡ splice o at (shown v)))
+digit-behind o at v {o′} {r} h g room e =
+    let p : List ℕ = shown (v / 10) in
+    let x : List ℕ = (48 + v % 10) ∷ [] in
+    let l = length-large v h g in
+    let k : length o′ ≡ length o = ap length (e .1) ∙ length-splice o at p (omega arith) in (
+      omega (arith, e .0),
+      (
+        omega (arith, e .0),
+        set-one o′ r (48 + v % 10) (omega (arith, e .0))
+            ∙ rw (e .0, e .1) (splice-two o at p x (omega arith)) ∙ ap (splice o at) (sym (shown-large v h g)),
+      ),
+    )
 
 -- What is written is read back.
 

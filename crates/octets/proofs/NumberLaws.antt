@@ -1,6 +1,6 @@
 -- Big-endian numbers: read and written back, over the width; the loops' steps. Assumes nothing.
-use Prim.Native.Nat.{ℕ, zero, suc, _+_, _-_, _*_, _/_, _%_, _≤_, _<_}
-use Rattle.octets.specs.Number.{bytesOf, onto, numberOf, span}
+use Prim.Native.Nat.{ℕ, zero, suc, _+_, _*_, _/_, _%_, _≤_, _<_}
+use Rattle.octets.specs.Number.{bytesOf, onto, bigEndian}
 use Rattle.octets.specs.Splice.{splice}
 use lib.ListN.{length, getD, take, drop, set, length-append, length-drop, take-append-drop}
 use lib.Seq.{take-all, take-suc, length-take-le, getD-take, getD-drop, set-split, drop-at, take-set-le}
@@ -8,6 +8,11 @@ use mathlib.Core.List.{List, [], _∷_, _++_, append-assoc}
 use mathlib.Core.Path.{_≡_, refl, sym, ap, _∙_}
 use native.Mathlib.Numerals.{add-one}
 use native.Mathlib.Omega.{arith}
+
+-- 256 to the n: a number below it has n bytes
+unfoldable pub capacity : ℕ → ℕ
+capacity zero = 1
+capacity (suc n) = 256 * capacity n
 
 pub length-bytesOf : (n v : ℕ) → length (bytesOf n v) ≡ n
 unfolding bytesOf
@@ -21,8 +26,8 @@ onto-snoc a [] x = refl
 onto-snoc a (y ∷ s) x = onto-snoc (a * 256 + y) s x
 
 -- what is written is read back
-pub number-bytes : (n v : ℕ) → v < span n → numberOf (bytesOf n v) ≡ v
-unfolding onto bytesOf span
+pub number-bytes : (n v : ℕ) → v < capacity n → bigEndian (bytesOf n v) ≡ v
+unfolding onto bytesOf capacity
 number-bytes zero v h = omega arith
 number-bytes (suc n) v h =
     rw (onto-snoc 0 (bytesOf n (v / 256)) (v % 256), number-bytes n (v / 256) (omega arith)) (omega arith)
@@ -43,7 +48,7 @@ octets-take n s h b = record {
 }
 
 -- what is read is written back
-pub bytes-number : (n : ℕ) (s : List ℕ) → length s ≡ n → Octets s → bytesOf n (numberOf s) ≡ s
+pub bytes-number : (n : ℕ) (s : List ℕ) → length s ≡ n → Octets s → bytesOf n (bigEndian s) ≡ s
 unfolding bytesOf
 bytes-number zero [] e b = refl
 bytes-number zero (x ∷ s) e b = absurd (omega arith)
@@ -51,24 +56,24 @@ bytes-number (suc n) s e b =
     let f : List ℕ = take n s in
     let x : ℕ = getD s n 0 in
     let l : s ≡ f ++ (x ∷ []) = last-apart n s e in
-    let v : numberOf s ≡ numberOf f * 256 + x = ap (onto 0) l ∙ onto-snoc 0 f x in
+    let v : bigEndian s ≡ bigEndian f * 256 + x = ap (onto 0) l ∙ onto-snoc 0 f x in
     let h : x < 256 = b .each n (omega arith) in
-    let q : numberOf s / 256 ≡ numberOf f = omega arith in
-    let r : numberOf s % 256 ≡ x = omega arith in
+    let q : bigEndian s / 256 ≡ bigEndian f = omega arith in
+    let r : bigEndian s % 256 ≡ x = omega arith in
     rw (q, r, bytes-number n f (length-take-le n s (omega arith)) (octets-take n s (omega arith) b)) (sym l)
 
 -- a number of n bytes is below 256 to the n
-pub number-below : (n : ℕ) (s : List ℕ) → length s ≡ n → Octets s → numberOf s < span n
-unfolding onto span
+pub number-below : (n : ℕ) (s : List ℕ) → length s ≡ n → Octets s → bigEndian s < capacity n
+unfolding onto capacity
 number-below zero [] e b = omega arith
 number-below zero (x ∷ s) e b = absurd (omega arith)
 number-below (suc n) s e b =
     let f : List ℕ = take n s in
     let x : ℕ = getD s n 0 in
     let l : s ≡ f ++ (x ∷ []) = last-apart n s e in
-    let v : numberOf s ≡ numberOf f * 256 + x = ap (onto 0) l ∙ onto-snoc 0 f x in
+    let v : bigEndian s ≡ bigEndian f * 256 + x = ap (onto 0) l ∙ onto-snoc 0 f x in
     let h : x < 256 = b .each n (omega arith) in
-    let k : numberOf f < span n = number-below n f (length-take-le n s (omega arith)) (octets-take n s (omega arith) b) in
+    let k : bigEndian f < capacity n = number-below n f (length-take-le n s (omega arith)) (octets-take n s (omega arith) b) in
     omega arith
 
 -- a byte written before the rest of the number, which is shorter by it
@@ -96,36 +101,36 @@ no-byte o at n v e = rw (e) (rw add-zero (take-append-drop at o))
     add-zero = omega arith
 
 -- the loop of `number_at`
-pub none-yet : (s : List ℕ) (at : ℕ) → 0 ≡ numberOf (take 0 (drop at s))
+pub none-yet : (s : List ℕ) (at : ℕ) → 0 ≡ bigEndian (take 0 (drop at s))
 unfolding onto
 none-yet s at = refl
 
-pub below-one : 0 < span 0
-unfolding span
+pub below-one : 0 < capacity 0
+unfolding capacity
 below-one = omega arith
 
-pub number-more : (s : List ℕ) (at i : ℕ) {v b : ℕ} → v ≡ numberOf (take i (drop at s)) → at + i < length s → b ≡ getD s (at + i) 0
-    → v * 256 + b ≡ numberOf (take (i + 1) (drop at s))
+pub number-more : (s : List ℕ) (at i : ℕ) {v b : ℕ} → v ≡ bigEndian (take i (drop at s)) → at + i < length s → b ≡ getD s (at + i) 0
+    → v * 256 + b ≡ bigEndian (take (i + 1) (drop at s))
 number-more s at i {v} {b} e h g =
     let l : i < length (drop at s) = rw length-drop (omega arith) in
     rw (add-one, take-suc (drop at s) i 0 l, onto-snoc 0 (take i (drop at s)), getD-drop at s i 0) (cc)
 
-pub span-more : (i : ℕ) {v b : ℕ} → v < span i → b < 256 → v * 256 + b < span (i + 1)
-unfolding span
+pub span-more : (i : ℕ) {v b : ℕ} → v < capacity i → b < 256 → v * 256 + b < capacity (i + 1)
+unfolding capacity
 span-more i {v} {b} h g = rw add-one (omega arith)
 
-span-pos : (n : ℕ) → 1 ≤ span n
-unfolding span
+span-pos : (n : ℕ) → 1 ≤ capacity n
+unfolding capacity
 span-pos zero = omega arith
 span-pos (suc n) = let h = span-pos n in omega arith
 
-span-grows : (i j : ℕ) → i ≤ j → span i ≤ span j
-unfolding span
+span-grows : (i j : ℕ) → i ≤ j → capacity i ≤ capacity j
+unfolding capacity
 span-grows zero j h = span-pos j
 span-grows (suc i) zero h = absurd (omega arith)
 span-grows (suc i) (suc j) h = let g = span-grows i j (omega arith) in omega arith
 
 -- a number of at most seven bytes, and one byte more, fits 64 bits
-pub span-seven : (i v : ℕ) → i < 8 → v < span i → v < 72057594037927936
-unfolding span
-span-seven i v h g = let k : span i ≤ span 7 = span-grows i 7 (omega arith) in omega arith
+pub span-seven : (i v : ℕ) → i < 8 → v < capacity i → v < 72057594037927936
+unfolding capacity
+span-seven i v h g = let k : capacity i ≤ capacity 7 = span-grows i 7 (omega arith) in omega arith

@@ -1,6 +1,7 @@
 -- Classes of bytes, which the contracts of `src/classes.rt` cite. Assumes nothing.
+use Prim.Native.Char.{code}
 use Prim.Native.Nat.{ℕ}
-use mathlib.Core.Bool.{Bool, true, false, _&&_, _||_}
+use mathlib.Core.Bool.{Bool, true, _&&_, _||_}
 use mathlib.Core.List.{List, [], _∷_}
 use lib.Dec.{leb}
 
@@ -10,15 +11,15 @@ among lo hi b = leb lo b && leb b hi
 
 -- 0 to 9
 unfoldable pub isDigit : ℕ → Bool
-isDigit b = among 48 57 b
+isDigit b = among (code "0") (code "9") b
 
 -- a to z
 unfoldable pub isLower : ℕ → Bool
-isLower b = among 97 122 b
+isLower b = among (code "a") (code "z") b
 
 -- A to Z
 unfoldable pub isUpper : ℕ → Bool
-isUpper b = among 65 90 b
+isUpper b = among (code "A") (code "Z") b
 
 -- an ASCII letter
 unfoldable pub isLetter : ℕ → Bool

@@ -1,6 +1,7 @@
 -- Decimal numbers: what the contracts of `src/decimals.rt` cite. Assumes nothing.
+use Prim.Native.Char.{code}
 use Prim.Native.Nat.{ℕ, zero, suc, _+_, _-_, _*_, _/_, _%_}
-use mathlib.Core.Bool.{Bool, true, false, _&&_}
+use mathlib.Core.Bool.{Bool, _&&_, cond}
 use mathlib.Core.List.{List, [], _∷_, _++_}
 use lib.Dec.{leb, ltb}
 use lib.ListN.{length}
@@ -11,15 +12,11 @@ use Rattle.octets.specs.declared.decimals.Spelt.the-variants.{Value, Oth
 -- the number that the digits are, behind the higher part a
 unfoldable pub tens : ℕ → List ℕ → ℕ
 tens a [] = a
-tens a (x ∷ xs) = tens (a * 10 + (x - 48)) xs
+tens a (x ∷ xs) = tens (a * 10 + (x - code "0")) xs
 
 -- the number that the digits are
 abbrev pub decimalOf : List ℕ → ℕ
 decimalOf s = tens 0 s
-
-abbrev pub chosen : Bool → Spelt → Spelt → Spelt
-chosen true a b = a
-chosen false a b = b
 
 -- 1 to 20 digits, and nothing else, that are a number of 64 bits
 unfoldable pub isDecimal : List ℕ → Bool
@@ -27,16 +24,12 @@ isDecimal s = leb 1 (length s) && (leb (length s) 20 && (all isDigit s && ltb (d
 
 -- what a text of digits says: leading zeros are allowed
 unfoldable pub decimalIn : List ℕ → Spelt
-decimalIn s = chosen (isDecimal s) (Value (decimalOf s)) Other
-
-abbrev pub pickList : Bool → List ℕ → List ℕ → List ℕ
-pickList true a b = a
-pickList false a b = b
+decimalIn s = cond (isDecimal s) (Value (decimalOf s)) Other
 
 -- the digits of v without leading zeros, if it has at most n of them
 unfoldable pub shownIn : ℕ → ℕ → List ℕ
 shownIn zero v = []
-shownIn (suc n) v = pickList (ltb v 10) ((48 + v) ∷ []) (shownIn n (v / 10) ++ ((48 + v % 10) ∷ []))
+shownIn (suc n) v = cond (ltb v 10) ((code "0" + v) ∷ []) (shownIn n (v / 10) ++ ((code "0" + v % 10) ∷ []))
 
 -- a number of 64 bits as decimal digits: 20 are enough
 unfoldable pub shown : ℕ → List ℕ

@@ -13,10 +13,5 @@ onto a [] = a
 onto a (x ∷ xs) = onto (a * 256 + x) xs
 
 -- the number that the bytes are, the highest first
-abbrev pub numberOf : List ℕ → ℕ
-numberOf s = onto 0 s
-
--- 256 to the n: a number below it has n bytes
-unfoldable pub span : ℕ → ℕ
-span zero = 1
-span (suc n) = 256 * span n
+abbrev pub bigEndian : List ℕ → ℕ
+bigEndian s = onto 0 s

@@ -28,25 +28,25 @@ pub fn among(lo: u8, hi: u8, b: u8) -> bool
 pub fn is_digit(b: u8) -> bool
     ensures { λ r. ⌜ r ≡ isDigit b ⌝ }
 {
-    among(48, 57, b)
+    among(b'0', b'9', b)
 }
 
 // a to z.
 pub fn is_lower(b: u8) -> bool
     ensures { λ r. ⌜ r ≡ isLower b ⌝ }
 {
-    among(97, 122, b)
+    among(b'a', b'z', b)
 }
 
 // A to Z.
-pub fn is_upper(b: u8) -> bool
+fn is_upper(b: u8) -> bool
     ensures { λ r. ⌜ r ≡ isUpper b ⌝ }
 {
-    among(65, 90, b)
+    among(b'A', b'Z', b)
 }
 
 // An ASCII letter.
-pub fn is_letter(b: u8) -> bool
+fn is_letter(b: u8) -> bool
     ensures { λ r. ⌜ r ≡ isLetter b ⌝ }
 {
     or(is_lower(b), is_upper(b))

@@ -7,6 +7,9 @@ ghost use lib.ListN.{length};
 ghost use Rattle.octets.specs.Decimal.{decimalIn, shown};
 ghost use Rattle.octets.specs.Splice.{splice};
 
+// The digit 0.
+const ZERO: u64 = b'0' as u64;
+
 pub enum Spelt {
     Value(u64),
     Other,
@@ -30,7 +33,7 @@ pub fn decimal(s: &[u8]) -> Spelt
         if !is_digit(b) {
             return Spelt::Other;
         }
-        let d = wide(b - 48);
+        let d = wide(b - b'0');
         if (18446744073709551615 - d) / 10 < v {
             return Spelt::Other;
         }
@@ -46,10 +49,10 @@ pub fn put_decimal(out: &mut [u8], at: usize, v: u64) -> usize
     ensures { λ r. ⌜ (r ≡ at + length (shown v)) × (now (out .exit) ≡ splice (now (out .entry)) at (shown v)) ⌝ }
 {
     if v < 10 {
-        out[at] = (48 + v) as u8;
+        out[at] = (ZERO + v) as u8;
         return at + 1;
     }
     let p = put_decimal(out, at, v / 10);
-    out[p] = (48 + v % 10) as u8;
+    out[p] = (ZERO + v % 10) as u8;
     p + 1
 }

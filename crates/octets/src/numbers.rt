@@ -2,7 +2,7 @@
 ghost use mathlib.Core.Path.{_≡_};
 ghost use Prim.Native.Nat.{_+_, _≤_, _<_};
 ghost use lib.ListN.{drop, length, take};
-ghost use Rattle.octets.specs.Number.{bytesOf, numberOf};
+ghost use Rattle.octets.specs.Number.{bytesOf, bigEndian};
 ghost use Rattle.octets.specs.Splice.{splice};
 
 // A byte as a wider number.
@@ -15,7 +15,7 @@ pub fn wide(b: u8) -> u64
 // The number that the n bytes from `at` on are, the highest first.
 pub fn number_at(s: &[u8], at: usize, n: usize) -> u64
     requires { ⌜ (n ≤ 8) × (at + n ≤ length (now s)) ⌝ }
-    ensures { λ r. ⌜ r ≡ numberOf (take n (drop at (now (s .entry)))) ⌝ }
+    ensures { λ r. ⌜ r ≡ bigEndian (take n (drop at (now (s .entry)))) ⌝ }
 {
     let mut v: u64 = 0;
     let mut i: usize = 0;

@@ -1,13 +1,14 @@
 -- What a line does, by each test on the way to its command. Assumes nothing.
 use Prim.Native.Nat.{ℕ, _+_, _-_, _≤_, _<_}
-use Rattle.lines.specs.Running.{Effect}
+use Rattle.lines.specs.Log.{Effect}
 use Rattle.octets.specs.Ascii.{ascii}
 use Rattle.octets.specs.Splice.{written}
 use Rattle.octets.specs.Text.{same}
 use Rattle.probe.specs.Commands.{commandDone, lineDone}
 use Rattle.probe.specs.Events.{eventDone}
 use Rattle.probe.specs.Tables.{blankDone, dumpText, tableDone}
-use Rattle.probe.specs.Effect.{Turned, shows}
+use Rattle.probe.specs.Effect.{shows}
+use Rattle.probe.specs.inner.Turned.{Turned}
 use Rattle.showing.specs.Asked.{askedText}
 use Rattle.showing.specs.Shown.{unknown}
 use Rattle.showing.specs.Words.{firstWord, hasSpace, rest}
@@ -32,11 +33,13 @@ module _ (t name words : List ℕ) where
   unfolding commandDone
   does-blank a b d = simp (a, b, d)
 
-  pub does-table : same name (ascii "msg") ≡ false → same name (ascii "tick") ≡ false → same name (ascii "blank") ≡ false → same name (ascii "table") ≡ true → tableDone t words ≡ commandDone t name words
+  pub does-table : same name (ascii "msg") ≡ false → same name (ascii "tick") ≡ false → same name (ascii "blank") ≡ false → same name (ascii "table") ≡ true
+      → tableDone t words ≡ commandDone t name words
   unfolding commandDone
   does-table a b d e = simp (a, b, d, e)
 
-  pub does-ask : same name (ascii "msg") ≡ false → same name (ascii "tick") ≡ false → same name (ascii "blank") ≡ false → same name (ascii "table") ≡ false → commandDone t name words ≡ shows t (askedText name words)
+  pub does-ask : same name (ascii "msg") ≡ false → same name (ascii "tick") ≡ false → same name (ascii "blank") ≡ false → same name (ascii "table") ≡ false
+      → commandDone t name words ≡ shows t (askedText name words)
   unfolding commandDone
   does-ask a b d e = simp (a, b, d, e)
 

@@ -1,7 +1,7 @@
 -- Two results that the contract of `answer` allows are equal. Assumes nothing.
 use Prim.Native.Nat.{ℕ, _≤_}
 use Rattle.probe.specs.Commands.{lineDone}
-use Rattle.probe.specs.Effect.{Turned}
+use Rattle.probe.specs.inner.Turned.{Turned}
 use lib.ListN.{length, take}
 use lib.Seq.{length-take-le}
 use mathlib.Core.List.{List}

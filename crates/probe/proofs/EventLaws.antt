@@ -1,9 +1,9 @@
 -- Each answer of `msg` and `tick`, and the table that is held after an event. Assumes nothing.
 use Prim.Native.Nat.{ℕ, _+_, _-_, _≤_}
-use Rattle.call.specs.Answer.{numberOf, placeOf, replyOf}
-use Rattle.call.specs.declared.answers.Answer.the-variants.{Refused}
-use Rattle.call.specs.declared.answers.Answer.{Answer}
-use Rattle.call.specs.declared.answers.Refusal.{Refusal}
+use Rattle.answers.specs.Answer.{refusalNumber, refusalPlace, refusalReply}
+use Rattle.answers.specs.declared.Answer.the-variants.{Refused}
+use Rattle.answers.specs.declared.Answer.{Answer}
+use Rattle.answers.specs.declared.Refusal.{Refusal}
 use Rattle.keeper.specs.Keeping.{Step, onMessage, onTick}
 use Rattle.lines.proofs.WritingLaws.{wrote}
 use Rattle.lines.specs.Program.{afterWriting, answerLine, wroteAt}
@@ -14,8 +14,9 @@ use Rattle.octets.specs.Ascii.{ascii}
 use Rattle.octets.specs.Decimal.{shown}
 use Rattle.octets.specs.Splice.{splice, written}
 use Rattle.octets.specs.declared.decimals.Spelt.the-variants.{Other, Value}
-use Rattle.probe.specs.Events.{acceptedText, eventDone, eventOn, eventText, turnOf}
-use Rattle.probe.specs.Effect.{Turned, shows}
+use Rattle.probe.specs.Events.{acceptedText, eventDone, eventOn, eventText, stepDone}
+use Rattle.probe.specs.Effect.{shows}
+use Rattle.probe.specs.inner.Turned.{Turned}
 use Rattle.showing.proofs.ShownLaws.{says}
 use Rattle.showing.specs.Shown.{unknown}
 use Rattle.showing.specs.Words.{bytesOf, firstWord, hasSpace, isBytes, numeral, rest}
@@ -28,7 +29,8 @@ use native.Mathlib.Omega.{arith}
 
 -- What an event is answered.
 
-module _ (o : List ℕ) (a : Answer) {m : ℕ} {o′ o″ : List ℕ} (r : Wrote) (ok : (m ≡ 0 + 2) × (o′ ≡ splice o 0 (ascii "ok"))) (room : m + length (answerLine [] a) ≤ length o′) (is : (r ≡ wroteAt o′ m (answerLine [] a)) × (o″ ≡ afterWriting o′ m (answerLine [] a))) where
+module _ (o : List ℕ) (a : Answer) {m : ℕ} {o′ o″ : List ℕ} (r : Wrote) (ok : (m ≡ 0 + 2) × (o′ ≡ splice o 0 (ascii "ok"))) (room : m + length (answerLine [] a) ≤ length o′)
+    (is : (r ≡ wroteAt o′ m (answerLine [] a)) × (o″ ≡ afterWriting o′ m (answerLine [] a))) where
   pub accepted-ends : (e : ℕ) → r ≡ End e → (e ≡ length (acceptedText a)) × (o″ ≡ written o (acceptedText a))
   unfolding acceptedText answerLine
   accepted-ends e q =
@@ -45,15 +47,20 @@ module _ (o : List ℕ) (a : Answer) {m : ℕ} {o′ o″ : List ℕ} (r : Wrote
       let z : _≡_ {A = ℕ} 0 1 = cc in
       omega arith
 
-pub event-refused : (o : List ℕ) (f : Refusal) {n p q : ℕ} {m k l r : ℕ} {a b d o′ : List ℕ} → n ≡ numberOf f → p ≡ placeOf f → q ≡ replyOf f → (m ≡ 0 + 3) × (a ≡ splice o 0 (ascii "no ")) → (k ≡ m + length (shown n ++ ascii " ")) × (b ≡ splice a m (shown n ++ ascii " ")) → (l ≡ k + length (shown p ++ ascii " ")) × (d ≡ splice b k (shown p ++ ascii " ")) → (r ≡ l + length (shown q ++ ascii "\n")) × (o′ ≡ splice d l (shown q ++ ascii "\n")) → (r ≡ length (eventText (Refused f))) × (o′ ≡ written o (eventText (Refused f)))
+pub event-refused : (o : List ℕ) (f : Refusal) {n p q : ℕ} {m k l r : ℕ} {a b d o′ : List ℕ} → n ≡ refusalNumber f → p ≡ refusalPlace f → q ≡ refusalReply f
+    → (m ≡ 0 + 3) × (a ≡ splice o 0 (ascii "no ")) → (k ≡ m + length (shown n ++ ascii " ")) × (b ≡ splice a m (shown n ++ ascii " "))
+    → (l ≡ k + length (shown p ++ ascii " ")) × (d ≡ splice b k (shown p ++ ascii " ")) → (r ≡ l + length (shown q ++ ascii "\n")) × (o′ ≡ splice d l (shown q ++ ascii "\n"))
+    → (r ≡ length (eventText (Refused f))) × (o′ ≡ written o (eventText (Refused f)))
 unfolding eventText
 event-refused o f {n} {p} {q} en ep eq x y z u =
     let w = more (shown q ++ ascii "\n") (more (shown p ++ ascii " ") (more (shown n ++ ascii " ") (more (ascii "no ") (start o) x) y) z) u in
-    let e : ((([] ++ ascii "no ") ++ (shown n ++ ascii " ")) ++ (shown p ++ ascii " ")) ++ (shown q ++ ascii "\n") ≡ ascii "no " ++ (shown n ++ (ascii " " ++ (shown p ++ (ascii " " ++ (shown q ++ ascii "\n"))))) = simp append-assoc in
+    let e : ((([] ++ ascii "no ") ++ (shown n ++ ascii " ")) ++ (shown p ++ ascii " ")) ++ (shown q ++ ascii "\n") ≡ ascii "no "
+    ++ (shown n ++ (ascii " " ++ (shown p ++ (ascii " " ++ (shown q ++ ascii "\n"))))) = simp append-assoc in
     rw (← en, ← ep, ← eq) (says o e (w .place, w .is))
 
 -- An event e on the first bytes of h, which are lent and come back as p.
-pub came-back : (e : List ℕ → Step) (h : List ℕ) (size : ℕ) {r : Answer} (p : List ℕ) → length p ≡ size → (r ≡ e (take (size - 0) h) .answer) × (p ≡ e (take (size - 0) h) .table) → (r ≡ e (take size h) .answer) × (take size (p ++ drop (size - 0) h) ≡ e (take size h) .table)
+pub came-back : (e : List ℕ → Step) (h : List ℕ) (size : ℕ) {r : Answer} (p : List ℕ) → length p ≡ size → (r ≡ e (take (size - 0) h) .answer) × (p ≡ e (take (size - 0) h) .table)
+    → (r ≡ e (take size h) .answer) × (take size (p ++ drop (size - 0) h) ≡ e (take size h) .table)
 came-back e h size p l w =
     let z : size - 0 ≡ size = omega arith in
     let v = rw z at w in
@@ -67,7 +74,8 @@ pub is-message : (t : List ℕ) (tick : Bool) (time : ℕ) (s : List ℕ) → ti
 unfolding eventOn
 is-message t tick time s e = rw e
 
-pub happened : (e : Step) (o : List ℕ) (size : ℕ) (h′ : List ℕ) {a : Answer} {n : ℕ} {o′ : List ℕ} → (a ≡ e .answer) × (take size h′ ≡ e .table) → (n ≡ length (eventText a)) × (o′ ≡ written o (eventText a)) → size ≤ 65536 → Turned (turnOf e) o n o′ size h′
+pub happened : (e : Step) (o : List ℕ) (size : ℕ) (h′ : List ℕ) {a : Answer} {n : ℕ} {o′ : List ℕ} → (a ≡ e .answer) × (take size h′ ≡ e .table)
+    → (n ≡ length (eventText a)) × (o′ ≡ written o (eventText a)) → size ≤ 65536 → Turned (stepDone e) o n o′ size h′
 happened e o size h′ p w small =
     let v = rw (p .0) at w in
     record { text = v; table = p .1; small = small }
@@ -87,6 +95,7 @@ module _ (t : List ℕ) (tick : Bool) (words : List ℕ) where
     unfolding eventDone
     no-time k v = simp (e, k, v)
 
-    pub an-event : (time : ℕ) → isBytes (rest words) ≡ true → numeral (firstWord words) ≡ Value time → eventDone t tick words ≡ turnOf (eventOn t tick time (bytesOf (rest words)))
+    pub an-event : (time : ℕ) → isBytes (rest words) ≡ true → numeral (firstWord words) ≡ Value time
+        → eventDone t tick words ≡ stepDone (eventOn t tick time (bytesOf (rest words)))
     unfolding eventDone
     an-event time k v = simp (e, k, v)

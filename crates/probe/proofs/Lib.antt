@@ -4,3 +4,4 @@ pub mod CommandLaws
 pub mod WholeInput
 pub mod Determined
 pub mod PieceLaws
+pub mod Marks

@@ -1,12 +1,13 @@
 -- Each answer of `blank`, `table` and `dump`, and the table that is held after it. Assumes nothing.
 use Prim.Native.Nat.{ℕ, _+_, _-_, _≤_, _<_}
-use Rattle.lines.specs.Running.{Effect}
+use Rattle.lines.specs.Log.{Effect}
 use Rattle.octets.proofs.Chain.{more, start}
 use Rattle.octets.specs.Ascii.{ascii}
 use Rattle.octets.specs.Class.{among}
 use Rattle.octets.specs.Splice.{splice, written}
 use Rattle.probe.specs.Tables.{blankDone, blankMade, dumpText, isImage, tableDone, verdictText}
-use Rattle.probe.specs.Effect.{Turned, shows}
+use Rattle.probe.specs.Effect.{shows}
+use Rattle.probe.specs.inner.Turned.{Turned}
 use Rattle.showing.specs.Shown.{hexed, unknown}
 use Rattle.showing.specs.Words.{bytesOf, firstWord, hasSpace, numberTo, rest}
 use Rattle.table.specs.Blank.{blankAfter, blankAnswer, blankFits, blankOf, madeIf}
@@ -22,11 +23,18 @@ use mathlib.Core.Path.{_≡_, refl, sym, _∙_}
 use native.Mathlib.Omega.{arith}
 
 -- a text was written, and the first bytes of h are a table
-pub turns : (o : List ℕ) (size : ℕ) (h t text : List ℕ) {d : Effect} {n : ℕ} {o′ : List ℕ} → d ≡ shows t text → (n ≡ length text) × (o′ ≡ written o text) → take size h ≡ t → size ≤ 65536 → Turned d o n o′ size h
+pub turns : (o : List ℕ) (size : ℕ) (h t text : List ℕ) {d : Effect} {n : ℕ} {o′ : List ℕ} → d ≡ shows t text → (n ≡ length text) × (o′ ≡ written o text) → take size h ≡ t
+    → size ≤ 65536 → Turned d o n o′ size h
 turns o size h t text e w k small = rw e (record { text = w; table = k; small = small })
 
+-- `?` was written, and the held table stays
+pub stays : (o : List ℕ) (size : ℕ) (h : List ℕ) {d : Effect} {n m : ℕ} {o′ : List ℕ} → d ≡ shows (take size h) unknown
+    → ((n ≡ length unknown) × (o′ ≡ written o unknown)) × (m ≡ size) → size ≤ 65536 → Turned d o n o′ m h
+stays o size h e w small = rw (w .1) (turns o size h (take size h) unknown e (w .0) refl small)
+
 -- `dump`
-pub dumped : (o t : List ℕ) {m r : ℕ} {o′ o″ : List ℕ} → (m ≡ 0 + length (hexed t)) × (o′ ≡ splice o 0 (hexed t)) → (r ≡ m + 1) × (o″ ≡ splice o′ m (ascii "\n")) → (r ≡ length (dumpText t)) × (o″ ≡ written o (dumpText t))
+pub dumped : (o t : List ℕ) {m r : ℕ} {o′ o″ : List ℕ} → (m ≡ 0 + length (hexed t)) × (o′ ≡ splice o 0 (hexed t)) → (r ≡ m + 1) × (o″ ≡ splice o′ m (ascii "\n"))
+    → (r ≡ length (dumpText t)) × (o″ ≡ written o (dumpText t))
 unfolding dumpText
 dumped o t p q = let w = more (ascii "\n") (more (hexed t) (start o) p) q in (w .place, w .is)
 
@@ -51,7 +59,8 @@ module _ (h : List ℕ) (n count : ℕ) (fits : n ≤ length h) where
   made-refused e a = rw lent at (refused-says (blankFits count (length (take (n - 0) h))) (sym e ∙ a))
 
   -- the part put back
-  pub made-held : (p : List ℕ) → length p ≡ n → p ≡ blankAfter (take (n - 0) h) count → (take n (take 0 h ++ (p ++ drop (n - 0) (drop 0 h))) ≡ blankAfter (take n h) count) × (drop n (take 0 h ++ (p ++ drop (n - 0) (drop 0 h))) ≡ drop n h)
+  pub made-held : (p : List ℕ) → length p ≡ n → p ≡ blankAfter (take (n - 0) h) count
+      → (take n (take 0 h ++ (p ++ drop (n - 0) (drop 0 h))) ≡ blankAfter (take n h) count) × (drop n (take 0 h ++ (p ++ drop (n - 0) (drop 0 h))) ≡ drop n h)
   made-held p l e =
       let z : n - 0 ≡ n = omega arith in
       (take-at p (drop (n - 0) h) n l ∙ rw z at e, drop-at p (drop (n - 0) h) n l ∙ rw z)
@@ -94,7 +103,8 @@ module _ (t words : List ℕ) where
   unfolding blankDone
   no-length e = simp e
 
-  pub both-numbers : {count len : ℕ} {a b : List ℕ} → hasSpace words ≡ true → a ≡ firstWord words → b ≡ rest words → count ≡ numberTo 65535 a → len ≡ numberTo 65536 b → blankMade t count len ≡ blankDone t words
+  pub both-numbers : {count len : ℕ} {a b : List ℕ} → hasSpace words ≡ true → a ≡ firstWord words → b ≡ rest words → count ≡ numberTo 65535 a → len ≡ numberTo 65536 b
+      → blankMade t count len ≡ blankDone t words
   unfolding blankDone
   both-numbers e f g p q = rw (p, q, f, g, e)
 

@@ -2,8 +2,9 @@
 -- whatever the system's reads give. Assumes nothing.
 use Prim.Native.Nat.{ℕ, _≤_}
 use Rattle.lines.proofs.WholeRun.{so-far, whole-run}
-use Rattle.lines.specs.Input.{ended, last, linesOf}
-use Rattle.lines.specs.Running.{Run, logText}
+use Rattle.lines.specs.Input.{endedLines, lastLine, linesOf}
+use Rattle.lines.specs.Log.{logText}
+use Rattle.lines.specs.inner.Running.{Turns}
 use Rattle.probe.proofs.CommandLaws.{line-long}
 use Rattle.probe.specs.Commands.{lineDone}
 use Rattle.table.specs.Blank.{blankOf}
@@ -24,9 +25,11 @@ line-kept cap room t l = go (decLe (length l) cap)
 
 -- at the end of the input: what was handed on turn by turn, and then the answer to a last line without its line feed, is the text of the
 -- whole input
-pub whole-input : {input handed t k : List ℕ} → Run lineDone 170001 (blankOf 255) input handed t k [] → logText lineDone (blankOf 255) (linesOf input) ≡ handed ++ logText lineDone t (last k)
+pub whole-input : {input handed t k : List ℕ} → Turns lineDone 170001 (blankOf 255) input handed t k []
+    → logText lineDone (blankOf 255) (linesOf input) ≡ handed ++ logText lineDone t (lastLine k)
 whole-input r = whole-run lineDone 170001 (omega arith) (line-kept 170001 (omega arith)) r
 
 -- before it, and where a call fails: what was handed on is the beginning of the text of the lines that have ended
-pub input-so-far : {input handed t k s : List ℕ} → Run lineDone 170001 (blankOf 255) input handed t k s → logText lineDone (blankOf 255) (ended [] input) ≡ handed ++ logText lineDone t (ended k s)
+pub input-so-far : {input handed t k s : List ℕ} → Turns lineDone 170001 (blankOf 255) input handed t k s
+    → logText lineDone (blankOf 255) (endedLines [] input) ≡ handed ++ logText lineDone t (endedLines k s)
 input-so-far r = so-far lineDone 170001 (omega arith) (line-kept 170001 (omega arith)) r .written

@@ -1,46 +1,46 @@
 -- What `msg` and `tick` show, and the table that is held after them. Cited by the contracts of `src/events.rt`. Assumes nothing.
 use Prim.Native.Nat.{ℕ}
-use Rattle.call.specs.Answer.{numberOf, placeOf, replyOf}
-use Rattle.call.specs.declared.answers.Answer.the-variants.{Accepted, Refused}
-use Rattle.call.specs.declared.answers.Answer.{Answer}
-use Rattle.keeper.specs.Keeping.{Step, choose, onMessage, onTick}
-use Rattle.lines.specs.Program.{textOf}
-use Rattle.lines.specs.Running.{Effect}
+use Rattle.answers.specs.Answer.{refusalNumber, refusalPlace, refusalReply}
+use Rattle.answers.specs.declared.Answer.the-variants.{Accepted, Refused}
+use Rattle.answers.specs.declared.Answer.{Answer}
+use Rattle.keeper.specs.Keeping.{Step, onMessage, onTick}
+use Rattle.lines.specs.Program.{answerText}
+use Rattle.lines.specs.Log.{Effect}
 use Rattle.octets.specs.Ascii.{ascii}
 use Rattle.octets.specs.Decimal.{shown}
 use Rattle.octets.specs.declared.decimals.Spelt.the-variants.{Value, Other}
 use Rattle.octets.specs.declared.decimals.Spelt.{Spelt}
-use Rattle.probe.specs.Effect.{pickEffect, shows}
+use Rattle.probe.specs.Effect.{shows}
 use Rattle.showing.specs.Shown.{unknown}
 use Rattle.showing.specs.Words.{bytesOf, firstWord, hasSpace, isBytes, numeral, rest}
-use mathlib.Core.Bool.{Bool, _&&_}
+use mathlib.Core.Bool.{Bool, _&&_, cond}
 use mathlib.Core.List.{List, _++_}
 
 -- `ok` before what the program of document 01 writes for an answer
 unfoldable pub acceptedText : Answer → List ℕ
-acceptedText a = ascii "ok " ++ (textOf a ++ ascii "\n")
+acceptedText a = ascii "ok " ++ (answerText a ++ ascii "\n")
 
 -- `ok WORD STATE`, or `no N PLACE REPLY`
 unfoldable pub eventText : Answer → List ℕ
 eventText (Accepted w s) = acceptedText (Accepted w s)
-eventText (Refused f) = ascii "no " ++ (shown (numberOf f) ++ (ascii " " ++ (shown (placeOf f) ++ (ascii " " ++ (shown (replyOf f) ++ ascii "\n")))))
+eventText (Refused f) = ascii "no " ++ (shown (refusalNumber f) ++ (ascii " " ++ (shown (refusalPlace f) ++ (ascii " " ++ (shown (refusalReply f) ++ ascii "\n")))))
 
 -- a tick for the Call-ID s, or the message s
 unfoldable pub eventOn : List ℕ → Bool → ℕ → List ℕ → Step
-eventOn t tick time s = choose tick (onTick t time s) (onMessage t time s)
+eventOn t tick time s = cond tick (onTick t time s) (onMessage t time s)
 
 -- an event's answer is shown
-abbrev pub turnOf : Step → Effect
-turnOf e = record { text = eventText (e .answer); table = e .table }
+abbrev pub stepDone : Step → Effect
+stepDone e = record { text = eventText (e .answer); table = e .table }
 
 -- an event at the time that is spelt
 abbrev pub eventAt : List ℕ → Bool → List ℕ → Spelt → Effect
-eventAt t tick s (Value time) = turnOf (eventOn t tick time s)
+eventAt t tick s (Value time) = stepDone (eventOn t tick time s)
 eventAt t tick s Other = shows t unknown
 
 -- `msg TIME HEX` and `tick TIME HEX`
 unfoldable pub eventDone : List ℕ → Bool → List ℕ → Effect
 eventDone t tick words =
-    pickEffect (hasSpace words && isBytes (rest words))
+    cond (hasSpace words && isBytes (rest words))
     (eventAt t tick (bytesOf (rest words)) (numeral (firstWord words)))
     (shows t unknown)

@@ -1,21 +1,20 @@
 -- What `blank`, `table` and `dump` show, and the table that is held after them. Cited by the contracts of `src/tables.rt`.
 -- Assumes nothing.
 use Prim.Native.Nat.{ℕ}
-use Rattle.lines.specs.Running.{Effect}
+use Rattle.lines.specs.Log.{Effect}
 use Rattle.octets.specs.Ascii.{ascii}
-use Rattle.octets.specs.Decimal.{pickList}
-use Rattle.probe.specs.Effect.{pickEffect, shows}
+use Rattle.probe.specs.Effect.{shows}
 use Rattle.showing.specs.Shown.{hexed, unknown}
 use Rattle.showing.specs.Words.{bytesOf, firstWord, hasSpace, isHexTo, numberTo, rest}
 use Rattle.table.specs.Blank.{blankFits, blankOf}
 use Rattle.table.specs.WellFormed.{wellFormed}
 use lib.Dec.{leb}
-use mathlib.Core.Bool.{Bool, true, false, _&&_}
+use mathlib.Core.Bool.{Bool, true, false, _&&_, cond}
 use mathlib.Core.List.{List, _++_}
 
 -- `ok`, or `no 1`
 abbrev pub verdictText : Bool → List ℕ
-verdictText good = pickList good (ascii "ok\n") (ascii "no 1\n")
+verdictText good = cond good (ascii "ok\n") (ascii "no 1\n")
 
 -- `dump`: the held table
 unfoldable pub dumpText : List ℕ → List ℕ
@@ -25,13 +24,13 @@ dumpText t = hexed t ++ ascii "\n"
 -- are answered `?`
 unfoldable pub blankMade : List ℕ → ℕ → ℕ → Effect
 blankMade t count len =
-    pickEffect (leb count 65535 && leb len 65536)
-    (pickEffect (blankFits count len) (shows (blankOf count) (verdictText true)) (shows t (verdictText false)))
+    cond (leb count 65535 && leb len 65536)
+    (cond (blankFits count len) (shows (blankOf count) (verdictText true)) (shows t (verdictText false)))
     (shows t unknown)
 
 -- `blank COUNT LENGTH`
 unfoldable pub blankDone : List ℕ → List ℕ → Effect
-blankDone t words = pickEffect (hasSpace words) (blankMade t (numberTo 65535 (firstWord words)) (numberTo 65536 (rest words))) (shows t unknown)
+blankDone t words = cond (hasSpace words) (blankMade t (numberTo 65535 (firstWord words)) (numberTo 65536 (rest words))) (shows t unknown)
 
 -- a word stands for a table's image, of at most 65,536 bytes
 abbrev pub isImage : List ℕ → Bool
@@ -39,4 +38,4 @@ isImage w = isHexTo 131072 w
 
 -- `table HEX`: the image is held as it is
 unfoldable pub tableDone : List ℕ → List ℕ → Effect
-tableDone t w = pickEffect (isImage w) (shows (bytesOf w) (verdictText (wellFormed (bytesOf w)))) (shows t unknown)
+tableDone t w = cond (isImage w) (shows (bytesOf w) (verdictText (wellFormed (bytesOf w)))) (shows t unknown)

@@ -1,6 +1,7 @@
 // One line: what it shows, and what it does to the held table.
 use crate::events::happen;
 use crate::tables::Answered;
+use crate::tables::answer_unknown;
 use crate::tables::blank;
 use crate::tables::dump;
 use crate::tables::hold;
@@ -8,12 +9,11 @@ use octets::same;
 use showing::ask;
 use showing::first;
 use showing::has_space;
-use showing::put_unknown;
 use showing::rest;
 ghost use Prim.Native.Nat.{_≤_};
 ghost use lib.ListN.{length, take};
 ghost use Rattle.probe.specs.Commands.{commandDone, lineDone};
-ghost use Rattle.probe.specs.Effect.{Turned};
+ghost use Rattle.probe.specs.inner.Turned.{Turned};
 
 // A command and its words.
 fn obey(
@@ -65,10 +65,7 @@ pub fn answer(
     ensures { λ r. ⌜ Turned (lineDone (take size (now (held .entry))) (now (line .entry))) (now (out .entry)) (r .len) (now (out .exit)) (r .size) (now (held .exit)) ⌝ }
 {
     if 170000 < line.len() {
-        return Answered {
-            len: put_unknown(out),
-            size: size,
-        };
+        return answer_unknown(out, size);
     }
     if same(line, b"dump") {
         return Answered {
@@ -77,10 +74,7 @@ pub fn answer(
         };
     }
     if !has_space(line) {
-        return Answered {
-            len: put_unknown(out),
-            size: size,
-        };
+        return answer_unknown(out, size);
     }
     obey(out, held, size, bytes, room, first(line), rest(line))
 }

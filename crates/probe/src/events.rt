@@ -1,6 +1,6 @@
 // `msg` and `tick`.
-use call::Answer;
-use call::Refusal;
+use answers::Answer;
+use answers::Refusal;
 use lines::Wrote;
 use octets::Spelt;
 use octets::put;
@@ -14,10 +14,10 @@ use showing::take_bytes;
 ghost use mathlib.Core.Path.{_≡_};
 ghost use Prim.Native.Nat.{_≤_};
 ghost use lib.ListN.{length, take};
-ghost use Rattle.call.specs.declared.answers.Answer.the-variants.{Refused};
+ghost use Rattle.answers.specs.declared.Answer.the-variants.{Refused};
 ghost use Rattle.keeper.specs.Keeping.{onMessage, onTick};
-ghost use Rattle.probe.specs.Events.{acceptedText, eventDone, eventOn, eventText, turnOf};
-ghost use Rattle.probe.specs.Effect.{Turned};
+ghost use Rattle.probe.specs.Events.{acceptedText, eventDone, eventOn, eventText, stepDone};
+ghost use Rattle.probe.specs.inner.Turned.{Turned};
 ghost use Rattle.showing.specs.Shown.{Puts};
 
 // An acceptance's word and state, as in the program's lines.
@@ -36,9 +36,9 @@ fn put_refused(out: &mut [u8; 160100], f: Refusal) -> usize
     ensures { λ r. ⌜ Puts (now (out .entry)) (eventText (Refused f)) r (now (out .exit)) ⌝ }
 {
     let before_number = put(out, 0, b"no ");
-    let before_place = put_number(out, before_number, call::number(f) as u64, b" ");
-    let before_reply = put_number(out, before_place, call::place(f) as u64, b" ");
-    put_number(out, before_reply, call::reply(f) as u64, b"\n")
+    let before_place = put_number(out, before_number, answers::number(f) as u64, b" ");
+    let before_reply = put_number(out, before_place, answers::place(f) as u64, b" ");
+    put_number(out, before_reply, answers::reply(f) as u64, b"\n")
 }
 
 // What an event is answered.
@@ -90,7 +90,7 @@ fn happens(
     tick: bool,
 ) -> usize
     requires { ⌜ (size ≤ 65536) × (n ≤ 85000) ⌝ }
-    ensures { λ r. ⌜ Turned (turnOf (eventOn (take size (now (held .entry))) tick time (take n (now (bytes .entry))))) (now (out .entry)) r (now (out .exit)) size (now (held .exit)) ⌝ }
+    ensures { λ r. ⌜ Turned (stepDone (eventOn (take size (now (held .entry))) tick time (take n (now (bytes .entry))))) (now (out .entry)) r (now (out .exit)) size (now (held .exit)) ⌝ }
 {
     let s: &[u8] = bytes;
     put_event(out, event(held, size, &s[0..n], time, tick))

@@ -17,10 +17,11 @@ ghost use mathlib.Core.Path.{_≡_};
 ghost use Prim.Native.Nat.{_<_, _≤_};
 ghost use lib.Dec.{ltb};
 ghost use lib.ListN.{drop, length, take};
-ghost use Rattle.lines.specs.Input.{last as lastLine};
-ghost use Rattle.lines.specs.Running.{Goes, Reached, Stepped, logTable, logText};
+ghost use Rattle.lines.specs.Input.{lastLine};
+ghost use Rattle.lines.specs.Log.{logTable, logText};
+ghost use Rattle.lines.specs.inner.Running.{Works, Reached, Stepped};
 ghost use Rattle.probe.specs.Commands.{lineDone};
-ghost use Rattle.probe.specs.Effect.{Turned};
+ghost use Rattle.probe.specs.inner.Turned.{Turned};
 ghost use Rattle.table.specs.Blank.{blankOf};
 
 // Where a run stands: the size of the held table, how many bytes of the open line are kept, the place in the piece and the piece's end,
@@ -106,7 +107,7 @@ fn piece(
     from: usize,
 ) -> State
     requires { ⌜ (size ≤ 65536) × (from < length (now s)) × (length (now s) ≤ 16384) ⌝ }
-    ensures { λ r. ⌜ Goes lineDone 170001 (take size (now (held .entry))) (take len (now (line .entry))) (drop from (now (s .entry))) (take (r .size) (now (held .exit))) (take (r .len) (now (line .exit))) (drop (r .from) (now (s .entry))) (take (r .end) (now (out .exit)))
+    ensures { λ r. ⌜ Works lineDone 170001 (take size (now (held .entry))) (take len (now (line .entry))) (drop from (now (s .entry))) (take (r .size) (now (held .exit))) (take (r .len) (now (line .exit))) (drop (r .from) (now (s .entry))) (take (r .end) (now (out .exit)))
         × (r .size ≤ 65536)
         × (r .len ≤ 170001)
         × (r .from ≤ length (now (s .entry)))
@@ -121,7 +122,7 @@ fn piece(
             let a = answer(out, held, size, bytes, room, &s[from..e]);
             told(out, a, next, s.len())
         }
-        Next::Held(m, next) => {
+        Next::Buffered(m, next) => {
             let a = answer_kept(out, held, size, bytes, room, line, m);
             told(out, a, next, s.len())
         }

@@ -11,8 +11,8 @@ ghost use mathlib.Core.Path.{_≡_};
 ghost use Prim.Native.Nat.{_≤_};
 ghost use lib.ListN.{drop, length, take};
 ghost use Rattle.probe.specs.Tables.{blankDone, blankMade, dumpText, tableDone, verdictText};
-ghost use Rattle.probe.specs.Effect.{Turned};
-ghost use Rattle.showing.specs.Shown.{Puts};
+ghost use Rattle.probe.specs.inner.Turned.{Turned};
+ghost use Rattle.showing.specs.Shown.{Puts, unknown};
 ghost use Rattle.showing.specs.Words.{bytesOf};
 ghost use Rattle.table.specs.Blank.{blankAfter, blankFits};
 ghost use Rattle.table.specs.WellFormed.{wellFormed};
@@ -21,6 +21,16 @@ ghost use Rattle.table.specs.WellFormed.{wellFormed};
 pub struct Answered {
     pub len: usize,
     pub size: usize,
+}
+
+// Answers `?`; the held table stays.
+pub fn answer_unknown(out: &mut [u8; 160100], size: usize) -> Answered
+    ensures { λ r. ⌜ Puts (now (out .entry)) unknown (r .len) (now (out .exit)) × (r .size ≡ size) ⌝ }
+{
+    Answered {
+        len: put_unknown(out),
+        size: size,
+    }
 }
 
 // Writes the held table.
@@ -76,16 +86,10 @@ fn make(
     ensures { λ r. ⌜ Turned (blankMade (take size (now (held .entry))) count length) (now (out .entry)) (r .len) (now (out .exit)) (r .size) (now (held .exit)) ⌝ }
 {
     if 65535 < count {
-        return Answered {
-            len: put_unknown(out),
-            size: size,
-        };
+        return answer_unknown(out, size);
     }
     if 65536 < length {
-        return Answered {
-            len: put_unknown(out),
-            size: size,
-        };
+        return answer_unknown(out, size);
     }
     let n = length as usize;
     if make_blank(held, n, count as usize) {
@@ -106,10 +110,7 @@ pub fn blank(out: &mut [u8; 160100], held: &mut [u8; 65536], size: usize, words:
     ensures { λ r. ⌜ Turned (blankDone (take size (now (held .entry))) (now (words .entry))) (now (out .entry)) (r .len) (now (out .exit)) (r .size) (now (held .exit)) ⌝ }
 {
     if !has_space(words) {
-        return Answered {
-            len: put_unknown(out),
-            size: size,
-        };
+        return answer_unknown(out, size);
     }
     let count = number_to(first(words), 65535);
     let length = number_to(rest(words), 65536);
@@ -130,10 +131,7 @@ pub fn hold(out: &mut [u8; 160100], held: &mut [u8; 65536], size: usize, word: &
     ensures { λ r. ⌜ Turned (tableDone (take size (now (held .entry))) (now (word .entry))) (now (out .entry)) (r .len) (now (out .exit)) (r .size) (now (held .exit)) ⌝ }
 {
     if !is_hex_to(word, 131072) {
-        return Answered {
-            len: put_unknown(out),
-            size: size,
-        };
+        return answer_unknown(out, size);
     }
     let n = take_image(held, word);
     Answered {

@@ -1,8 +1,8 @@
 -- A known field is found by a guess and one comparison: every name's guess is its own number, so no other can be missed.
 -- The tables of `src/names.rt` are held to the names by one test each. Assumes nothing.
 use Prim.Native.Nat.{_%_, _*_, _+_, _-_, _<_, _≤_, suc, ℕ}
-use mathlib.Core.Bool.{Bool, _&&_, false, true}
-use mathlib.Core.List.{List, _∷_, []}
+use mathlib.Core.Bool.{Bool, _&&_, false, true, cond}
+use mathlib.Core.List.{List, _++_, _∷_, []}
 use mathlib.Core.Path.{_∙_, _≡_, ap, refl, sym}
 use native.Mathlib.Omega.{arith}
 use lib.Dec.{T, eqb, eqb→eq, leb, leb→le, ltb, ltb→lt}
@@ -12,12 +12,13 @@ use Rattle.octets.specs.Ascii.{ascii}
 use Rattle.octets.specs.Text.{same}
 use Rattle.rules.proofs.Table.{and-left, and-right, at, equal, equal-is}
 use Rattle.rules.specs.Names.{fieldName, fields}
-use Rattle.rules.specs.Pieces.{pickN, placeFrom, placeOf}
+use Rattle.rules.specs.Pieces.{wordNumberFrom, wordNumber}
 
 -- the names one after the other, and where each begins
 abbrev pub names : List ℕ
 names =
-    ascii "CSeqToFromDateCall-IDViaStatusMessage-IDContent-TypeBodyRefer-ToReferred-ByRefer-MemoSession-IDCall-ModeCall-TestSecure-CallRescueeRequest-ServiceLanguageLocationsUser-AgentCallerOptionsDestinationResponded-By"
+    ascii "CSeqToFromDateCall-IDViaStatusMessage-IDContent-TypeBodyRefer-ToReferred-ByRefer-MemoSession-IDCall-ModeCall-Test"
+    ++ ascii "Secure-CallRescueeRequest-ServiceLanguageLocationsUser-AgentCallerOptionsDestinationResponded-By"
 
 abbrev pub starts : List ℕ
 starts =
@@ -41,24 +42,24 @@ guess x = getD guesses ((length x % 16 * 5 + getD x 0 0 * 5 + getD x (length x -
 right : ℕ → Bool
 right k =
     (leb (getD starts k 0) (getD starts (k + 1) 0) && leb (getD starts (k + 1) 0) 209)
-    && (equal (cut k) (fieldName k) && (eqb (guess (fieldName k)) k && eqb (placeOf fields (fieldName k)) k))
+    && (equal (cut k) (fieldName k) && (eqb (guess (fieldName k)) k && eqb (wordNumber fields (fieldName k)) k))
 
 pub record Row (k : ℕ) : Type 0 where
   pub rises : getD starts k 0 ≤ getD starts (k + 1) 0
   pub inside : getD starts (k + 1) 0 ≤ 209
   pub is : take (getD starts (k + 1) 0 - getD starts k 0) (drop (getD starts k 0) names) ≡ fieldName k
   pub guessed : guess (fieldName k) ≡ k
-  pub placed : placeOf fields (fieldName k) ≡ k
+  pub placed : wordNumber fields (fieldName k) ≡ k
 
 -- each field's number and name, there and back
 pub row : (k : ℕ) → k < 27 → Row k
-unfolding right fieldName placeFrom same
+unfolding right fieldName wordNumberFrom same
 row k h =
     let a = leb (getD starts k 0) (getD starts (k + 1) 0) in
     let b = leb (getD starts (k + 1) 0) 209 in
     let d = equal (cut k) (fieldName k) in
     let g = eqb (guess (fieldName k)) k in
-    let p = eqb (placeOf fields (fieldName k)) k in
+    let p = eqb (wordNumber fields (fieldName k)) k in
     let t : T ((a && b) && (d && (g && p))) = at right 27 tt k h in
     let l = and-left (a && b) (d && (g && p)) t in
     let r = and-right (a && b) (d && (g && p)) t in
@@ -88,25 +89,25 @@ later : (w : List ℕ) (ws : List (List ℕ)) (k : ℕ) (x : List ℕ) (n : ℕ)
 later w ws k x n (none e) = none e
 later w ws k x n (nth j e h q) = nth (suc j) (omega arith) (omega arith) q
 
-first : (w : List ℕ) (ws : List (List ℕ)) (k : ℕ) (x : List ℕ) (n : ℕ) (t : Bool) → same x w ≡ t → Found ws (k + 1) x n → Found (w ∷ ws) k x (pickN t k n)
+first : (w : List ℕ) (ws : List (List ℕ)) (k : ℕ) (x : List ℕ) (n : ℕ) (t : Bool) → same x w ≡ t → Found ws (k + 1) x n → Found (w ∷ ws) k x (cond t k n)
 first w ws k x n true e f = nth 0 (omega arith) (omega arith) (same-eq x w e)
 first w ws k x n false e f = later w ws k x n f
 
-pub found : (ws : List (List ℕ)) (k : ℕ) (x : List ℕ) → Found ws k x (placeFrom ws k x)
-unfolding placeFrom
+pub found : (ws : List (List ℕ)) (k : ℕ) (x : List ℕ) → Found ws k x (wordNumberFrom ws k x)
+unfolding wordNumberFrom
 found [] k x = none refl
-found (w ∷ ws) k x = first w ws k x (placeFrom ws (k + 1) x) (same x w) refl (found ws (k + 1) x)
+found (w ∷ ws) k x = first w ws k x (wordNumberFrom ws (k + 1) x) (same x w) refl (found ws (k + 1) x)
 
 -- a word's number is at most the number of words
-pub place-below : (ws : List (List ℕ)) (x : List ℕ) → placeOf ws x ≤ length ws
-place-below ws x = go (placeOf ws x) (found ws 1 x)
+pub place-below : (ws : List (List ℕ)) (x : List ℕ) → wordNumber ws x ≤ length ws
+place-below ws x = go (wordNumber ws x) (found ws 1 x)
   where
     go : (n : ℕ) → Found ws 1 x n → n ≤ length ws
     go n (none e) = omega arith
     go n (nth j e h q) = omega arith
 
 module _ (x : List ℕ) (k : ℕ) (small : k < 27) where
-  pub is-name : same x (fieldName k) ≡ true → k ≡ placeOf fields x
+  pub is-name : same x (fieldName k) ≡ true → k ≡ wordNumber fields x
   is-name e = sym (rw (same-eq x (fieldName k) e) (row k small .placed))
 
 -- where the guess is not the name, no other name is
@@ -120,8 +121,8 @@ lost x n (nth j e h q) f =
     let z : _≡_ {A = Bool} true false = sym y ∙ f in
     cc
 
-pub no-name : (x : List ℕ) (k : ℕ) → k ≡ guess x → same x (fieldName k) ≡ false → 0 ≡ placeOf fields x
-no-name x k g f = lost x (placeOf fields x) (found fields 1 x) (rw g at f)
+pub no-name : (x : List ℕ) (k : ℕ) → k ≡ guess x → same x (fieldName k) ≡ false → 0 ≡ wordNumber fields x
+no-name x k g f = lost x (wordNumber fields x) (found fields 1 x) (rw g at f)
 
 -- the guess as the code computes it
 pub guess-is : (x : List ℕ) (a l b : ℕ) → a ≡ getD x 0 0 → l ≡ length x - 1 → b ≡ getD x l 0 → getD guesses ((length x % 16 * 5 + a * 5 + b * 3) % 64) 0 ≡ guess x

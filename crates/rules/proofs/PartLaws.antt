@@ -1,7 +1,7 @@
 -- What callers may count on: how long a text is that keeps a rule, that the parts of an address keep the rules of their
 -- own, and the ranges of the numbers that come out. The idea: a run that is cut out of its text is the same run. Assumes nothing.
 use Prim.Native.Nat.{_+_, _-_, _<_, _≤_, suc, ℕ}
-use mathlib.Core.Bool.{Bool, _&&_, false, true}
+use mathlib.Core.Bool.{Bool, _&&_, false, true, cond}
 use mathlib.Core.List.{List, _∷_, []}
 use mathlib.Core.Path.{_∙_, _≡_, ap, refl, sym}
 use native.Mathlib.Nat.{zero-add}
@@ -11,14 +11,14 @@ use lib.Dec.{eqb}
 use lib.ListN.{drop, getD, length, take}
 use lib.Seq.{getD-drop, getD-take, length-take-le}
 use Rattle.octets.proofs.ClassLaws.{among-in, in-among}
-use Rattle.octets.proofs.TextLaws.{and-parts}
+use Rattle.octets.proofs.TestLaws.{and-parts}
 use Rattle.octets.specs.Ascii.{ascii}
 use Rattle.octets.specs.Class.{among}
 use Rattle.octets.specs.Text.{standsAt}
 use Rattle.rules.proofs.AddressLaws.{callee-is, caller-is}
-use Rattle.rules.specs.Address.{addressOf, calleeEnd, calleeRule, callerEnd, callerRule, chosen, userEnd}
+use Rattle.rules.specs.Address.{addressOf, calleeEnd, calleeRule, callerEnd, callerRule, userEnd}
 use Rattle.rules.specs.Classes.{holds}
-use Rattle.rules.specs.Pieces.{behind, further, keeps, reads, run, span, within}
+use Rattle.rules.specs.Pieces.{behind, further, hasPiece, reads, run, runLength, within}
 use Rattle.rules.specs.Texts.{callIdRule, fireRule, userRule}
 use Rattle.rules.specs.declared.addresses.Address.the-variants.{Broken, Callee, Caller}
 use Rattle.rules.specs.declared.classes.Class.{Class}
@@ -26,9 +26,9 @@ use Rattle.rules.specs.declared.classes.Class.the-variants.{Alnum, Fire,
 
 -- a text that is one run is as long as the run may be
 pub run-length : (lo hi : ℕ) (k e : Class) (s : List ℕ) → reads (run lo hi k e ∷ []) s 0 ≡ true → (lo ≤ length s) × (length s ≤ hi)
-unfolding reads keeps behind within
+unfolding reads hasPiece behind within
 run-length lo hi k e s h =
-    let n = 0 + span k (drop 0 s) in
+    let n = 0 + runLength k (drop 0 s) in
     let p = and-parts (among lo hi (n - 0) && (holds e (getD s 0 0) && holds e (getD s (n - 1) 0))) (eqb n (length s)) h in
     let q = and-parts (among lo hi (n - 0)) (holds e (getD s 0 0) && holds e (getD s (n - 1) 0)) (p .0) in
     let r = among-in lo hi (n - 0) (q .0) in
@@ -52,23 +52,24 @@ further-le : (t : Bool) (n m : ℕ) → n ≤ m → further t n ≤ suc m
 further-le true n m h = omega arith
 further-le false n m h = omega arith
 
-pub span-le : (k : Class) (s : List ℕ) → span k s ≤ length s
-unfolding span
+pub span-le : (k : Class) (s : List ℕ) → runLength k s ≤ length s
+unfolding runLength
 span-le k [] = omega arith
-span-le k (x ∷ s) = further-le (holds k x) (span k s) (length s) (span-le k s)
+span-le k (x ∷ s) = further-le (holds k x) (runLength k s) (length s) (span-le k s)
 
 -- the bytes that are counted are the same bytes once they are cut out
-step-cut : (k : Class) (x : ℕ) (s : List ℕ) (t : Bool) → holds k x ≡ t → span k (take (span k s) s) ≡ span k s → span k (take (further t (span k s)) (x ∷ s)) ≡ further t (span k s)
-unfolding span
+step-cut : (k : Class) (x : ℕ) (s : List ℕ) (t : Bool) → holds k x ≡ t → runLength k (take (runLength k s) s) ≡ runLength k s
+    → runLength k (take (further t (runLength k s)) (x ∷ s)) ≡ further t (runLength k s)
+unfolding runLength
 step-cut k x s true e h = rw e (ap suc h)
 step-cut k x s false e h = refl
 
-pub span-cut : (k : Class) (s : List ℕ) → span k (take (span k s) s) ≡ span k s
-unfolding span
+pub span-cut : (k : Class) (s : List ℕ) → runLength k (take (runLength k s) s) ≡ runLength k s
+unfolding runLength
 span-cut k [] = refl
 span-cut k (x ∷ s) = step-cut k x s (holds k x) refl (span-cut k s)
 
-module _ (lo hi : ℕ) (k e : Class) (s : List ℕ) (at end : ℕ) (some : 1 ≤ lo) (q : end ≡ at + span k (drop at s)) (h : within lo hi e s at end ≡ true) where
+module _ (lo hi : ℕ) (k e : Class) (s : List ℕ) (at end : ℕ) (some : 1 ≤ lo) (q : end ≡ at + runLength k (drop at s)) (h : within lo hi e s at end ≡ true) where
   pub run-in : (lo ≤ end - at) × (end - at ≤ hi)
   unfolding within
   run-in = among-in lo hi (end - at) (and-parts (among lo hi (end - at)) (holds e (getD s at 0) && holds e (getD s (end - 1) 0)) h .0)
@@ -94,14 +95,14 @@ module _ (lo hi : ℕ) (k e : Class) (s : List ℕ) (at end : ℕ) (some : 1 ≤
       getD-take (end - at) (drop at s) (end - at - 1) 0 (omega (arith, run-in)) ∙ getD-drop at s (end - at - 1) 0
       ∙ ap (λ (i : ℕ). getD s i 0) (let z : at + (end - at - 1) ≡ end - 1 = omega (arith, run-in) in z)
 
-  cut-span : 0 + span k (drop 0 (take (end - at) (drop at s))) ≡ end - at
+  cut-span : 0 + runLength k (drop 0 (take (end - at) (drop at s))) ≡ end - at
   cut-span =
-      let z : end - at ≡ span k (drop at s) = omega arith in
+      let z : end - at ≡ runLength k (drop at s) = omega arith in
       rw z (zero-add _ ∙ span-cut k (drop at s))
 
   -- a run in the middle of a text is a text of its own
   pub cut-run : reads (run lo hi k e ∷ []) (take (end - at) (drop at s)) 0 ≡ true
-  unfolding reads keeps behind within
+  unfolding reads hasPiece behind within
   cut-run =
       let z : end - at - 0 ≡ end - at = omega arith in
       rw (
@@ -141,7 +142,7 @@ caller-parts s u f p q h =
     let x = and-parts a (b && (d && (g && j))) (and-parts (standsAt s 0 (ascii "net119:")) (a && (b && (d && (g && j)))) r .1) in
     let y = and-parts d (g && j) (and-parts b (d && (g && j)) (x .1) .1) in
     let z = and-parts g j (y .1) in
-    let w : f ≡ (u + 1) + span Fire (drop (u + 1) s) = q ∙ ap (λ (i : ℕ). (i + 1) + span Fire (drop (i + 1) s)) (sym p) in
+    let w : f ≡ (u + 1) + runLength Fire (drop (u + 1) s) = q ∙ ap (λ (i : ℕ). (i + 1) + runLength Fire (drop (i + 1) s)) (sym p) in
     let m = run-in 1 15 Alnum Alnum s 7 u (omega arith) p (x .0) in
     let n = run-in 2 15 Fire Small s (u + 1) f (omega arith) w (y .0) in
     record {
@@ -170,7 +171,8 @@ callee-parts s f q h =
 
 -- what an address that is one says of its parts
 module _ (s : List ℕ) where
-  as-caller : (t r : Bool) (u f : ℕ) → callerRule s ≡ t → calleeRule s ≡ r → chosen t (Caller (userEnd s) (callerEnd s)) (chosen r (Callee (calleeEnd s)) Broken) ≡ Caller u f → CallerParts s u f
+  as-caller : (t r : Bool) (u f : ℕ) → callerRule s ≡ t → calleeRule s ≡ r → cond t (Caller (userEnd s) (callerEnd s)) (cond r (Callee (calleeEnd s)) Broken) ≡ Caller u f
+      → CallerParts s u f
   as-caller true r u f h g e =
       let p : u ≡ userEnd s = cc in
       let q : f ≡ callerEnd s = cc in
@@ -182,7 +184,8 @@ module _ (s : List ℕ) where
   unfolding addressOf
   caller-address-parts u f e = as-caller (callerRule s) (calleeRule s) u f refl refl e
 
-  as-callee : (t r : Bool) (f : ℕ) → callerRule s ≡ t → calleeRule s ≡ r → chosen t (Caller (userEnd s) (callerEnd s)) (chosen r (Callee (calleeEnd s)) Broken) ≡ Callee f → CalleeParts s f
+  as-callee : (t r : Bool) (f : ℕ) → callerRule s ≡ t → calleeRule s ≡ r → cond t (Caller (userEnd s) (callerEnd s)) (cond r (Callee (calleeEnd s)) Broken) ≡ Callee f
+      → CalleeParts s f
   as-callee true r f h g e = absurd (let z : _≡_ {A = ℕ} 0 1 = cc in omega arith)
   as-callee false true f h g e =
       let q : f ≡ calleeEnd s = cc in

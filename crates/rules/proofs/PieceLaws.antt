@@ -1,6 +1,6 @@
 -- The pieces' laws: a run, a digit and a code point at a time for the loops, and what one byte at a place means. Assumes nothing.
 use Prim.Native.Nat.{_*_, _+_, _-_, _<_, _≤_, suc, zero, ℕ}
-use mathlib.Core.Bool.{Bool, _&&_, false, true}
+use mathlib.Core.Bool.{Bool, _&&_, false, true, cond}
 use mathlib.Core.List.{List, _∷_, []}
 use mathlib.Core.Path.{_∙_, _≡_, ap, refl, sym}
 use native.Mathlib.Nat.{zero-add}
@@ -14,21 +14,21 @@ use Rattle.octets.proofs.ClassLaws.{all-ends, all-more, all-stops}
 use Rattle.octets.specs.Class.{all, among, isDigit}
 use Rattle.octets.specs.Text.{same, standsAt}
 use Rattle.rules.specs.Classes.{holds}
-use Rattle.rules.specs.Pieces.{digits, pickN, span, value}
+use Rattle.rules.specs.Pieces.{digits, runLength, decimalAt}
 use Rattle.rules.specs.Texts.{begins, memoRule, points, unescaped}
 use Rattle.rules.specs.declared.classes.Class.{Class}
 
 module _ (k : Class) (s : List ℕ) (i : ℕ) where
-  pub span-more : i < length s → holds k (getD s i 0) ≡ true → i + span k (drop i s) ≡ (i + 1) + span k (drop (i + 1) s)
-  unfolding span
+  pub span-more : i < length s → holds k (getD s i 0) ≡ true → i + runLength k (drop i s) ≡ (i + 1) + runLength k (drop (i + 1) s)
+  unfolding runLength
   span-more h e = rw (add-one, drop-cons s i 0, e) (omega arith)
 
-  pub span-stops : i < length s → holds k (getD s i 0) ≡ false → i + span k (drop i s) ≡ i
-  unfolding span
+  pub span-stops : i < length s → holds k (getD s i 0) ≡ false → i + runLength k (drop i s) ≡ i
+  unfolding runLength
   span-stops h e = rw (drop-cons s i 0, e) (omega arith)
 
-  pub span-ends : length s ≤ i → i + span k (drop i s) ≡ i
-  unfolding span
+  pub span-ends : length s ≤ i → i + runLength k (drop i s) ≡ i
+  unfolding runLength
   span-ends h = rw (drop-of-length-le s h) (omega arith)
 
 no-points : (n : ℕ) → n + points [] ≡ n
@@ -59,25 +59,25 @@ module _ (s : List ℕ) (at : ℕ) where
   digits-stops i (suc n) h d =
       digits-stop i n (eqb i n) refl d (λ e. digits-stops i n (omega (arith, eqb-false i n e)) d)
 
-  pub value-more : (i : ℕ) → value (i + 1) s at ≡ value i s at * 10 + (getD s (at + i) 0 - 48)
-  unfolding value
+  pub value-more : (i : ℕ) → decimalAt (i + 1) s at ≡ decimalAt i s at * 10 + (getD s (at + i) 0 - 48)
+  unfolding decimalAt
   value-more i = rw add-one
 
-  value-step : (n : ℕ) → value n s at ≤ value (suc n) s at
-  unfolding value
+  value-step : (n : ℕ) → decimalAt n s at ≤ decimalAt (suc n) s at
+  unfolding decimalAt
   value-step n = omega arith
 
-  value-rise : (i n : ℕ) (t : Bool) → eqb i (suc n) ≡ t → (t ≡ false → value i s at ≤ value n s at) → value i s at ≤ value (suc n) s at
-  value-rise i n true e f = let q : i ≡ suc n = eqb-true i (suc n) e in omega (arith, ap (λ (k : ℕ). value k s at) q)
+  value-rise : (i n : ℕ) (t : Bool) → eqb i (suc n) ≡ t → (t ≡ false → decimalAt i s at ≤ decimalAt n s at) → decimalAt i s at ≤ decimalAt (suc n) s at
+  value-rise i n true e f = let q : i ≡ suc n = eqb-true i (suc n) e in omega (arith, ap (λ (k : ℕ). decimalAt k s at) q)
   value-rise i n false e f = omega (arith, f refl, value-step n)
 
-  pub value-grows : (i n : ℕ) → i ≤ n → value i s at ≤ value n s at
-  value-grows i zero h = let q : i ≡ 0 = omega arith in omega (arith, ap (λ (k : ℕ). value k s at) q)
+  pub value-grows : (i n : ℕ) → i ≤ n → decimalAt i s at ≤ decimalAt n s at
+  value-grows i zero h = let q : i ≡ 0 = omega arith in omega (arith, ap (λ (k : ℕ). decimalAt k s at) q)
   value-grows i (suc n) h =
       value-rise i n (eqb i (suc n)) refl (λ e. value-grows i n (omega (arith, eqb-false i (suc n) e)))
 
-  pub value-small : ((k : ℕ) → getD s k 0 < 256) → (i : ℕ) → i ≤ 4 → value i s at ≤ 229977
-  unfolding value
+  pub value-small : ((k : ℕ) → getD s k 0 < 256) → (i : ℕ) → i ≤ 4 → decimalAt i s at ≤ 229977
+  unfolding decimalAt
   value-small g zero h = omega arith
   value-small g (suc zero) h = omega (arith, g (at + 0))
   value-small g (suc (suc zero)) h = omega (arith, g (at + 0), g (at + 1))
@@ -104,20 +104,20 @@ stands-inside s at b h e = go (ltb at (length s)) refl
         omega arith
 
 -- the steps of `number_at`
-pub number-more : (s : List ℕ) (at i v b w : ℕ) → v ≡ value i s at → b ≡ getD s (at + i) 0 → w ≡ b - 48 → v * 10 + w ≡ value (i + 1) s at
+pub number-more : (s : List ℕ) (at i v b w : ℕ) → v ≡ decimalAt i s at → b ≡ getD s (at + i) 0 → w ≡ b - 48 → v * 10 + w ≡ decimalAt (i + 1) s at
 number-more s at i v b w p q r = rw (value-more s at i, ← p, ← q, r)
 
 -- and those of `count`
-module _ (s : List ℕ) (i v w : ℕ) (p : v ≡ value i s 0) where
-  pub count-more : w ≡ getD s i 0 - 48 → v * 10 + w ≡ value (i + 1) s 0
+module _ (s : List ℕ) (i v w : ℕ) (p : v ≡ decimalAt i s 0) where
+  pub count-more : w ≡ getD s i 0 - 48 → v * 10 + w ≡ decimalAt (i + 1) s 0
   count-more r = rw (value-more s 0 i, ← p, zero-add i, r)
 
-  pub count-over : (n hi : ℕ) → i < n → w ≡ getD s i 0 - 48 → hi < v * 10 + w → 0 ≡ pickN (leb (value n s 0) hi) (value n s 0) 0
+  pub count-over : (n hi : ℕ) → i < n → w ≡ getD s i 0 - 48 → hi < v * 10 + w → 0 ≡ cond (leb (decimalAt n s 0) hi) (decimalAt n s 0) 0
   count-over n hi h r o =
-      let g : value (i + 1) s 0 ≤ value n s 0 = value-grows s 0 (i + 1) n (omega arith) in
-      rw (lt-leb (value n s 0) hi (omega (arith, count-more r)))
+      let g : decimalAt (i + 1) s 0 ≤ decimalAt n s 0 = value-grows s 0 (i + 1) n (omega arith) in
+      rw (lt-leb (decimalAt n s 0) hi (omega (arith, count-more r)))
 
-  pub count-ends : (n hi : ℕ) → i ≡ n → v ≤ hi → v ≡ pickN (leb (value n s 0) hi) (value n s 0) 0
+  pub count-ends : (n hi : ℕ) → i ≡ n → v ≤ hi → v ≡ cond (leb (decimalAt n s 0) hi) (decimalAt n s 0) 0
   count-ends n hi e h = rw (← e, ← p, le-leb v hi h)
 
 -- one more code point, or none

@@ -1,7 +1,7 @@
 -- The table of status texts of `src/statuses.rt`, held to its definition by one test, and the search for a code. Assumes nothing.
 use Prim.Native.Nat.{_+_, _-_, _<_, _≤_, suc, ℕ}
-use mathlib.Core.Bool.{Bool, _&&_, false, true}
-use mathlib.Core.List.{List, _∷_, []}
+use mathlib.Core.Bool.{Bool, _&&_, false, true, cond}
+use mathlib.Core.List.{List, _++_, _∷_, []}
 use mathlib.Core.Path.{_≡_, refl, sym}
 use native.Mathlib.Numerals.{add-one}
 use native.Mathlib.Omega.{arith}
@@ -10,13 +10,13 @@ use lib.Dec.{T, eqb, eqb→eq, leb, leb→le}
 use lib.ListN.{List·getD-eq-default, drop, getD, length, take}
 use lib.Seq.{drop-cons}
 use Rattle.octets.proofs.ClassLaws.{among-in}
-use Rattle.octets.proofs.TextLaws.{and-parts}
+use Rattle.octets.proofs.TestLaws.{and-parts}
 use Rattle.octets.specs.Ascii.{ascii}
 use Rattle.octets.specs.Class.{among}
 use Rattle.octets.specs.Text.{standsAt}
 use Rattle.rules.proofs.Table.{and-left, and-right, at, equal, equal-is}
-use Rattle.rules.specs.Pieces.{behind, digits, fixed, free, keeps, number, reads, value}
-use Rattle.rules.specs.Status.{chosen, codes, indexIn, statusOf, statusRule, statusText, texts}
+use Rattle.rules.specs.Pieces.{behind, digits, fixed, free, hasPiece, number, reads, decimalAt}
+use Rattle.rules.specs.Status.{codes, indexIn, statusOf, statusRule, statusText, texts}
 use Rattle.rules.specs.declared.statuses.Status.the-variants.{Broken, Code}
 
 module _ (l : List ℕ) (x i : ℕ) (h : i < length l) where
@@ -31,7 +31,8 @@ module _ (l : List ℕ) (x i : ℕ) (h : i < length l) where
 -- the texts one after the other, and where each begins
 abbrev pub phrases : List ℕ
 phrases =
-    ascii "100 Trying180 Ringing200 OK202 Accepted400 Bad Request404 Not Found405 Method Not Allowed481 Call/Transaction Does Not Exist486 Busy Here487 Request Terminated488 Not Acceptable Here500 Server Internal Error501 Not Implemented503 Service Unavailable"
+    ascii "100 Trying180 Ringing200 OK202 Accepted400 Bad Request404 Not Found405 Method Not Allowed"
+    ++ ascii "481 Call/Transaction Does Not Exist486 Busy Here487 Request Terminated488 Not Acceptable Here500 Server Internal Error501 Not Implemented503 Service Unavailable"
 
 abbrev pub starts : List ℕ
 starts = 0 ∷ 10 ∷ 21 ∷ 27 ∷ 39 ∷ 54 ∷ 67 ∷ 89 ∷ 124 ∷ 137 ∷ 159 ∷ 182 ∷ 207 ∷ 226 ∷ 249 ∷ []
@@ -89,27 +90,27 @@ module _ (k code : ℕ) (e : k ≡ indexIn codes code) where
 
 -- what a Status says, by its two tests
 module _ (s : List ℕ) where
-  pub bad-code : keeps (number 3 100 699) s 0 ≡ false → Broken ≡ statusOf s
+  pub bad-code : hasPiece (number 3 100 699) s 0 ≡ false → Broken ≡ statusOf s
   unfolding statusOf statusRule reads
   bad-code e = rw e
 
-  pub no-space : keeps (number 3 100 699) s 0 ≡ true → standsAt s 3 (32 ∷ []) ≡ false → Broken ≡ statusOf s
-  unfolding statusOf statusRule reads keeps behind
+  pub no-space : hasPiece (number 3 100 699) s 0 ≡ true → standsAt s 3 (32 ∷ []) ≡ false → Broken ≡ statusOf s
+  unfolding statusOf statusRule reads hasPiece behind
   no-space e f = rw (e, f)
 
-  pub good-status : keeps (number 3 100 699) s 0 ≡ true → standsAt s 3 (32 ∷ []) ≡ true → Code (value 3 s 0) ≡ statusOf s
-  unfolding statusOf statusRule reads keeps behind
+  pub good-status : hasPiece (number 3 100 699) s 0 ≡ true → standsAt s 3 (32 ∷ []) ≡ true → Code (decimalAt 3 s 0) ≡ statusOf s
+  unfolding statusOf statusRule reads hasPiece behind
   good-status e f = rw (e, f, eq-eqb (length s) (length s) refl)
 
-  pub code-fits : keeps (number 3 100 699) s 0 ≡ true → (100 ≤ value 3 s 0) × (value 3 s 0 ≤ 699)
-  unfolding keeps
-  code-fits e = among-in 100 699 (value 3 s 0) (and-parts (digits 3 s 0) (among 100 699 (value 3 s 0)) e .1)
+  pub code-fits : hasPiece (number 3 100 699) s 0 ≡ true → (100 ≤ decimalAt 3 s 0) × (decimalAt 3 s 0 ≤ 699)
+  unfolding hasPiece
+  code-fits e = among-in 100 699 (decimalAt 3 s 0) (and-parts (digits 3 s 0) (among 100 699 (decimalAt 3 s 0)) e .1)
 
-  as-status : (t : Bool) (n : ℕ) → statusRule s ≡ t → chosen t (Code (value 3 s 0)) Broken ≡ Code n → (100 ≤ n) × (n ≤ 699)
+  as-status : (t : Bool) (n : ℕ) → statusRule s ≡ t → cond t (Code (decimalAt 3 s 0)) Broken ≡ Code n → (100 ≤ n) × (n ≤ 699)
   unfolding statusRule reads
   as-status true n h e =
-      let p : value 3 s 0 ≡ n = cc in
-      rw (← p) (code-fits (and-parts (keeps (number 3 100 699) s 0) (reads (fixed (ascii " ") ∷ free ∷ []) s (behind (number 3 100 699) s 0)) h .0))
+      let p : decimalAt 3 s 0 ≡ n = cc in
+      rw (← p) (code-fits (and-parts (hasPiece (number 3 100 699) s 0) (reads (fixed (ascii " ") ∷ free ∷ []) s (behind (number 3 100 699) s 0)) h .0))
   as-status false n h e = absurd (let z : _≡_ {A = ℕ} 0 1 = cc in omega arith)
 
   -- the code of a Status that keeps its rule is in its range

@@ -1,6 +1,6 @@
 -- To and From (01 Reading, 'Rules'): what the contracts of `src/addresses.rt` cite. Assumes nothing.
 use Prim.Native.Nat.{_+_, ℕ}
-use mathlib.Core.Bool.{Bool, false, true}
+use mathlib.Core.Bool.{Bool, false, true, cond}
 use mathlib.Core.List.{List, _∷_, []}
 use Rattle.octets.specs.Ascii.{ascii}
 use Rattle.rules.specs.Pieces.{behind, fixed, reads}
@@ -32,12 +32,7 @@ callerEnd s = behind fireId s (userEnd s + 1)
 unfoldable pub calleeEnd : List ℕ → ℕ
 calleeEnd s = behind fireId s 12
 
--- one of two answers
-abbrev pub chosen : Bool → Address → Address → Address
-chosen true a b = a
-chosen false a b = b
-
 -- the side of an address, and where the user and the Fire-ID end
 unfoldable pub addressOf : List ℕ → Address
 addressOf s =
-    chosen (callerRule s) (Caller (userEnd s) (callerEnd s)) (chosen (calleeRule s) (Callee (calleeEnd s)) Broken)
+    cond (callerRule s) (Caller (userEnd s) (callerEnd s)) (cond (calleeRule s) (Callee (calleeEnd s)) Broken)

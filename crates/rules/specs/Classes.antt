@@ -1,4 +1,5 @@
 -- The classes of bytes that the rules of 01 Reading name, which the contracts of `src/classes.rt` cite. Assumes nothing.
+use Prim.Native.Char.{code}
 use Prim.Native.Nat.{ℕ}
 use mathlib.Core.Bool.{Bool, _&&_, _||_, not}
 use lib.Dec.{eqb}
@@ -14,7 +15,7 @@ holds Digit b = isDigit b
 holds Lower b = isLower b
 holds Small b = isLower b || isDigit b
 holds Alnum b = isAlnum b
-holds Fire b = isLower b || (isDigit b || eqb b 95)
-holds Name b = isAlnum b || (eqb b 45 || eqb b 46)
-holds Label b = isAlnum b || eqb b 45
-holds Graphic b = among 33 126 b && (not (eqb b 34) && not (eqb b 92))
+holds Fire b = isLower b || (isDigit b || eqb b (code "_"))
+holds Name b = isAlnum b || (eqb b (code "-") || eqb b (code "."))
+holds Label b = isAlnum b || eqb b (code "-")
+holds Graphic b = among 33 126 b && (not (eqb b (code "\"")) && not (eqb b (code "\\")))

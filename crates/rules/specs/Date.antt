@@ -1,11 +1,11 @@
 -- Date (01 Reading, 'Rules'): what the contracts of `src/dates.rt` cite. Assumes nothing.
 use Prim.Native.Nat.{_%_, ℕ}
-use mathlib.Core.Bool.{Bool, _&&_, _||_, not}
+use mathlib.Core.Bool.{Bool, _&&_, _||_, not, cond}
 use mathlib.Core.List.{List, _∷_, []}
 use lib.Dec.{eqb}
 use lib.ListN.{getD}
 use Rattle.octets.specs.Ascii.{ascii}
-use Rattle.rules.specs.Pieces.{Piece, fixed, number, pickN, reads, value}
+use Rattle.rules.specs.Pieces.{Piece, fixed, number, reads, decimalAt}
 
 -- a leap year of the Gregorian calendar
 unfoldable pub leap : ℕ → Bool
@@ -17,7 +17,7 @@ days = 0 ∷ 31 ∷ 28 ∷ 31 ∷ 30 ∷ 31 ∷ 30 ∷ 31 ∷ 31 ∷ 30 ∷ 31 �
 
 -- the days of month m of year y; 0 where there is no such month
 unfoldable pub daysIn : ℕ → ℕ → ℕ
-daysIn y m = pickN (eqb m 2) (pickN (leap y) 29 28) (getD days m 0)
+daysIn y m = cond (eqb m 2) (cond (leap y) 29 28) (getD days m 0)
 
 -- `+ZZZZ`: zone hour 00 to 14, minute 00 to 59
 abbrev pub zone : List Piece
@@ -46,4 +46,4 @@ date last =
 
 -- a real Gregorian day: the month's days are those of the year and the month that stand before it
 unfoldable pub dateRule : List ℕ → Bool
-dateRule s = reads (date (daysIn (value 4 s 0) (value 2 s 5))) s 0
+dateRule s = reads (date (daysIn (decimalAt 4 s 0) (decimalAt 2 s 5))) s 0

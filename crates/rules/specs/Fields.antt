@@ -1,10 +1,10 @@
 -- The fields that steps 8 and 9 look at (01 Reading, 'Required'): what the contracts of `src/fields.rt` cite. Assumes nothing.
 use Prim.Native.Nat.{ℕ}
-use mathlib.Core.Bool.{Bool, _||_, false}
+use mathlib.Core.Bool.{Bool, _||_, false, cond}
 use mathlib.Core.List.{List, _∷_, []}
 use lib.Dec.{eqb}
 use lib.ListN.{getD}
-use Rattle.rules.specs.Pieces.{pickN}
+use Rattle.rules.specs.Numbers.{optional, required, unlisted}
 
 -- the fields required by each tag, from request at 1: response, ping, pong
 abbrev pub tagFields : List (List ℕ)
@@ -49,10 +49,10 @@ unfoldable pub isIn : List ℕ → ℕ → Bool
 isIn [] n = false
 isIn (x ∷ xs) n = eqb n x || isIn xs n
 
--- 1 where a tag requires field n, else 0
+-- whether a tag requires field n
 unfoldable pub tagAsks : ℕ → ℕ → ℕ
-tagAsks tag n = pickN (isIn (getD tagFields tag []) n) 1 0
+tagAsks tag n = cond (isIn (getD tagFields tag []) n) required unlisted
 
--- 1 where a method requires field n, 2 where field n is optional in it, else 0
+-- whether a method requires field n, or has it as optional
 unfoldable pub methodAsks : ℕ → ℕ → ℕ
-methodAsks m n = pickN (isIn (getD methodFields m []) n) 1 (pickN (isIn (getD methodOptions m []) n) 2 0)
+methodAsks m n = cond (isIn (getD methodFields m []) n) required (cond (isIn (getD methodOptions m []) n) optional unlisted)

@@ -1,11 +1,11 @@
 -- CSeq (01 Reading, 'Rules'): what the contracts of `src/sequences.rt` cite. Assumes nothing.
 use Prim.Native.Nat.{_+_, ℕ}
-use mathlib.Core.Bool.{Bool, false, true}
+use mathlib.Core.Bool.{Bool, false, true, cond}
 use mathlib.Core.List.{List, _∷_, []}
 use lib.ListN.{drop}
 use Rattle.octets.specs.Ascii.{ascii}
 use Rattle.rules.specs.Names.{methods}
-use Rattle.rules.specs.Pieces.{Piece, behind, count, fixed, placeOf, reads, value, word}
+use Rattle.rules.specs.Pieces.{Piece, behind, count, fixed, wordNumber, reads, decimalAt, word}
 use Rattle.rules.specs.declared.sequences.Sequence.{Sequence}
 use Rattle.rules.specs.declared.sequences.Sequence.the-variants.{Broken, Of}
 
@@ -22,18 +22,13 @@ unfoldable pub numberEnd : List ℕ → ℕ
 numberEnd s = behind sequenceNumber s 0
 
 -- the number of a CSeq
-unfoldable pub numberOf : List ℕ → ℕ
-numberOf s = value (numberEnd s) s 0
+unfoldable pub cseqNumber : List ℕ → ℕ
+cseqNumber s = decimalAt (numberEnd s) s 0
 
 -- the code of its method
-unfoldable pub methodOf : List ℕ → ℕ
-methodOf s = placeOf methods (drop (numberEnd s + 1) s)
-
--- one of two answers
-abbrev pub chosen : Bool → Sequence → Sequence → Sequence
-chosen true a b = a
-chosen false a b = b
+unfoldable pub cseqMethod : List ℕ → ℕ
+cseqMethod s = wordNumber methods (drop (numberEnd s + 1) s)
 
 -- number and method of a CSeq that keeps its rule
 unfoldable pub sequenceOf : List ℕ → Sequence
-sequenceOf s = chosen (sequenceRule s) (Of (numberOf s) (methodOf s)) Broken
+sequenceOf s = cond (sequenceRule s) (Of (cseqNumber s) (cseqMethod s)) Broken

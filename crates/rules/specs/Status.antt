@@ -1,11 +1,11 @@
 -- Status (01 Reading, 'Rules') and the status texts (01 Writing): what the contracts of `src/statuses.rt` cite. Assumes nothing.
 use Prim.Native.Nat.{suc, zero, ℕ}
-use mathlib.Core.Bool.{Bool, false, true}
+use mathlib.Core.Bool.{Bool, false, true, cond}
 use mathlib.Core.List.{List, _∷_, []}
 use lib.Dec.{eqb, ltb}
 use lib.ListN.{getD}
 use Rattle.octets.specs.Ascii.{ascii}
-use Rattle.rules.specs.Pieces.{fixed, free, number, reads, value}
+use Rattle.rules.specs.Pieces.{fixed, free, number, reads, decimalAt}
 use Rattle.rules.specs.declared.statuses.Status.{Status}
 use Rattle.rules.specs.declared.statuses.Status.the-variants.{Broken, Code}
 
@@ -13,14 +13,9 @@ use Rattle.rules.specs.declared.statuses.Status.the-variants.{Broken, Co
 unfoldable pub statusRule : List ℕ → Bool
 statusRule s = reads (number 3 100 699 ∷ fixed (ascii " ") ∷ free ∷ []) s 0
 
--- one of two answers
-abbrev pub chosen : Bool → Status → Status → Status
-chosen true a b = a
-chosen false a b = b
-
 -- the code of a Status that keeps its rule
 unfoldable pub statusOf : List ℕ → Status
-statusOf s = chosen (statusRule s) (Code (value 3 s 0)) Broken
+statusOf s = cond (statusRule s) (Code (decimalAt 3 s 0)) Broken
 
 -- the listed codes
 abbrev pub codes : List ℕ

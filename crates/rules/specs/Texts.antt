@@ -1,4 +1,5 @@
 -- The rules of single texts, in the order of 01 Reading, 'Rules': what the contracts of `src/texts.rt` cite. Assumes nothing.
+use Prim.Native.Char.{code}
 use Prim.Native.Nat.{suc, ℕ}
 use mathlib.Core.Bool.{Bool, _&&_, _||_, false, not, true}
 use mathlib.Core.List.{List, _∷_, []}
@@ -77,7 +78,7 @@ points (x ∷ xs) = tally (begins x) (points xs)
 -- no backslash: it breaks a text under a rule. The rules made of classes and words exclude it by themselves; Status after its space and an
 -- image's Body are free
 unfoldable pub unescaped : ℕ → Bool
-unescaped b = not (eqb b 92)
+unescaped b = not (eqb b (code "\\"))
 
 -- 13 Refer-Memo: at most 128 code points, none of them a backslash
 unfoldable pub memoRule : List ℕ → Bool

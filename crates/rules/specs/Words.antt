@@ -5,7 +5,7 @@ use mathlib.Core.Bool.{Bool}
 use mathlib.Core.List.{List, _∷_, []}
 use Rattle.octets.specs.Ascii.{ascii}
 use Rattle.octets.specs.Class.{among}
-use Rattle.rules.specs.Pieces.{placeOf}
+use Rattle.rules.specs.Pieces.{wordNumber}
 
 -- Status in a pong
 abbrev pub availabilities : List (List ℕ)
@@ -23,11 +23,11 @@ contentTypes =
 
 -- Content-Type of a MESSAGE
 unfoldable pub messageTypeRule : List ℕ → Bool
-messageTypeRule s = among 1 2 (placeOf contentTypes s)
+messageTypeRule s = among 1 2 (wordNumber contentTypes s)
 
 -- Content-Type of a NOTIFY
 unfoldable pub notifyTypeRule : List ℕ → Bool
-notifyTypeRule s = among 3 5 (placeOf contentTypes s)
+notifyTypeRule s = among 3 5 (wordNumber contentTypes s)
 
 -- Body of a presence
 abbrev pub presences : List (List ℕ)

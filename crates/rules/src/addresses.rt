@@ -25,7 +25,7 @@ fn is_caller(s: &[u8], user: usize, fire: usize) -> bool
     let n = s.len();
     let end = and(stands_at(s, fire, b".caller"), fire + 7 == n);
     let desk = and(
-        mark(s, user, 64),
+        mark(s, user, b'@'),
         and(within(s, user + 1, fire, 2, 15, Class::Small), end),
     );
     and(

@@ -28,9 +28,9 @@ pub fn holds(class: Class, b: u8) -> bool
         Class::Lower => is_lower(b),
         Class::Small => or(is_lower(b), is_digit(b)),
         Class::Alnum => is_alnum(b),
-        Class::Fire => or(is_lower(b), or(is_digit(b), b == 95)),
-        Class::Name => or(is_alnum(b), or(b == 45, b == 46)),
-        Class::Label => or(is_alnum(b), b == 45),
-        Class::Graphic => and(among(33, 126, b), and(b != 34, b != 92)),
+        Class::Fire => or(is_lower(b), or(is_digit(b), b == b'_')),
+        Class::Name => or(is_alnum(b), or(b == b'-', b == b'.')),
+        Class::Label => or(is_alnum(b), b == b'-'),
+        Class::Graphic => and(among(33, 126, b), and(b != b'"', b != b'\\')),
     }
 }

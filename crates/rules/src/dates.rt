@@ -33,16 +33,19 @@ fn is_zone(s: &[u8]) -> bool
 {
     let n = s.len();
     let minute = and(is_number(s, 22, 2, 0, 59), 24 == n);
-    and(mark(s, 19, 43), and(is_number(s, 20, 2, 0, 14), minute))
+    and(mark(s, 19, b'+'), and(is_number(s, 20, 2, 0, 14), minute))
 }
 
 // The time and the zone from byte 10 to the end.
 fn is_time(s: &[u8]) -> bool
     ensures { λ r. ⌜ r ≡ reads time (now (s .entry)) 10 ⌝ }
 {
-    let second = and(mark(s, 16, 58), and(is_number(s, 17, 2, 0, 59), is_zone(s)));
-    let minute = and(mark(s, 13, 58), and(is_number(s, 14, 2, 0, 59), second));
-    and(mark(s, 10, 84), and(is_number(s, 11, 2, 0, 23), minute))
+    let second = and(
+        mark(s, 16, b':'),
+        and(is_number(s, 17, 2, 0, 59), is_zone(s)),
+    );
+    let minute = and(mark(s, 13, b':'), and(is_number(s, 14, 2, 0, 59), second));
+    and(mark(s, 10, b'T'), and(is_number(s, 11, 2, 0, 23), minute))
 }
 
 // Whether a text keeps the rule of Date.
@@ -51,6 +54,6 @@ pub fn is_date(s: &[u8]) -> bool
 {
     let last = days_in(number_at(s, 0, 4), number_at(s, 5, 2));
     let day = and(is_number(s, 8, 2, 1, last), is_time(s));
-    let month = and(is_number(s, 5, 2, 1, 12), and(mark(s, 7, 45), day));
-    and(is_number(s, 0, 4, 1, 9999), and(mark(s, 4, 45), month))
+    let month = and(is_number(s, 5, 2, 1, 12), and(mark(s, 7, b'-'), day));
+    and(is_number(s, 0, 4, 1, 9999), and(mark(s, 4, b'-'), month))
 }

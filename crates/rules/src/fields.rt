@@ -4,15 +4,15 @@ ghost use Prim.Native.Nat.{_<_};
 ghost use Rattle.rules.specs.Fields.{methodAsks, tagAsks};
 
 // The fields that a tag requires, from none at 0: 1 to 6; 1 to 7; 4, 6, 25; 4, 6, 7, 26.
-const TAG_FIELDS: [u32; 5] = [0, 126, 254, 33554512, 67109072];
+const TAG_FIELDS: [u32; 5] = [0, 0x7e, 0xfe, 0x2000050, 0x40000d0];
 
 // The fields that a method requires, from none at 0: INVITE's 14 to 23, MESSAGE's 8 to 10, REFER's 11 and 12, NOTIFY's 9 and 10.
-const METHOD_FIELDS: [u32; 9] = [0, 16760832, 0, 0, 0, 1792, 0, 6144, 1536];
+const METHOD_FIELDS: [u32; 9] = [0, 0xffc000, 0, 0, 0, 0x700, 0, 0x1800, 0x600];
 
 // The fields that are optional in a method: INVITE's 12 and 13, MESSAGE's 24, REFER's 13.
-const METHOD_OPTIONS: [u32; 9] = [0, 12288, 0, 0, 0, 16777216, 0, 8192, 0];
+const METHOD_OPTIONS: [u32; 9] = [0, 0x3000, 0, 0, 0, 0x1000000, 0, 0x2000, 0];
 
-// 1 where a tag requires field n, else 0.
+// Whether a tag requires field n: REQUIRED or UNLISTED.
 pub fn tag_asks(tag: usize, n: usize) -> u8
     requires { ⌜ (tag < 5) × (n < 27) ⌝ }
     ensures { λ r. ⌜ r ≡ tagAsks tag n ⌝ }
@@ -20,7 +20,7 @@ pub fn tag_asks(tag: usize, n: usize) -> u8
     ((TAG_FIELDS[tag] >> n) % 2) as u8
 }
 
-// 1 where a method requires field n, 2 where the field is optional in it, else 0.
+// Whether a method requires field n, or has it as optional: REQUIRED, 2 (optional) or UNLISTED.
 pub fn method_asks(method: usize, n: usize) -> u8
     requires { ⌜ (method < 9) × (n < 27) ⌝ }
     ensures { λ r. ⌜ r ≡ methodAsks method n ⌝ }

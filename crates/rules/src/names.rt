@@ -8,7 +8,7 @@ ghost use Prim.Native.Nat.{_<_};
 ghost use lib.ListN.{drop};
 ghost use Rattle.octets.specs.Text.{same};
 ghost use Rattle.rules.specs.Names.{fieldName, fields, hopMembers, methods, tags};
-ghost use Rattle.rules.specs.Pieces.{placeFrom, placeOf};
+ghost use Rattle.rules.specs.Pieces.{wordNumberFrom, wordNumber};
 
 // By a number made of a name's length and its first and last byte, the one known field it can be.
 const GUESSES: [u8; 64] = [
@@ -112,7 +112,7 @@ const STARTS: [u8; 28] = [
 
 // The number of a tag: request, response, ping, pong.
 pub fn tag(s: &[u8]) -> u8
-    ensures { λ r. ⌜ r ≡ placeOf tags (now (s .entry)) ⌝ }
+    ensures { λ r. ⌜ r ≡ wordNumber tags (now (s .entry)) ⌝ }
 {
     pick(
         same(s, b"request"),
@@ -127,7 +127,7 @@ pub fn tag(s: &[u8]) -> u8
 
 // The code of a method from MESSAGE on, 5 to 8.
 fn later_method(s: &[u8]) -> u8
-    ensures { λ r. ⌜ r ≡ placeFrom (drop 4 methods) 5 (now (s .entry)) ⌝ }
+    ensures { λ r. ⌜ r ≡ wordNumberFrom (drop 4 methods) 5 (now (s .entry)) ⌝ }
 {
     pick(
         same(s, b"MESSAGE"),
@@ -142,7 +142,7 @@ fn later_method(s: &[u8]) -> u8
 
 // The code of a method, 1 to 8.
 pub fn method(s: &[u8]) -> u8
-    ensures { λ r. ⌜ r ≡ placeOf methods (now (s .entry)) ⌝ }
+    ensures { λ r. ⌜ r ≡ wordNumber methods (now (s .entry)) ⌝ }
 {
     pick(
         same(s, b"INVITE"),
@@ -161,7 +161,7 @@ pub fn method(s: &[u8]) -> u8
 
 // The number of a member of an object of Via: host, destination, organization.
 pub fn hop_member(s: &[u8]) -> u8
-    ensures { λ r. ⌜ r ≡ placeOf hopMembers (now (s .entry)) ⌝ }
+    ensures { λ r. ⌜ r ≡ wordNumber hopMembers (now (s .entry)) ⌝ }
 {
     pick(
         same(s, b"host"),
@@ -188,7 +188,7 @@ pub fn is_field(k: usize, s: &[u8]) -> bool
 
 // The number of a known field, and 0 for any other name. One name at most is compared.
 pub fn field(s: &[u8]) -> usize
-    ensures { λ r. ⌜ (r ≡ placeOf fields (now (s .entry))) × (r < 27) ⌝ }
+    ensures { λ r. ⌜ (r ≡ wordNumber fields (now (s .entry))) × (r < 27) ⌝ }
 {
     let n = s.len();
     let first = byte(s, 0) as usize;

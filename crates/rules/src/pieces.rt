@@ -5,17 +5,18 @@ use crate::classes::holds;
 use octets::and;
 use octets::byte;
 use octets::is_digit;
+ghost use mathlib.Core.Bool.{cond};
 ghost use mathlib.Core.List.{[], _∷_};
 ghost use mathlib.Core.Path.{_≡_};
 ghost use Prim.Native.Nat.{_+_, _-_, _≤_, _<_};
 ghost use lib.Dec.{leb};
 ghost use lib.ListN.{drop, length};
 ghost use Rattle.octets.specs.Text.{standsAt};
-ghost use Rattle.rules.specs.Pieces.{digits, keeps, number, pickN, reads, run, span, value, within};
+ghost use Rattle.rules.specs.Pieces.{digits, hasPiece, number, reads, run, runLength, decimalAt, within};
 
 // Where the bytes of a class that stand from `at` on end.
 pub fn span(s: &[u8], at: usize, class: Class) -> usize
-    ensures { λ r. ⌜ (r ≡ at + span class (drop at (now (s .entry)))) × ((at ≤ r) × (r ≤ at + (length (now (s .entry)) - at))) ⌝ }
+    ensures { λ r. ⌜ (r ≡ at + runLength class (drop at (now (s .entry)))) × ((at ≤ r) × (r ≤ at + (length (now (s .entry)) - at))) ⌝ }
 {
     let mut i = at;
     while i < s.len() {
@@ -90,7 +91,7 @@ fn has_digits(s: &[u8], at: usize, n: usize) -> bool
 // The number that n digits from `at` on are.
 pub fn number_at(s: &[u8], at: usize, n: usize) -> u64
     requires { ⌜ (at ≤ 64) × (n ≤ 4) ⌝ }
-    ensures { λ r. ⌜ r ≡ value n (now (s .entry)) at ⌝ }
+    ensures { λ r. ⌜ r ≡ decimalAt n (now (s .entry)) at ⌝ }
 {
     let mut v: u64 = 0;
     let mut i: usize = 0;
@@ -104,7 +105,7 @@ pub fn number_at(s: &[u8], at: usize, n: usize) -> u64
 // Whether n digits stand from `at` on that are a number from lo to hi.
 pub fn is_number(s: &[u8], at: usize, n: usize, lo: u64, hi: u64) -> bool
     requires { ⌜ (at ≤ 64) × (n ≤ 4) ⌝ }
-    ensures { λ r. ⌜ r ≡ keeps (number n lo hi) (now (s .entry)) at ⌝ }
+    ensures { λ r. ⌜ r ≡ hasPiece (number n lo hi) (now (s .entry)) at ⌝ }
 {
     let v = number_at(s, at, n);
     and(has_digits(s, at, n), and(lo <= v, v <= hi))
@@ -113,7 +114,7 @@ pub fn is_number(s: &[u8], at: usize, n: usize, lo: u64, hi: u64) -> bool
 // The number that the n bytes at the start are as digits, or 0 where it is over hi.
 pub fn count(s: &[u8], n: usize, hi: u64) -> u64
     requires { ⌜ (n ≤ length (now s)) × (hi < 18446744073709551) ⌝ }
-    ensures { λ r. ⌜ r ≡ pickN (leb (value n (now (s .entry)) 0) hi) (value n (now (s .entry)) 0) 0 ⌝ }
+    ensures { λ r. ⌜ r ≡ cond (leb (decimalAt n (now (s .entry)) 0) hi) (decimalAt n (now (s .entry)) 0) 0 ⌝ }
 {
     let mut v: u64 = 0;
     let mut i: usize = 0;
@@ -129,7 +130,7 @@ pub fn count(s: &[u8], n: usize, hi: u64) -> u64
 
 // One of two numbers: straight code over tests, as `and` and `or` are.
 pub fn pick(test: bool, yes: u8, no: u8) -> u8
-    ensures { λ r. ⌜ r ≡ pickN test yes no ⌝ }
+    ensures { λ r. ⌜ r ≡ cond test yes no ⌝ }
 {
     if test { yes } else { no }
 }

@@ -19,10 +19,10 @@ pub fn sequence_of(s: &[u8]) -> Sequence
     ensures { λ r. ⌜ r ≡ sequenceOf (now (s .entry)) ⌝ }
 {
     let end = span(s, 0, Class::Digit);
-    if !mark(s, end, 32) {
+    if !mark(s, end, b' ') {
         return Sequence::Broken;
     }
-    if byte(s, 0) == 48 {
+    if byte(s, 0) == b'0' {
         return Sequence::Broken;
     }
     let v = count(s, end, 4294967295);

@@ -58,7 +58,7 @@ pub fn status_of(s: &[u8]) -> Status
     if !is_number(s, 0, 3, 100, 699) {
         return Status::Broken;
     }
-    if !mark(s, 3, 32) {
+    if !mark(s, 3, b' ') {
         return Status::Broken;
     }
     Status::Code(number_at(s, 0, 3) as u16)

@@ -79,7 +79,7 @@ fn message_tail(s: &[u8]) -> bool
     let end = span(s, fire + 1, Class::Alnum);
     let n = s.len();
     let own = and(
-        mark(s, fire, 45),
+        mark(s, fire, b'-'),
         and(within(s, fire + 1, end, 1, 64, Class::Alnum), end == n),
     );
     and(within(s, 7, fire, 2, 15, Class::Small), own)
@@ -110,7 +110,7 @@ pub fn is_memo(s: &[u8]) -> bool
     let mut n: usize = 0;
     let mut i: usize = 0;
     while i < s.len() {
-        if s[i] == 92 {
+        if s[i] == b'\\' {
             return false;
         }
         if among(128, 191, s[i]) {

@@ -23,10 +23,12 @@ module _ (name words : List ℕ) where
   unfolding askedText
   asks-add a b d = simp (a, b, d)
 
-  pub asks-remove : same name (ascii "read") ≡ false → same name (ascii "reply") ≡ false → same name (ascii "add") ≡ false → same name (ascii "remove") ≡ true → editText false words ≡ askedText name words
+  pub asks-remove : same name (ascii "read") ≡ false → same name (ascii "reply") ≡ false → same name (ascii "add") ≡ false → same name (ascii "remove") ≡ true
+      → editText false words ≡ askedText name words
   unfolding askedText
   asks-remove a b d e = simp (a, b, d, e)
 
-  pub asks-else : same name (ascii "read") ≡ false → same name (ascii "reply") ≡ false → same name (ascii "add") ≡ false → same name (ascii "remove") ≡ false → unknown ≡ askedText name words
+  pub asks-else : same name (ascii "read") ≡ false → same name (ascii "reply") ≡ false → same name (ascii "add") ≡ false → same name (ascii "remove") ≡ false
+      → unknown ≡ askedText name words
   unfolding askedText
   asks-else a b d e = simp (a, b, d, e)

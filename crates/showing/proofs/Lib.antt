@@ -3,3 +3,4 @@ pub mod ShownLaws
 pub mod ReadingLaws
 pub mod WriterLaws
 pub mod AskLaws
+pub mod Marks

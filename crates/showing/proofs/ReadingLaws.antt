@@ -15,7 +15,9 @@ use mathlib.Core.Bool.{true, false}
 use mathlib.Core.List.{List, [], _++_, append-assoc}
 use mathlib.Core.Path.{_≡_}
 
-pub reading-refused : (o : List ℕ) (n p : ℕ) {m k r : ℕ} {a b o′ : List ℕ} → (m ≡ 0 + 3) × (a ≡ splice o 0 (ascii "no ")) → (k ≡ m + length (shown n ++ ascii " ")) × (b ≡ splice a m (shown n ++ ascii " ")) → (r ≡ k + length (shown p ++ ascii "\n")) × (o′ ≡ splice b k (shown p ++ ascii "\n")) → (r ≡ length (readingText (readings.Refused n p))) × (o′ ≡ written o (readingText (readings.Refused n p)))
+pub reading-refused : (o : List ℕ) (n p : ℕ) {m k r : ℕ} {a b o′ : List ℕ} → (m ≡ 0 + 3) × (a ≡ splice o 0 (ascii "no "))
+    → (k ≡ m + length (shown n ++ ascii " ")) × (b ≡ splice a m (shown n ++ ascii " ")) → (r ≡ k + length (shown p ++ ascii "\n")) × (o′ ≡ splice b k (shown p ++ ascii "\n"))
+    → (r ≡ length (readingText (readings.Refused n p))) × (o′ ≡ written o (readingText (readings.Refused n p)))
 unfolding readingText
 reading-refused o n p x y z =
     let w = more (shown p ++ ascii "\n") (more (shown n ++ ascii " ") (more (ascii "no ") (start o) x) y) z in

@@ -17,12 +17,14 @@ use native.Mathlib.Decide.{decLt}
 use native.Mathlib.Omega.{arith}
 
 -- two parts, one behind the other
-pub put-two : (o : List ℕ) (at : ℕ) (a b : List ℕ) {m r : ℕ} {o′ o″ : List ℕ} → at + length a ≤ length o → (m ≡ at + length a) × (o′ ≡ splice o at a) → (r ≡ m + length b) × (o″ ≡ splice o′ m b) → (r ≡ at + length (a ++ b)) × (o″ ≡ splice o at (a ++ b))
+pub put-two : (o : List ℕ) (at : ℕ) (a b : List ℕ) {m r : ℕ} {o′ o″ : List ℕ} → at + length a ≤ length o → (m ≡ at + length a) × (o′ ≡ splice o at a)
+    → (r ≡ m + length b) × (o″ ≡ splice o′ m b) → (r ≡ at + length (a ++ b)) × (o″ ≡ splice o at (a ++ b))
 put-two o at a b h p q =
     (rw length-append (omega (arith, p .0, q .0)), q .1 ∙ rw (p .1, p .0) (splice-two o at a b h))
 
 -- the rest of a buffer from a place on, lent and written at its front
-pub behind : (o : List ℕ) (at : ℕ) (w : List ℕ) {p : List ℕ} → p ≡ written (take (length o - at) (drop at o)) w → take at o ++ (p ++ drop (length o - at) (drop at o)) ≡ splice o at w
+pub behind : (o : List ℕ) (at : ℕ) (w : List ℕ) {p : List ℕ} → p ≡ written (take (length o - at) (drop at o)) w
+    → take at o ++ (p ++ drop (length o - at) (drop at o)) ≡ splice o at w
 unfolding splice written
 behind o at w e =
     let l : length (drop at o) ≤ length o - at = rw length-drop (omega arith) in

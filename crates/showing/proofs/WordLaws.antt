@@ -4,20 +4,23 @@ use Rattle.hex.proofs.HexLaws.{length-decoded}
 use Rattle.hex.specs.Digits.{decoded, isHex}
 use Rattle.octets.proofs.ClassLaws.{digit-in}
 use Rattle.octets.proofs.DecimalLaws.{long}
-use Rattle.octets.proofs.TextLaws.{and-parts, before-within, same-eq}
+use Rattle.octets.proofs.TextLaws.{before-within, same-eq}
+use Rattle.octets.proofs.TestLaws.{and-parts, clash}
 use Rattle.octets.specs.Ascii.{ascii}
 use Rattle.octets.specs.Class.{all, among, isDigit}
-use Rattle.octets.specs.Decimal.{decimalIn, decimalOf, isDecimal, pickList, tens}
+use Rattle.octets.specs.Decimal.{decimalIn, decimalOf, isDecimal, tens}
 use Rattle.octets.specs.declared.decimals.Spelt.the-variants.{Other}
 use Rattle.octets.specs.Splice.{splice}
 use Rattle.octets.specs.Text.{before}
-use Rattle.showing.specs.Words.{Got, bytesOf, firstWord, hasSpace, isHexTo, isNone, numeral, rest}
+use Rattle.octets.proofs.Chain.{take-splice}
+use Rattle.showing.specs.Words.{bytesOf, firstWord, hasSpace, isHexTo, isNone, numeral, rest}
+use Rattle.showing.specs.inner.Got.{Got}
 use borrow.Author.Tests.{le-leb, le-ltb, leb-true}
 use lib.Dec.{leb, ltb}
-use lib.ListN.{drop, drop-of-length-le, getD, length, length-append, length-drop, take}
-use lib.Seq.{drop-cons, length-take-le, take-all, take-at, take-nil}
-use mathlib.Core.Bool.{Bool, true, false, _&&_}
-use mathlib.Core.List.{List, [], _∷_, _++_, append-assoc}
+use lib.ListN.{drop, drop-of-length-le, getD, length, length-drop, take}
+use lib.Seq.{drop-cons, take-all, take-nil}
+use mathlib.Core.Bool.{Bool, true, false, _&&_, cond}
+use mathlib.Core.List.{List, [], _∷_, _++_}
 use mathlib.Core.Path.{_≡_, ap, refl, sym, _∙_}
 use native.Mathlib.Numerals.{add-one}
 use native.Mathlib.Omega.{arith}
@@ -109,7 +112,7 @@ pub stands : (w : List ℕ) → decoded w ≡ bytesOf w
 unfolding bytesOf
 stands w = go (isNone w) refl
   where
-    go : (b : Bool) → isNone w ≡ b → decoded w ≡ pickList b [] (decoded w)
+    go : (b : Bool) → isNone w ≡ b → decoded w ≡ cond b [] (decoded w)
     go true e = ap decoded (same-eq w (ascii "-") e) ∙ none-decoded
     go false e = refl
 
@@ -133,24 +136,15 @@ half w = omega (arith, stands-length w)
 
 -- What `take_bytes` answers.
 
-differ : (t : Bool) → t ≡ true → t ≡ false → ⊥
-differ t e f = let z : _≡_ {A = ℕ} 0 1 = cc in omega arith
-
 pub got-none : {t : Bool} {b : List ℕ} {at : ℕ} {w : List ℕ} → t ≡ false → Got t b at w 85001 b
-got-none {t} e = record { good = λ g. absurd (differ t g e); bad = λ g. (refl, refl) }
-
-spliced : (b : List ℕ) (at : ℕ) (d : List ℕ) → at ≤ length b → take (at + length d) (splice b at d) ≡ take at b ++ d
-unfolding splice
-spliced b at d m =
-    let l : length (take at b ++ d) ≡ at + length d = length-append (take at b) d ∙ rw (length-take-le at b m) in
-    rw (← append-assoc (take at b) d (drop (at + length d) b)) (take-at (take at b ++ d) (drop (at + length d) b) (at + length d) l)
+got-none {t} e = record { good = λ g. clash g e; bad = λ g. (refl, refl) }
 
 pub got-some : (b : List ℕ) (at : ℕ) (w : List ℕ) {t : Bool} {r : ℕ} {b′ : List ℕ} → t ≡ true → (r ≡ at + length w) × (b′ ≡ splice b at w) → Got t b at w r b′
-got-some b at w {t} g x = record { good = λ _. x; bad = λ f. absurd (differ t g f) }
+got-some b at w {t} g x = record { good = λ _. x; bad = λ f. clash g f }
 
 -- what stands before that place
 pub got-front : {t : Bool} {b : List ℕ} {at : ℕ} {w : List ℕ} {r : ℕ} {b′ : List ℕ} → Got t b at w r b′ → t ≡ true → at ≤ length b → take r b′ ≡ take at b ++ w
-got-front {b = b} {at = at} {w = w} x e m = let g = x .good e in rw (g .0, g .1) (spliced b at w m)
+got-front {b = b} {at = at} {w = w} x e m = let g = x .good e in rw (g .0, g .1) (take-splice b at w m)
 
 -- whether the test was met is told by the place
 pub got-true : (t : Bool) {b : List ℕ} {at : ℕ} {w : List ℕ} {r : ℕ} {b′ : List ℕ} → Got t b at w r b′ → r ≤ 85000 → t ≡ true

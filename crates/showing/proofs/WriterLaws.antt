@@ -2,19 +2,21 @@
 -- Assumes nothing.
 use Prim.Native.Nat.{ℕ, zero, suc, _+_, _-_, _*_, _≤_, _<_}
 use Rattle.message.specs.Reading.{reading}
-use Rattle.message.specs.declared.facts.Span.{Span}
+use Rattle.fields.specs.declared.spans.Span.{Span}
 use Rattle.octets.proofs.Chain.{At}
-use Rattle.octets.proofs.TextLaws.{and-parts}
+use Rattle.octets.proofs.TestLaws.{and-parts}
 use Rattle.octets.specs.Splice.{written}
 use Rattle.octets.specs.Text.{before}
 use Rattle.showing.proofs.ShownLaws.{says}
 use Rattle.showing.proofs.WordLaws.{got-false, got-front, got-true, half, hex-short, rest-short, stands-length}
 use Rattle.showing.specs.Shown.{Puts, hexed, unknown}
-use Rattle.showing.specs.Words.{Got, bytesOf, firstWord, hasSpace, isBytes, numberTo, rest}
-use Rattle.showing.specs.Writers.{editText, edited, filled, headOf, isFirst, isLast, isNumber, onCode, onFirst, onLast, replyText, tookLine, tookText, wroteLine, wroteText, writtenOf}
-use Rattle.writing.proofs.Bounds.{part-short}
+use Rattle.showing.specs.Words.{bytesOf, firstWord, hasSpace, isBytes, numberTo, rest}
+use Rattle.showing.specs.inner.Got.{Got}
+use Rattle.showing.specs.Writers.{editText, edited, filled, headOf, isFirst, isLast, isNumber, onCode, onFirst, onLast, replyText, tookLine, tookText, wroteLine, wroteText}
+use Rattle.showing.specs.Writers.{writtenOf}
+use Rattle.message.proofs.AcceptedVia.{part-short}
 use Rattle.writing.specs.Adding.{adding}
-use Rattle.writing.specs.Outcome.{Outcome, Wrote, answered, left}
+use Rattle.writing.specs.Outcome.{Outcome, Writes, answered, left}
 use Rattle.writing.specs.Removing.{Took, hostIn, nextHop, removing, shown}
 use Rattle.writing.specs.Reply.{replying}
 use Rattle.writing.specs.declared.answers.Removed.the-variants.{Done, Refused}
@@ -88,7 +90,8 @@ module _ (words : List ℕ) {b : List ℕ} {at r : ℕ} {b′ : List ℕ} where
   unfolding isFirst
   first-got e x = got-taken _ (firstWord words) e x
 
-  pub last-got : hasSpace words ≡ true → numberTo 40000 (firstWord words) ≤ 40000 → Got (isBytes (rest words)) b at (bytesOf (rest words)) r b′ → Got (isLast words) b at (bytesOf (rest words)) r b′
+  pub last-got : hasSpace words ≡ true → numberTo 40000 (firstWord words) ≤ 40000 → Got (isBytes (rest words)) b at (bytesOf (rest words)) r b′
+      → Got (isLast words) b at (bytesOf (rest words)) r b′
   unfolding isLast
   last-got e h x = got-taken (isNumber 40000 words) (rest words) (number-good 40000 words e h) x
 
@@ -99,8 +102,11 @@ seam b b′ w at r h p e =
     let f : take at b′ ≡ take at b = sym (take-take at r b′ (omega arith)) ∙ ap (take at) e ∙ take-at (take at b) w at l in
     let z : r - at ≡ length w = omega arith in
     let q : take at b′ ++ take (length w) (drop at b′) ≡ take at b ++ w = sym (take-add at (length w) b′) ∙ ap (λ (n : ℕ). take n b′) (sym p) ∙ e in
-    let k : length (take at b′) ≡ at = ap length f ∙ l in
-    (f, rw z (sym (drop-at (take at b′) (take (length w) (drop at b′)) at k) ∙ ap (drop at) q ∙ drop-at (take at b) w at l), omega (arith, ap length e, length-append (take at b) w, length-take r b′))
+    let k : length (take at b′) ≡ at = ap length f ∙ l in (
+      f,
+      rw z (sym (drop-at (take at b′) (take (length w) (drop at b′)) at k) ∙ ap (drop at) q ∙ drop-at (take at b) w at l),
+      omega (arith, ap length e, length-append (take at b) w, length-take r b′),
+    )
 
 cut : (l : List ℕ) (a n : ℕ) → a ≤ length l → drop a (take (a + n) l) ≡ take n (drop a l)
 cut l a n h = ap (drop a) (take-add a n l) ∙ drop-at (take a l) (take n (drop a l)) a (length-take-le a l h)
@@ -227,7 +233,7 @@ module _ (n : ℕ) (x : Outcome) {room : List ℕ} (h : n ≤ 40000) (e : room �
   room-answered : answered (length (take n room)) x ≡ answered n x
   room-answered = ap (λ (k : ℕ). answered k x) (ap length room-front ∙ filled-length n)
 
-  pub wrote-line : {w : Written} {o : List ℕ} → Wrote (take n room) x w o → wroteText w o ≡ wroteLine n x
+  pub wrote-line : {w : Written} {o : List ℕ} → Writes (take n room) x w o → wroteText w o ≡ wroteLine n x
   unfolding wroteLine
   wrote-line t =
       let a = t .answer ∙ room-answered in
@@ -259,7 +265,8 @@ pub wrote-parts : (w : Written) (room : List ℕ) → (headOf w ++ hexed room) +
 unfolding wroteText
 wrote-parts w room = append-assoc (headOf w) (hexed room) (10 ∷ [])
 
-pub took-parts : (r : Removed) (room s : List ℕ) {w : Written} {h : List ℕ} → w ≡ writtenOf r → h ≡ nextHop s r → (((headOf w ++ hexed room) ++ (32 ∷ [])) ++ hexed h) ++ (10 ∷ []) ≡ tookText r room s
+pub took-parts : (r : Removed) (room s : List ℕ) {w : Written} {h : List ℕ} → w ≡ writtenOf r → h ≡ nextHop s r
+    → (((headOf w ++ hexed room) ++ (32 ∷ [])) ++ hexed h) ++ (10 ∷ []) ≡ tookText r room s
 unfolding tookText
 took-parts r room s e f = rw (e, f) (simp append-assoc)
 
@@ -271,7 +278,7 @@ module _ (n : ℕ) (room last post : List ℕ) (h : n ≤ length room) (l : leng
   part-back : take n (last ++ post) ≡ last
   part-back = take-at last post n (l ∙ rw whole (length-take-le n room h))
 
-  pub wrote-part : {x : Outcome} {r : Written} → Wrote (take (n - 0) room) x r last → Wrote (take n room) x r (take n (last ++ post))
+  pub wrote-part : {x : Outcome} {r : Written} → Writes (take (n - 0) room) x r last → Writes (take n room) x r (take n (last ++ post))
   wrote-part t = rw part-back (rw whole at t)
 
   pub took-part : {h : Span} {x : Outcome} {r : Removed} → Took (take (n - 0) room) h x r last → Took (take n room) h x r (take n (last ++ post))
@@ -280,13 +287,15 @@ module _ (n : ℕ) (room last post : List ℕ) (h : n ≤ length room) (l : leng
 -- `reply`: the date ends at d, the message at e.
 
 module _ (o : List ℕ) {k : ℕ} {o′ : List ℕ} where
-  pub reply-last : {words b : List ℕ} {d e : ℕ} {b′ : List ℕ} {n : ℕ} (code : ℕ) → Last words b d e b′ → n ≡ numberTo 40000 (firstWord words) → Puts o (wroteLine n (replying (take (e - d) (drop d b′)) code (take (d - 0) b′))) k o′ → Puts o (onLast words (λ n s. wroteLine n (replying s code (take d b)))) k o′
+  pub reply-last : {words b : List ℕ} {d e : ℕ} {b′ : List ℕ} {n : ℕ} (code : ℕ) → Last words b d e b′ → n ≡ numberTo 40000 (firstWord words)
+      → Puts o (wroteLine n (replying (take (e - d) (drop d b′)) code (take (d - 0) b′))) k o′ → Puts o (onLast words (λ n s. wroteLine n (replying s code (take d b)))) k o′
   reply-last {words} {b} {d} {e} {b′} {n} code l q p =
       let z : d - 0 ≡ d = omega arith in
       let f : ℕ → List ℕ → List ℕ = λ n s. wroteLine n (replying s code (take d b)) in
       says o (rw (q, l .taken, z, l .front) refl ∙ sym (l .on f)) p
 
-  pub reply-first : {words b : List ℕ} {d : ℕ} {b′ v : List ℕ} (code : ℕ) → First words b 0 d b′ → v ≡ rest words → Puts o (onLast v (λ n s. wroteLine n (replying s code (take d b′)))) k o′ → Puts o (onFirst words (λ date v. onLast v (λ n s. wroteLine n (replying s code date)))) k o′
+  pub reply-first : {words b : List ℕ} {d : ℕ} {b′ v : List ℕ} (code : ℕ) → First words b 0 d b′ → v ≡ rest words
+      → Puts o (onLast v (λ n s. wroteLine n (replying s code (take d b′)))) k o′ → Puts o (onFirst words (λ date v. onLast v (λ n s. wroteLine n (replying s code date)))) k o′
   reply-first {words} {b} {d} {b′} {v} code l q p =
       let z : d - 0 ≡ d = omega arith in
       let t : take d b′ ≡ bytesOf (firstWord words) = rw z at (l .taken) in
@@ -297,7 +306,8 @@ module _ (o : List ℕ) {k : ℕ} {o′ : List ℕ} where
   unfolding replyText
   reply-refused words e p = says o (sym (code-off words _ e)) p
 
-  pub reply-coded : (words : List ℕ) {code : ℕ} {v : List ℕ} → isNumber 65535 words ≡ true → code ≡ numberTo 65535 (firstWord words) → v ≡ rest words → Puts o (onFirst v (λ date v. onLast v (λ n s. wroteLine n (replying s code date)))) k o′ → Puts o (replyText words) k o′
+  pub reply-coded : (words : List ℕ) {code : ℕ} {v : List ℕ} → isNumber 65535 words ≡ true → code ≡ numberTo 65535 (firstWord words) → v ≡ rest words
+      → Puts o (onFirst v (λ date v. onLast v (λ n s. wroteLine n (replying s code date)))) k o′ → Puts o (replyText words) k o′
   unfolding replyText
   reply-coded words {code} {v} e q g p =
       let f : ℕ → List ℕ → List ℕ = λ code v. onFirst v (λ date v. onLast v (λ n s. wroteLine n (replying s code date))) in
@@ -305,16 +315,20 @@ module _ (o : List ℕ) {k : ℕ} {o′ : List ℕ} where
 
 -- `add` and `remove`: host, destination and organization end at i, j and m, the message at e.
 
-pub add-line : (adds : Bool) (n : ℕ) (s host destination organization : List ℕ) → adds ≡ true → wroteLine n (adding s host destination organization) ≡ edited adds n s host destination organization
+pub add-line : (adds : Bool) (n : ℕ) (s host destination organization : List ℕ) → adds ≡ true
+    → wroteLine n (adding s host destination organization) ≡ edited adds n s host destination organization
 unfolding edited
 add-line adds n s host destination organization e = rw e
 
-pub remove-line : (adds : Bool) (n : ℕ) (s host destination organization : List ℕ) → adds ≡ false → tookLine n s (removing s host destination organization) ≡ edited adds n s host destination organization
+pub remove-line : (adds : Bool) (n : ℕ) (s host destination organization : List ℕ) → adds ≡ false
+    → tookLine n s (removing s host destination organization) ≡ edited adds n s host destination organization
 unfolding edited
 remove-line adds n s host destination organization e = rw e
 
 module _ (o : List ℕ) {k : ℕ} {o′ : List ℕ} (adds : Bool) where
-  pub edit-last : {words : List ℕ} (b : List ℕ) {e : ℕ} {b′ : List ℕ} {n : ℕ} (i j m : ℕ) → Last words b m e b′ → i ≤ j → j ≤ m → m ≤ length b → n ≡ numberTo 40000 (firstWord words) → Puts o (edited adds n (take (e - m) (drop m b′)) (take (i - 0) b′) (take (j - i) (drop i b′)) (take (m - j) (drop j b′))) k o′ → Puts o (onLast words (λ n s. edited adds n s (take i b) (take (j - i) (drop i b)) (take (m - j) (drop j b)))) k o′
+  pub edit-last : {words : List ℕ} (b : List ℕ) {e : ℕ} {b′ : List ℕ} {n : ℕ} (i j m : ℕ) → Last words b m e b′ → i ≤ j → j ≤ m → m ≤ length b
+      → n ≡ numberTo 40000 (firstWord words) → Puts o (edited adds n (take (e - m) (drop m b′)) (take (i - 0) b′) (take (j - i) (drop i b′)) (take (m - j) (drop j b′))) k o′
+      → Puts o (onLast words (λ n s. edited adds n s (take i b) (take (j - i) (drop i b)) (take (m - j) (drop j b)))) k o′
   edit-last {words} b {e} {b′} {n} i j m l g h r q p =
       let z : i - 0 ≡ i = omega arith in
       let host = front-kept b b′ i m (omega arith) (l .front) in
@@ -323,19 +337,25 @@ module _ (o : List ℕ) {k : ℕ} {o′ : List ℕ} (adds : Bool) where
       let f : ℕ → List ℕ → List ℕ = λ n s. edited adds n s (take i b) (take (j - i) (drop i b)) (take (m - j) (drop j b)) in
       says o (rw (q, l .taken, z, host, destination, organization) refl ∙ sym (l .on f)) p
 
-  pub edit-third : {words : List ℕ} (b : List ℕ) {m : ℕ} {b′ v : List ℕ} (i j : ℕ) → First words b j m b′ → i ≤ j → j ≤ length b → v ≡ rest words → Puts o (onLast v (λ n s. edited adds n s (take i b′) (take (j - i) (drop i b′)) (take (m - j) (drop j b′)))) k o′ → Puts o (onFirst words (λ organization v. onLast v (λ n s. edited adds n s (take i b) (take (j - i) (drop i b)) organization))) k o′
+  pub edit-third : {words : List ℕ} (b : List ℕ) {m : ℕ} {b′ v : List ℕ} (i j : ℕ) → First words b j m b′ → i ≤ j → j ≤ length b → v ≡ rest words
+      → Puts o (onLast v (λ n s. edited adds n s (take i b′) (take (j - i) (drop i b′)) (take (m - j) (drop j b′)))) k o′
+      → Puts o (onFirst words (λ organization v. onLast v (λ n s. edited adds n s (take i b) (take (j - i) (drop i b)) organization))) k o′
   edit-third {words} b {m} {b′} {v} i j l g r q p =
       let host = front-kept b b′ i j g (l .front) in
       let destination = part-kept b b′ i j j g (omega arith) r (l .front) in
       let f : List ℕ → List ℕ → List ℕ = λ organization v. onLast v (λ n s. edited adds n s (take i b) (take (j - i) (drop i b)) organization) in
       says o (rw (q, l .taken, host, destination) refl ∙ sym (l .on f)) p
 
-  pub edit-second : {words : List ℕ} (b : List ℕ) {j : ℕ} {b′ v : List ℕ} (i : ℕ) → First words b i j b′ → v ≡ rest words → Puts o (onFirst v (λ organization v. onLast v (λ n s. edited adds n s (take i b′) (take (j - i) (drop i b′)) organization))) k o′ → Puts o (onFirst words (λ destination v. onFirst v (λ organization v. onLast v (λ n s. edited adds n s (take i b) destination organization)))) k o′
+  pub edit-second : {words : List ℕ} (b : List ℕ) {j : ℕ} {b′ v : List ℕ} (i : ℕ) → First words b i j b′ → v ≡ rest words
+      → Puts o (onFirst v (λ organization v. onLast v (λ n s. edited adds n s (take i b′) (take (j - i) (drop i b′)) organization))) k o′
+      → Puts o (onFirst words (λ destination v. onFirst v (λ organization v. onLast v (λ n s. edited adds n s (take i b) destination organization)))) k o′
   edit-second {words} b {j} {b′} {v} i l q p =
       let f : List ℕ → List ℕ → List ℕ = λ destination v. onFirst v (λ organization v. onLast v (λ n s. edited adds n s (take i b) destination organization)) in
       says o (rw (q, l .taken, l .front) refl ∙ sym (l .on f)) p
 
-  pub edit-first : {words b : List ℕ} {i : ℕ} {b′ v : List ℕ} → First words b 0 i b′ → v ≡ rest words → Puts o (onFirst v (λ destination v. onFirst v (λ organization v. onLast v (λ n s. edited adds n s (take i b′) destination organization)))) k o′ → Puts o (editText adds words) k o′
+  pub edit-first : {words b : List ℕ} {i : ℕ} {b′ v : List ℕ} → First words b 0 i b′ → v ≡ rest words
+      → Puts o (onFirst v (λ destination v. onFirst v (λ organization v. onLast v (λ n s. edited adds n s (take i b′) destination organization)))) k o′
+      → Puts o (editText adds words) k o′
   unfolding editText
   edit-first {words} {b} {i} {b′} {v} l q p =
       let z : i - 0 ≡ i = omega arith in

@@ -1,19 +1,18 @@
 -- What a command on messages alone shows. Cited by the contract of `src/asking.rt`. Assumes nothing.
 use Prim.Native.Nat.{ℕ}
 use Rattle.octets.specs.Ascii.{ascii}
-use Rattle.octets.specs.Decimal.{pickList}
 use Rattle.octets.specs.Text.{same}
 use Rattle.showing.specs.Readings.{readText}
 use Rattle.showing.specs.Shown.{unknown}
 use Rattle.showing.specs.Writers.{editText, replyText}
-use mathlib.Core.Bool.{true, false}
+use mathlib.Core.Bool.{true, false, cond}
 use mathlib.Core.List.{List}
 
 -- by its name, and the words behind it; `?` for any other name
 unfoldable pub askedText : List ℕ → List ℕ → List ℕ
 askedText name words =
-    pickList (same name (ascii "read")) (readText words)
-    (pickList (same name (ascii "reply")) (replyText words)
-    (pickList (same name (ascii "add")) (editText true words)
-    (pickList (same name (ascii "remove")) (editText false words)
+    cond (same name (ascii "read")) (readText words)
+    (cond (same name (ascii "reply")) (replyText words)
+    (cond (same name (ascii "add")) (editText true words)
+    (cond (same name (ascii "remove")) (editText false words)
     unknown)))

@@ -3,3 +3,4 @@ pub mod Shown
 pub mod Readings
 pub mod Writers
 pub mod Asked
+pub mod inner

@@ -1,10 +1,11 @@
 -- What `read` shows. Cited by the contracts of `src/readings.rt`. Assumes nothing.
+use mathlib.Core.Bool.{cond}
 use Prim.Native.Nat.{ℕ}
 use Rattle.message.specs.Reading.{reading}
 use Rattle.message.specs.declared.reading.Reading.the-variants as readings
 use Rattle.message.specs.declared.reading.Reading.{Reading}
 use Rattle.octets.specs.Ascii.{ascii}
-use Rattle.octets.specs.Decimal.{pickList, shown}
+use Rattle.octets.specs.Decimal.{shown}
 use Rattle.showing.specs.Shown.{unknown}
 use Rattle.showing.specs.Words.{bytesOf, isBytes}
 use mathlib.Core.List.{List, _++_}
@@ -16,4 +17,4 @@ readingText (readings.Refused n p) = ascii "no " ++ (shown n ++ (ascii " " ++ (s
 
 -- `read HEX`
 unfoldable pub readText : List ℕ → List ℕ
-readText w = pickList (isBytes w) (readingText (reading (bytesOf w))) unknown
+readText w = cond (isBytes w) (readingText (reading (bytesOf w))) unknown

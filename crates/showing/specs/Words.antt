@@ -4,16 +4,14 @@ use Prim.Native.Nat.{ℕ, _+_}
 use Rattle.hex.specs.Digits.{decoded, isHex}
 use Rattle.octets.specs.Ascii.{ascii}
 use Rattle.octets.specs.Class.{all, isDigit}
-use Rattle.octets.specs.Decimal.{chosen, decimalOf, pickList}
-use Rattle.octets.specs.Splice.{splice}
+use Rattle.octets.specs.Decimal.{decimalOf}
 use Rattle.octets.specs.Text.{before, same}
 use Rattle.octets.specs.declared.decimals.Spelt.the-variants.{Value, Other}
 use Rattle.octets.specs.declared.decimals.Spelt.{Spelt}
 use lib.Dec.{leb, ltb}
 use lib.ListN.{length, take, drop}
-use mathlib.Core.Bool.{Bool, true, false, _&&_, _||_}
-use mathlib.Core.List.{List, [], _++_}
-use mathlib.Core.Path.{_≡_}
+use mathlib.Core.Bool.{Bool, _&&_, _||_, cond}
+use mathlib.Core.List.{List, []}
 
 -- whether a space stands in s
 abbrev pub hasSpace : List ℕ → Bool
@@ -29,7 +27,7 @@ rest s = drop (before 32 s + 1) s
 
 -- the number that a word is: digits, at least one, with as many leading zeros as there are, below 2^64
 unfoldable pub numeral : List ℕ → Spelt
-numeral w = chosen (leb 1 (length w) && (all isDigit w && ltb (decimalOf w) 18446744073709551616)) (Value (decimalOf w)) Other
+numeral w = cond (leb 1 (length w) && (all isDigit w && ltb (decimalOf w) 18446744073709551616)) (Value (decimalOf w)) Other
 
 -- a number as it is, and one above the limit for what is none
 abbrev pub valueTo : ℕ → Spelt → ℕ
@@ -54,9 +52,4 @@ isBytes w = isHexTo 80000 w
 
 -- the bytes that it stands for
 unfoldable pub bytesOf : List ℕ → List ℕ
-bytesOf w = pickList (isNone w) [] (decoded w)
-
--- if a test is met, the bytes w are put into b from a place on, and r is the place behind them; else b stays, and r is 85,001
-pub record Got (test : Bool) (b : List ℕ) (at : ℕ) (w : List ℕ) (r : ℕ) (b′ : List ℕ) : Type 0 where
-  pub good : test ≡ true → (r ≡ at + length w) × (b′ ≡ splice b at w)
-  pub bad : test ≡ false → (r ≡ 85001) × (b′ ≡ b)
+bytesOf w = cond (isNone w) [] (decoded w)

@@ -4,11 +4,10 @@ use Prim.Native.Nat.{ℕ, _+_}
 use Rattle.message.specs.Reading.{reading}
 use Rattle.octets.specs.Ascii.{ascii}
 use Rattle.octets.specs.Decimal as decimal
-use Rattle.octets.specs.Decimal.{pickList}
 use Rattle.showing.specs.Shown.{hexed, unknown}
 use Rattle.showing.specs.Words.{bytesOf, firstWord, hasSpace, isBytes, numberTo, rest}
 use Rattle.writing.specs.Adding.{adding}
-use Rattle.writing.specs.Outcome.{Outcome, answered, left, numberOf}
+use Rattle.writing.specs.Outcome.{Outcome, answered, left, writingNumber}
 use Rattle.writing.specs.Removing.{hostIn, nextHop, removing, shown}
 use Rattle.writing.specs.Reply.{replying}
 use Rattle.writing.specs.declared.answers.Removed.the-variants as removals
@@ -17,7 +16,7 @@ use Rattle.writing.specs.declared.answers.Written.the-variants.{Done, Refused}
 use Rattle.writing.specs.declared.answers.Written.{Written}
 use lib.Dec.{leb}
 use lib.ListN.{replicate}
-use mathlib.Core.Bool.{Bool, _&&_}
+use mathlib.Core.Bool.{Bool, _&&_, cond}
 use mathlib.Core.List.{List, _++_}
 
 -- The words. Each but the last ends at the first space.
@@ -36,15 +35,15 @@ isLast words = isNumber 40000 words && isBytes (rest words)
 
 -- the line by CODE, which goes to 65,535, and the words behind it
 unfoldable pub onCode : List ℕ → (ℕ → List ℕ → List ℕ) → List ℕ
-onCode words f = pickList (isNumber 65535 words) (f (numberTo 65535 (firstWord words)) (rest words)) unknown
+onCode words f = cond (isNumber 65535 words) (f (numberTo 65535 (firstWord words)) (rest words)) unknown
 
 -- the line by the bytes of the first word and the words behind it
 unfoldable pub onFirst : List ℕ → (List ℕ → List ℕ → List ℕ) → List ℕ
-onFirst words f = pickList (isFirst words) (f (bytesOf (firstWord words)) (rest words)) unknown
+onFirst words f = cond (isFirst words) (f (bytesOf (firstWord words)) (rest words)) unknown
 
 -- the line by ROOM and the bytes of HEX
 unfoldable pub onLast : List ℕ → (ℕ → List ℕ → List ℕ) → List ℕ
-onLast words f = pickList (isLast words) (f (numberTo 40000 (firstWord words)) (bytesOf (rest words))) unknown
+onLast words f = cond (isLast words) (f (numberTo 40000 (firstWord words)) (bytesOf (rest words))) unknown
 
 -- The answers.
 
@@ -55,7 +54,7 @@ filled n = replicate n 90
 -- `ok LENGTH ` or `no N `
 unfoldable pub headOf : Written → List ℕ
 headOf (Done n) = ascii "ok " ++ (decimal.shown n ++ ascii " ")
-headOf (Refused r) = ascii "no " ++ (decimal.shown (numberOf r) ++ ascii " ")
+headOf (Refused r) = ascii "no " ++ (decimal.shown (writingNumber r) ++ ascii " ")
 
 -- the answer without the places of the next host
 unfoldable pub writtenOf : Removed → Written
@@ -81,7 +80,7 @@ tookLine n s x = tookText (shown (hostIn (reading s)) (answered n x)) (left (fil
 -- the line of `add`, or of `remove`
 unfoldable pub edited : Bool → ℕ → List ℕ → List ℕ → List ℕ → List ℕ → List ℕ
 edited adds n s host destination organization =
-    pickList adds (wroteLine n (adding s host destination organization)) (tookLine n s (removing s host destination organization))
+    cond adds (wroteLine n (adding s host destination organization)) (tookLine n s (removing s host destination organization))
 
 -- `reply CODE DATE ROOM HEX`
 unfoldable pub replyText : List ℕ → List ℕ

@@ -10,7 +10,8 @@ ghost use Prim.Native.Nat.{_+_, _*_, _≤_};
 ghost use lib.ListN.{drop, length};
 ghost use Rattle.octets.specs.Decimal.{decimalIn};
 ghost use Rattle.octets.specs.Splice.{splice};
-ghost use Rattle.showing.specs.Words.{Got, bytesOf, firstWord, hasSpace, isBytes, isHexTo, numberTo, numeral, rest};
+ghost use Rattle.showing.specs.Words.{bytesOf, firstWord, hasSpace, isBytes, isHexTo, numberTo, numeral, rest};
+ghost use Rattle.showing.specs.inner.Got.{Got};
 
 // Whether a word ends at a space.
 pub fn has_space(words: &[u8]) -> bool

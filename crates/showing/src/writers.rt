@@ -20,10 +20,11 @@ ghost use Rattle.octets.specs.Ascii.{ascii};
 ghost use Rattle.octets.specs.Decimal.{shown};
 ghost use Rattle.octets.specs.Splice.{splice};
 ghost use Rattle.showing.specs.Shown.{Puts, hexed};
-ghost use Rattle.showing.specs.Words.{Got, bytesOf, firstWord, numberTo, rest};
+ghost use Rattle.showing.specs.Words.{bytesOf, firstWord, numberTo, rest};
+ghost use Rattle.showing.specs.inner.Got.{Got};
 ghost use Rattle.showing.specs.Writers.{editText, edited, filled, headOf, isFirst, isLast, onFirst, onLast, replyText, tookLine, tookText, wroteLine, wroteText, writtenOf};
 ghost use Rattle.writing.specs.Adding.{adding};
-ghost use Rattle.writing.specs.Outcome.{Wrote};
+ghost use Rattle.writing.specs.Outcome.{Writes};
 ghost use Rattle.writing.specs.Removing.{Took, hostIn, removing};
 ghost use Rattle.writing.specs.Reply.{replying};
 
@@ -130,7 +131,7 @@ fn put_removed(out: &mut [u8; 160100], r: Removed, room: &[u8; 40000], n: usize,
 // Into the first n bytes of the room, and so the next two.
 fn reply_into(room: &mut [u8], n: usize, s: &[u8], code: u16, date: &[u8]) -> Written
     requires { ⌜ n ≤ length (now room) ⌝ }
-    ensures { λ r. ⌜ Wrote (take n (now (room .entry))) (replying (now (s .entry)) code (now (date .entry))) r (take n (now (room .exit))) ⌝ }
+    ensures { λ r. ⌜ Writes (take n (now (room .entry))) (replying (now (s .entry)) code (now (date .entry))) r (take n (now (room .exit))) ⌝ }
 {
     writing::reply(&mut room[0..n], s, code, date)
 }
@@ -144,7 +145,7 @@ fn add_into(
     organization: &[u8],
 ) -> Written
     requires { ⌜ n ≤ length (now room) ⌝ }
-    ensures { λ r. ⌜ Wrote (take n (now (room .entry))) (adding (now (s .entry)) (now (host .entry)) (now (destination .entry)) (now (organization .entry))) r (take n (now (room .exit))) ⌝ }
+    ensures { λ r. ⌜ Writes (take n (now (room .entry))) (adding (now (s .entry)) (now (host .entry)) (now (destination .entry)) (now (organization .entry))) r (take n (now (room .exit))) ⌝ }
 {
     writing::add(&mut room[0..n], s, host, destination, organization)
 }

@@ -3,7 +3,8 @@ use Prim.Native.Nat.{ℕ, _+_, _-_, _*_, _≤_, _<_}
 use Rattle.octets.proofs.ClassLaws.{among-low, among-high, in-among}
 use Rattle.octets.proofs.NumberLaws.{length-bytesOf}
 use Rattle.octets.specs.Splice.{splice}
-use Rattle.table.proofs.SpliceLaws.{join, splice-whole}
+use Rattle.octets.proofs.Chain.{splice-two}
+use Rattle.table.proofs.SpliceLaws.{splice-whole}
 use Rattle.table.specs.Blank.{blankFits, blankOf, blankAnswer, blankAfter}
 use Rattle.table.specs.Image.{headerOf}
 use Rattle.table.specs.declared.blanking.Made.the-variants.{Done, Refused}
@@ -51,7 +52,7 @@ module _ (out : List ℕ) (count : ℕ) where
           let m : 16 + 160 * count - 16 ≡ 160 * count = omega arith in
           let k : 16 ≡ 0 + length w = omega arith in
           let v : length (w ++ z) ≡ length out = rw (length-append, n, length-replicate {A = ℕ} (160 * count) 0) (sym l) in
-          r ∙ rw (m, q, p) (ap (λ (i : ℕ). splice (splice out 0 w) i z) k ∙ join out 0 w z (omega arith) ∙ splice-whole out (w ++ z)
+          r ∙ rw (m, q, p) (ap (λ (i : ℕ). splice (splice out 0 w) i z) k ∙ splice-two out 0 w z (omega arith) ∙ splice-whole out (w ++ z)
           (sym v))
 
       pub made : {h a b : List ℕ} → length out ≡ 16 + 160 * count → h ≡ headerOf count → a ≡ splice out 0 h

@@ -1,9 +1,9 @@
 -- What a record is put together from is read back: its numbers, its four texts, its spare bytes. Each field is a piece between what
 -- stands before it and what stands behind it. Assumes nothing.
 use Prim.Native.Nat.{ℕ, zero, suc, _+_, _-_, _≤_, _<_}
-use Rattle.octets.proofs.NumberLaws.{length-bytesOf, number-bytes}
+use Rattle.octets.proofs.NumberLaws.{length-bytesOf, number-bytes, capacity}
 use Rattle.octets.specs.Class.{all}
-use Rattle.octets.specs.Number.{bytesOf, numberOf, span}
+use Rattle.octets.specs.Number.{bytesOf, bigEndian}
 use Rattle.table.proofs.SpliceLaws.{take-of-drop}
 use Rattle.table.specs.Record.{roomAt, textAt, fieldsOf, countsOf, timesOf, recordOf, textsOf, slotOf}
 use Rattle.table.specs.WellFormed.{zeros, padded, slotSound, spareSound}
@@ -30,16 +30,16 @@ piece : {l : List ℕ} (p q s : List ℕ) (a m : ℕ) → l ≡ p ++ (q ++ s) �
 piece p q s a m e h g = rw (e, drop-at p (q ++ s) a h) (take-at q s m g)
 
 -- a number between two others, of n bytes
-number : {l : List ℕ} (p s : List ℕ) (a n v : ℕ) → l ≡ p ++ (bytesOf n v ++ s) → length p ≡ a → v < span n
-    → numberOf (take n (drop a l)) ≡ v
-number p s a n v e h g = ap numberOf (piece p (bytesOf n v) s a n e h (length-bytesOf n v)) ∙ number-bytes n v g
+number : {l : List ℕ} (p s : List ℕ) (a n v : ℕ) → l ≡ p ++ (bytesOf n v ++ s) → length p ≡ a → v < capacity n
+    → bigEndian (take n (drop a l)) ≡ v
+number p s a n v e h g = ap bigEndian (piece p (bytesOf n v) s a n e h (length-bytesOf n v)) ∙ number-bytes n v g
 
-four : (v : ℕ) → v < 4294967296 → v < span 4
-unfolding span
+four : (v : ℕ) → v < 4294967296 → v < capacity 4
+unfolding capacity
 four v h = h
 
-eight : (v : ℕ) → v < 18446744073709551616 → v < span 8
-unfolding span
+eight : (v : ℕ) → v < 18446744073709551616 → v < capacity 8
+unfolding capacity
 eight v h = h
 
 module _ (f : Fields) (x : List ℕ) (e : length x ≡ 113) where

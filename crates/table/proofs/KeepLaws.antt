@@ -5,18 +5,20 @@ use Rattle.octets.proofs.ClassLaws.{among-in, in-among}
 use Rattle.octets.proofs.TextLaws.{same-eq, same-self, eq-same, ne-same}
 use Rattle.octets.specs.Class.{among}
 use Rattle.octets.specs.Text.{same}
+use Rattle.octets.proofs.TestLaws.{clash, and-both, and-left, and-right, Either, either}
 use Rattle.rules.proofs.PartLaws.{call-id-length, user-length, fire-length}
 use Rattle.rules.specs.Texts.{callIdRule, userRule, fireRule}
 use Rattle.table.proofs.BlankLaws.{length-header}
 use Rattle.table.proofs.FieldLaws.{Fits, fields-read, texts-read, spare-zero, text-own, slot-own, text-read, slot-read, zeros-replicate}
 use Rattle.table.proofs.ImageLaws.{length-record, length-with, with-same, with-other, with-header}
 use Rattle.table.proofs.RecordLaws.{slots, length-slots, length-texts, length-withFields, length-newRecord}
-use Rattle.table.proofs.SearchLaws.{bool-clash, Either, holds, fails, either, and-both, and-left, and-right, all-every, every-at}
+use Rattle.table.proofs.SearchLaws.{all-every, every-at}
 use Rattle.table.proofs.SlotLaws.{length-slot}
 use Rattle.table.proofs.SoundLaws.{record-used}
 use Rattle.table.specs.Blank.{blankOf}
 use Rattle.table.specs.Image.{size, headerOf, recordAt, withRecord, freeRecord, recordSize, headerSize}
-use Rattle.table.specs.Record.{callIdOf, userOf, callerFireOf, calleeFireOf, textAt, fieldsOf, textsOf, slotOf, withFields, newRecord, isFree, isNamed, sameParties}
+use Rattle.table.specs.Record.{recordCallId, recordUser, recordCallerFire, recordCalleeFire, textAt, fieldsOf, textsOf, slotOf, withFields, newRecord}
+use Rattle.table.specs.Record.{isFree, isNamed, sameParties}
 use Rattle.table.specs.WellFormed.{slotSound, textsSound, fieldsSound, spareSound, usedSound, recordSound, apart, apartBefore, distinct, frameSound, recordsSound, wellFormed}
 use Rattle.table.specs.declared.numbers.Fields.{Fields}
 use borrow.Author.Tests.{eq-eqb, ne-eqb}
@@ -25,6 +27,7 @@ use lib.ListN.{length, getD, take, drop, replicate, length-append, length-replic
 use lib.Seq.{take-at, drop-at, drop-append-add}
 use mathlib.Core.Bool.{Bool, true, false, not, _&&_, _||_}
 use mathlib.Core.List.{List, [], _++_, append-assoc, append-nil}
+use mathlib.Core.Logic.{inl, inr}
 use mathlib.Core.Path.{_≡_, refl, sym, ap, _∙_}
 use native.Mathlib.Decide.{ℕ-discrete, decLt}
 use native.Mathlib.Omega.{arith}
@@ -50,16 +53,16 @@ module _ (r : List ℕ) (f : Fields) (e : length r ≡ recordSize) where
   text-kept a room h =
       sym (text-own (withFields r f) a room h) ∙ ap (textAt a room) (texts-read f (textsOf r) (length-texts r e)) ∙ text-own r a room h
 
-  pub call-id-kept : callIdOf (withFields r f) ≡ callIdOf r
+  pub call-id-kept : recordCallId (withFields r f) ≡ recordCallId r
   call-id-kept = text-kept 0 64 (omega arith)
 
-  pub user-kept : userOf (withFields r f) ≡ userOf r
+  pub user-kept : recordUser (withFields r f) ≡ recordUser r
   user-kept = text-kept 65 15 (omega arith)
 
-  pub caller-fire-kept : callerFireOf (withFields r f) ≡ callerFireOf r
+  pub caller-fire-kept : recordCallerFire (withFields r f) ≡ recordCallerFire r
   caller-fire-kept = text-kept 81 15 (omega arith)
 
-  pub callee-fire-kept : calleeFireOf (withFields r f) ≡ calleeFireOf r
+  pub callee-fire-kept : recordCalleeFire (withFields r f) ≡ recordCalleeFire r
   callee-fire-kept = text-kept 97 15 (omega arith)
 
   pub parties-kept : (u a b : List ℕ) → sameParties u a b (withFields r f) ≡ sameParties u a b r
@@ -119,20 +122,20 @@ module _ (callId user callerFire calleeFire : List ℕ) (f : Fields) (h1 : lengt
   text-new : (a room : ℕ) → a + 1 + room ≤ 113 → textAt (1 + a) room new ≡ textAt a room own
   text-new a room h = sym (text-own new a room h) ∙ ap (textAt a room) new-texts
 
-  pub call-id-new : callIdOf new ≡ callId
+  pub call-id-new : recordCallId new ≡ callId
   call-id-new =
       text-new 0 64 (omega arith) ∙ text-read [] callId (slotOf 15 user ++ (slotOf 15 callerFire ++ slotOf 15 calleeFire))
       0 64 refl refl h1
 
-  pub user-new : userOf new ≡ user
+  pub user-new : recordUser new ≡ user
   user-new =
       text-new 65 15 (omega arith) ∙ text-read (slotOf 64 callId) user (slotOf 15 callerFire ++ slotOf 15 calleeFire) 65 15 at-user
       (length-slot 64 callId h1) h2
 
-  pub caller-fire-new : callerFireOf new ≡ callerFire
+  pub caller-fire-new : recordCallerFire new ≡ callerFire
   caller-fire-new = text-new 81 15 (omega arith) ∙ text-read two callerFire (slotOf 15 calleeFire) 81 15 at-caller length-two h3
 
-  pub callee-fire-new : calleeFireOf new ≡ calleeFire
+  pub callee-fire-new : recordCalleeFire new ≡ calleeFire
   callee-fire-new = text-new 97 15 (omega arith) ∙ text-read three calleeFire [] 97 15 at-callee length-three h4
 
   pub parties-new : sameParties user callerFire calleeFire new ≡ true
@@ -196,7 +199,7 @@ pub used-not-free : (r : List ℕ) → usedSound r ≡ true → isFree r ≡ fal
 used-not-free r u = let h = state-one r u in ne-eqb (getD r 0 0) 0 (λ w. omega arith)
 
 not-free-state : (r : List ℕ) → isFree r ≡ false → getD r 0 0 ≡ 0 → ⊥
-not-free-state r e w = bool-clash (eq-eqb (getD r 0 0) 0 w) e
+not-free-state r e w = clash (eq-eqb (getD r 0 0) 0 w) e
 
 -- what is not free is in use
 pub sound-used : (r : List ℕ) → recordSound r ≡ true → isFree r ≡ false → usedSound r ≡ true
@@ -218,12 +221,12 @@ same-swap : (a b : List ℕ) → same a b ≡ same b a
 same-swap a b = go (either (same a b))
   where
     go : Either (same a b) → same a b ≡ same b a
-    go (holds e) = e ∙ sym (eq-same b a (sym (same-eq a b e)))
-    go (fails e) = e ∙ sym (ne-same b a (λ w. bool-clash (eq-same a b (sym w)) e))
+    go (inl e) = e ∙ sym (eq-same b a (sym (same-eq a b e)))
+    go (inr e) = e ∙ sym (ne-same b a (λ w. clash (eq-same a b (sym w)) e))
 
 apart-swap : (r s : List ℕ) → apart r s ≡ apart s r
 unfolding apart
-apart-swap r s = rw (same-swap (callIdOf r) (callIdOf s)) (go (isFree r) (isFree s) (not (same (callIdOf s) (callIdOf r))))
+apart-swap r s = rw (same-swap (recordCallId r) (recordCallId s)) (go (isFree r) (isFree s) (not (same (recordCallId s) (recordCallId r))))
   where
     go : (a b c : Bool) → (a || (b || c)) ≡ (b || (a || c))
     go true true c = refl
@@ -237,32 +240,32 @@ unfolding apart isNamed
 named-apart id r s e p q = go (either (isFree r)) (either (isFree s))
   where
     go : Either (isFree r) → Either (isFree s) → ⊥
-    go (holds a) b = bool-clash refl (sym (rw a at p))
-    go (fails a) (holds b) = bool-clash refl (sym (rw b at q))
-    go (fails a) (fails b) =
-        let m : same (callIdOf r) id ≡ true = rw a at p in
-        let n : same (callIdOf s) id ≡ true = rw b at q in
-        let w : same (callIdOf r) (callIdOf s) ≡ true =
-        eq-same (callIdOf r) (callIdOf s) (same-eq (callIdOf r) id m ∙ sym (same-eq (callIdOf s) id n)) in
-        bool-clash refl (sym (rw (a, b, w) at e))
+    go (inl a) b = clash refl (sym (rw a at p))
+    go (inr a) (inl b) = clash refl (sym (rw b at q))
+    go (inr a) (inr b) =
+        let m : same (recordCallId r) id ≡ true = rw a at p in
+        let n : same (recordCallId s) id ≡ true = rw b at q in
+        let w : same (recordCallId r) (recordCallId s) ≡ true =
+        eq-same (recordCallId r) (recordCallId s) (same-eq (recordCallId r) id m ∙ sym (same-eq (recordCallId s) id n)) in
+        clash refl (sym (rw (a, b, w) at e))
 
 -- a record whose Call-ID is not that of another is apart from it
-other-apart : (r s id : List ℕ) → callIdOf r ≡ id → isNamed id s ≡ false → apart r s ≡ true
+other-apart : (r s id : List ℕ) → recordCallId r ≡ id → isNamed id s ≡ false → apart r s ≡ true
 unfolding apart isNamed
 other-apart r s id e n = go (isFree r) (either (isFree s))
   where
-    go : (a : Bool) → Either (isFree s) → (a || (isFree s || not (same (callIdOf r) (callIdOf s)))) ≡ true
+    go : (a : Bool) → Either (isFree s) → (a || (isFree s || not (same (recordCallId r) (recordCallId s)))) ≡ true
     go true b = refl
-    go false (holds b) = rw b
-    go false (fails b) = rw (b, same-swap (callIdOf r) (callIdOf s), e) (rw (rw b at n))
+    go false (inl b) = rw b
+    go false (inr b) = rw (b, same-swap (recordCallId r) (recordCallId s), e) (rw (rw b at n))
 
 -- a record with the Call-ID of one in use is apart from what that one is apart from
-apart-same : (r x s : List ℕ) → isFree r ≡ false → callIdOf x ≡ callIdOf r → apart r s ≡ true → apart x s ≡ true
+apart-same : (r x s : List ℕ) → isFree r ≡ false → recordCallId x ≡ recordCallId r → apart r s ≡ true → apart x s ≡ true
 unfolding apart
 apart-same r x s e q a = rw q (go (isFree x) (rw e at a))
   where
-    go : (b : Bool) → (isFree s || not (same (callIdOf r) (callIdOf s))) ≡ true
-        → (b || (isFree s || not (same (callIdOf r) (callIdOf s)))) ≡ true
+    go : (b : Bool) → (isFree s || not (same (recordCallId r) (recordCallId s))) ≡ true
+        → (b || (isFree s || not (same (recordCallId r) (recordCallId s)))) ≡ true
     go true v = refl
     go false v = v
 

@@ -11,3 +11,4 @@ pub mod FieldLaws
 pub mod KeepLaws
 pub mod LookupLaws
 pub mod Determined
+pub mod Samples

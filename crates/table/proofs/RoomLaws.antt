@@ -4,9 +4,10 @@ use Prim.Native.Nat.{ℕ, _+_, _-_, _≤_, _<_}
 use Rattle.octets.proofs.TextLaws.{eq-same, ne-same}
 use Rattle.octets.specs.Class.{all}
 use Rattle.octets.specs.Text.{same}
+use Rattle.octets.proofs.TestLaws.{clash, and-left, and-right, Either, either}
 use Rattle.rules.specs.Texts.{callIdRule}
 use Rattle.table.proofs.ImageLaws.{length-record}
-use Rattle.table.proofs.SearchLaws.{bool-clash, Either, holds, fails, either, and-left, and-right, every-at}
+use Rattle.table.proofs.SearchLaws.{every-at}
 use Rattle.table.specs.Image.{recordAt, recordSize, size}
 use Rattle.table.specs.Record.{callIdAt, callIdRoom, fieldsOf, isFree, roomAt, textAt}
 use Rattle.table.specs.WellFormed.{apart, fieldsSound, isZero, padded, recordSound, recordsSound, slotSound, spareSound, textsSound, usedSound, zeros}
@@ -16,6 +17,7 @@ use lib.ListN.{length, getD, take, drop, replicate, length-drop, take-append-dro
 use lib.Seq.{length-take-le, take-all, take-suc}
 use mathlib.Core.Bool.{Bool, true, false, not, _&&_, _||_}
 use mathlib.Core.List.{List, [], _∷_, _++_}
+use mathlib.Core.Logic.{inl, inr}
 use mathlib.Core.Path.{_≡_, refl, sym, ap, _∙_}
 use native.Mathlib.Numerals.{add-one}
 use native.Mathlib.Omega.{arith}
@@ -54,7 +56,7 @@ module _ (a b : List ℕ) (i : ℕ) (e : length a ≡ length b) where
 -- The room.
 
 -- bytes that are all 00
-zeros-are : (s : List ℕ) → zeros s ≡ true → s ≡ replicate (length s) 0
+pub zeros-are : (s : List ℕ) → zeros s ≡ true → s ≡ replicate (length s) 0
 unfolding all
 zeros-are [] e = refl
 zeros-are (x ∷ s) e =
@@ -83,7 +85,7 @@ pub rooms-apart : (r s : List ℕ) → length r ≡ recordSize → length s ≡ 
     → true ≡ apart r s
 unfolding apart
 rooms-apart r s l m p q d =
-    rw (ne-same (textAt 1 64 r) (textAt 1 64 s) (λ e. bool-clash (eq-same _ _ (alike e)) d)) (go (isFree r) (isFree s))
+    rw (ne-same (textAt 1 64 r) (textAt 1 64 s) (λ e. clash (eq-same _ _ (alike e)) d)) (go (isFree r) (isFree s))
   where
     alike : textAt 1 64 r ≡ textAt 1 64 s → roomAt 1 64 r ≡ roomAt 1 64 s
     alike e = room-is 1 64 r (omega arith) p ∙ rw e (sym (room-is 1 64 s (omega arith) q))
@@ -100,8 +102,8 @@ unfolding recordSound usedSound textsSound slotSound padded all
 record-padded r l e = go (either (zeros r))
   where
     go : Either (zeros r) → padded callIdAt callIdRoom r ≡ true
-    go (holds w) = let z : r ≡ replicate 160 0 = zeros-are r w ∙ ap (λ (n : ℕ). replicate n 0) l in rw z
-    go (fails w) =
+    go (inl w) = let z : r ≡ replicate 160 0 = zeros-are r w ∙ ap (λ (n : ℕ). replicate n 0) l in rw z
+    go (inr w) =
         let u : usedSound r ≡ true = rw w at e in
         let t : textsSound r ≡ true = and-right (spareSound r) _ (and-right (fieldsSound (fieldsOf r)) _ u) in
         let c : slotSound callIdRule 1 64 r ≡ true = and-left (slotSound callIdRule 1 64 r) _ t in

@@ -1,38 +1,14 @@
 -- What a test on every number below a bound, a search and a count say, each by one number more. Assumes nothing.
 use Prim.Native.Nat.{ℕ, zero, suc, _+_, _<_}
-use Rattle.table.specs.Search.{foundIf, orElse, lowest, every, one, tally}
+use Rattle.octets.proofs.TestLaws.{clash, and-both, and-left, and-right, Either, either}
+use Rattle.table.specs.Search.{foundIf, orElse, lowest, every}
+use Rattle.table.specs.inner.Count.{one, tally}
 use Rattle.table.specs.declared.searching.Found.the-variants.{At, Nothing}
-use mathlib.Core.Bool.{Bool, true, false, _&&_}
+use mathlib.Core.Bool.{Bool, true, false}
+use mathlib.Core.Logic.{inl, inr}
 use mathlib.Core.Path.{_≡_, refl, sym}
 use native.Mathlib.Decide.{ℕ-discrete}
 use native.Mathlib.Omega.{arith}
-
-pub bool-clash : {b : Bool} → b ≡ true → b ≡ false → ⊥
-bool-clash p q = let z : _≡_ {A = ℕ} 0 1 = cc in omega arith
-
--- either value of a test
-pub data Either (b : Bool) : Type 0 where
-  holds : b ≡ true → Either b
-  fails : b ≡ false → Either b
-
-pub either : (b : Bool) → Either b
-either true = holds refl
-either false = fails refl
-
-pub and-both : {a b : Bool} → a ≡ true → b ≡ true → (a && b) ≡ true
-and-both p q = rw (p, q)
-
-pub and-left : (a b : Bool) → (a && b) ≡ true → a ≡ true
-and-left true b e = refl
-and-left false b e = e
-
-pub and-right : (a b : Bool) → (a && b) ≡ true → b ≡ true
-and-right true b e = e
-and-right false b e = cc
-
-and-false : (a : Bool) → (a && false) ≡ false
-and-false true = refl
-and-false false = refl
 
 -- every number below n passes
 pub all-every : (p : ℕ → Bool) (n : ℕ) → ((k : ℕ) → k < n → p k ≡ true) → every p n ≡ true
@@ -53,8 +29,8 @@ pub every-stops : (p : ℕ → Bool) (n k : ℕ) → k < n → p k ≡ false →
 every-stops p n k h e = go (either (every p n))
   where
     go : Either (every p n) → every p n ≡ false
-    go (holds w) = absurd (bool-clash (every-at p n k w h) e)
-    go (fails w) = w
+    go (inl w) = absurd (clash (every-at p n k w h) e)
+    go (inr w) = w
 
 -- the search
 pub none-lowest : (p : ℕ → Bool) (n : ℕ) → ((k : ℕ) → k < n → p k ≡ false) → Nothing ≡ lowest p n
@@ -89,8 +65,8 @@ searched p (suc n) = go (searched p n) (either (p n))
   where
     go : Searched p n → Either (p n) → Searched p (suc n)
     go (at i e s) w = at i (rw e) (record { inside = let h = s .inside in omega arith; passes = s .passes; before = s .before })
-    go (nowhere e f) (holds w) = at n (rw (e, w)) (record { inside = omega arith; passes = w; before = f })
-    go (nowhere e f) (fails w) = nowhere (rw (e, w)) (λ k h. last k h (ℕ-discrete k n) f)
+    go (nowhere e f) (inl w) = at n (rw (e, w)) (record { inside = omega arith; passes = w; before = f })
+    go (nowhere e f) (inr w) = nowhere (rw (e, w)) (λ k h. last k h (ℕ-discrete k n) f)
       where
         last : (k : ℕ) → k < suc n → Dec (k ≡ n) → ((k : ℕ) → k < n → p k ≡ false) → p k ≡ false
         last k h (yes q) f = rw q w

@@ -9,7 +9,7 @@ use Rattle.table.specs.WellFormed.{padded, isZero, zeros}
 use borrow.Author.Tests.{le-leb, lt-leb}
 use lib.ListN.{length, getD, take, drop, replicate, length-drop, length-append, length-replicate}
 use lib.Seq.{take-suc, take-take, take-all, length-take-le, drop-drop}
-use mathlib.Core.Bool.{Bool, true, false, _&&_}
+use mathlib.Core.Bool.{Bool, true, false, _&&_, and-true}
 use mathlib.Core.List.{List, [], _∷_, _++_, append-assoc}
 use mathlib.Core.Path.{_≡_, refl, sym, ap, _∙_}
 use native.Mathlib.Nat.{add-sub-cancel-left}
@@ -67,10 +67,6 @@ slot-written o at room s {a} {b} {c} {e} h g p q r =
 pub zeros-none : (s : List ℕ) → true ≡ zeros (take 0 s)
 unfolding all
 zeros-none s = refl
-
-and-true : (a : Bool) → (a && true) ≡ a
-and-true true = refl
-and-true false = refl
 
 pub zeros-more : (s : List ℕ) (i : ℕ) → i < length s → (zeros (take i s) && isZero (getD s i 0)) ≡ zeros (take (i + 1) s)
 unfolding all

@@ -2,38 +2,30 @@
 use Prim.Native.Nat.{ℕ, zero, suc, _+_, _*_, _≤_, _<_}
 use Rattle.octets.proofs.ClassLaws.{among-in, among-low, among-high, in-among}
 use Rattle.octets.specs.Class.{among, all}
-use Rattle.octets.specs.Number.{span}
+use Rattle.octets.proofs.NumberLaws.{capacity}
 use Rattle.octets.specs.Text.{same}
-use Rattle.table.proofs.SearchLaws.{and-left, and-right}
+use Rattle.octets.proofs.TestLaws.{and-left, and-right}
 use Rattle.table.specs.Image.{size, headerOf}
 use Rattle.table.specs.Record.{fieldsOf}
 use Rattle.table.specs.WellFormed.{zeros, fieldsSound, usedSound, recordSound, recordsSound, distinct, frameSound, wellFormed}
 use borrow.Author.Tests.{eq-eqb, ne-eqb}
 use lib.Dec.{eqb}
 use lib.ListN.{length, getD, take}
-use mathlib.Core.Bool.{Bool, true, false, _&&_, _||_}
+use mathlib.Core.Bool.{Bool, true, false, and-false, or-false}
 use mathlib.Core.List.{List, [], _∷_}
 use mathlib.Core.Path.{_≡_, refl, sym, ap, _∙_}
 use native.Mathlib.Omega.{arith}
-
-and-false : (b : Bool) → false ≡ (b && false)
-and-false true = refl
-and-false false = refl
-
-or-false : (b : Bool) → b ≡ (b || false)
-or-false true = refl
-or-false false = refl
 
 -- The frame.
 
 module _ (t : List ℕ) (n : ℕ) (e : n ≡ size t) where
   pub frame-few : n < 1 → false ≡ frameSound t
   unfolding frameSound
-  frame-few h = rw (among-low 1 255 (size t) (omega arith)) (and-false (eqb (length t) (16 + 160 * size t)))
+  frame-few h = rw (among-low 1 255 (size t) (omega arith)) (sym (and-false (eqb (length t) (16 + 160 * size t))))
 
   pub frame-many : 255 < n → false ≡ frameSound t
   unfolding frameSound
-  frame-many h = rw (among-high 1 255 (size t) (omega arith) (omega arith)) (and-false (eqb (length t) (16 + 160 * size t)))
+  frame-many h = rw (among-high 1 255 (size t) (omega arith) (omega arith)) (sym (and-false (eqb (length t) (16 + 160 * size t))))
 
   pub frame-length : (length t ≡ 16 + 160 * n → ⊥) → false ≡ frameSound t
   unfolding frameSound
@@ -49,7 +41,7 @@ module _ (t : List ℕ) (n : ℕ) (e : n ≡ size t) where
 
 pub record-free : (r : List ℕ) {b : Bool} → getD r 0 0 ≡ 0 → b ≡ zeros r → b ≡ recordSound r
 unfolding recordSound usedSound fieldsSound fieldsOf
-record-free r e q = rw (among-low 1 6 (getD r 0 0) (omega arith)) (q ∙ or-false (zeros r))
+record-free r e q = rw (among-low 1 6 (getD r 0 0) (omega arith)) (q ∙ sym (or-false (zeros r)))
 
 not-zeros : (r : List ℕ) → (getD r 0 0 ≡ 0 → ⊥) → zeros r ≡ false
 unfolding all
@@ -81,8 +73,8 @@ module _ (t : List ℕ) where
   frame-size e = among-in 1 255 (size t) (and-left (among 1 255 (size t)) _ (and-right (eqb (length t) (16 + 160 * size t)) _ e)) .1
 
 -- a number of fewer than four bytes, and one more, fits 32 bits
-pub span-three : (i v : ℕ) → i < 4 → v < span i → v < 16777216
-unfolding span
+pub span-three : (i v : ℕ) → i < 4 → v < capacity i → v < 16777216
+unfolding capacity
 span-three zero v h g = omega arith
 span-three (suc zero) v h g = omega arith
 span-three (suc (suc zero)) v h g = omega arith

@@ -1,9 +1,9 @@
 -- Parts written into a list one behind the other, and one within another. Assumes nothing.
 use Prim.Native.Nat.{ℕ, zero, suc, _+_, _-_, _≤_, _<_}
-use Rattle.octets.proofs.Chain.{length-splice}
+use Rattle.octets.proofs.Chain.{length-splice, set-one, splice-two}
 use Rattle.octets.specs.Splice.{splice}
 use lib.ListN.{length, take, drop, set, replicate, length-append, length-drop, length-replicate, take-append-drop, drop-of-length-le, replicate-append-replicate}
-use lib.Seq.{length-take-le, take-at, drop-at, take-append-le, drop-append-le, take-append-add, drop-append-add, drop-drop, take-take, take-nil, set-split}
+use lib.Seq.{length-take-le, take-at, drop-at, take-append-le, drop-append-le, take-append-add, drop-append-add, drop-drop, take-take, take-nil}
 use mathlib.Core.List.{List, [], _∷_, _++_, append-assoc, append-nil}
 use mathlib.Core.Path.{_≡_, sym, ap, _∙_}
 use native.Mathlib.Nat.{zero-add, suc-add}
@@ -14,19 +14,6 @@ pub take-of-drop : (n m : ℕ) (l : List ℕ) → take m (drop n l) ≡ drop n (
 take-of-drop zero m l = rw zero-add
 take-of-drop (suc n) m [] = rw (suc-add n m) (take-nil m)
 take-of-drop (suc n) m (x ∷ l) = rw (suc-add n m) (take-of-drop n m l)
-
--- one part behind another
-pub join : (o : List ℕ) (b : ℕ) (w p : List ℕ) → b + length w ≤ length o → splice (splice o b w) (b + length w) p ≡ splice o b (w ++ p)
-unfolding splice
-join o b w p h =
-    let k : ℕ = b + length w in
-    let f : List ℕ = take b o ++ w in
-    let d : List ℕ = drop k o in
-    let l : length f ≡ k = length-append (take b o) w ∙ rw (length-take-le b o (omega arith)) in
-    let n : b + length (w ++ p) ≡ k + length p = rw length-append (omega arith) in
-    let e : drop (k + length p) (f ++ d) ≡ drop (k + length p) o =
-    ap (λ (m : ℕ). drop (m + length p) (f ++ d)) (sym l) ∙ drop-append-add f d (length p) ∙ drop-drop (length p) k o in
-    rw (← append-assoc (take b o) w d, take-at f d k l, n, e) (simp append-assoc)
 
 -- one part within another
 pub inside : (o : List ℕ) (b : ℕ) (x : List ℕ) (off : ℕ) (p : List ℕ) → b + length x ≤ length o → off + length p ≤ length x
@@ -86,10 +73,6 @@ pub splice-whole : (o p : List ℕ) → length o ≡ length p → splice o 0 p �
 unfolding splice
 splice-whole o p e = rw (drop-of-length-le o {i = 0 + length p} (omega arith)) (append-nil p)
 
-pub set-one : (o : List ℕ) (b x : ℕ) → b < length o → set o b x ≡ splice o b (x ∷ [])
-unfolding splice
-set-one o b x h = let z : b + 1 ≡ suc b = omega arith in rw (set-split o b x h, z)
-
 -- one 00 more
 pub clear-more : (o : List ℕ) (b i : ℕ) → b ≤ i → i < length o
     → set (splice o b (replicate (i - b) 0)) i 0 ≡ splice o b (replicate (i + 1 - b) 0)
@@ -100,7 +83,7 @@ clear-more o b i h g =
     let m : i - b + 1 ≡ i + 1 - b = omega arith in
     set-one (splice o b z) i 0 (rw (length-splice o b z (omega arith)) g)
     ∙ ap (λ (j : ℕ). splice (splice o b z) j (0 ∷ [])) n
-    ∙ join o b z (0 ∷ []) (omega arith)
+    ∙ splice-two o b z (0 ∷ []) (omega arith)
     ∙ ap (splice o b) (replicate-append-replicate (i - b) 1 0 ∙ ap (λ (j : ℕ). replicate j 0) m)
 
 -- parts written from b on: w so far, m bytes long, and the list is out
@@ -115,6 +98,6 @@ further {o} {b} {w} {m} {out} {out′} {n} p j r h l e q =
     let v : length w ≡ m = r .long in
     let k : n ≡ b + length w = omega arith in
     record {
-      is = q ∙ rw (r .is, k) (join o b w p (omega arith));
+      is = q ∙ rw (r .is, k) (splice-two o b w p (omega arith));
       long = length-append w p ∙ rw (v, l);
     }

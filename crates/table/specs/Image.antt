@@ -15,6 +15,10 @@ headerSize = 16
 abbrev pub recordSize : ℕ
 recordSize = 160
 
+-- a table has 1 to 255 records
+abbrev pub mostRecords : ℕ
+mostRecords = 255
+
 -- the version of this image
 abbrev pub version : ℕ
 version = 1

@@ -3,4 +3,4 @@ pub mod Record
 pub mod Search
 pub mod WellFormed
 pub mod Blank
-pub mod Mark
+pub mod inner

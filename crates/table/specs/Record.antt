@@ -2,7 +2,7 @@
 -- `src/numbers.rt`, `src/texts.rt`, `src/records.rt`, `src/searching.rt`, `src/marks.rt` and `src/soundness.rt`; `src/layout.rt` has its places.
 -- Assumes nothing.
 use Prim.Native.Nat.{ℕ, _+_, _-_}
-use Rattle.octets.specs.Number.{bytesOf, numberOf}
+use Rattle.octets.specs.Number.{bytesOf, bigEndian}
 use Rattle.octets.specs.Text.{same}
 use Rattle.table.specs.declared.numbers.Fields.{Fields}
 use lib.Dec.{eqb}
@@ -91,24 +91,24 @@ unfoldable pub textAt : ℕ → ℕ → List ℕ → List ℕ
 textAt at room r = take (getD r at 0) (roomAt at room r)
 
 -- the Call-ID
-abbrev pub callIdOf : List ℕ → List ℕ
-callIdOf r = textAt callIdAt callIdRoom r
+abbrev pub recordCallId : List ℕ → List ℕ
+recordCallId r = textAt callIdAt callIdRoom r
 
 -- the user
-abbrev pub userOf : List ℕ → List ℕ
-userOf r = textAt userAt partyRoom r
+abbrev pub recordUser : List ℕ → List ℕ
+recordUser r = textAt userAt partyRoom r
 
 -- the caller's Fire-ID
-abbrev pub callerFireOf : List ℕ → List ℕ
-callerFireOf r = textAt callerFireAt partyRoom r
+abbrev pub recordCallerFire : List ℕ → List ℕ
+recordCallerFire r = textAt callerFireAt partyRoom r
 
 -- the callee's Fire-ID
-abbrev pub calleeFireOf : List ℕ → List ℕ
-calleeFireOf r = textAt calleeFireAt partyRoom r
+abbrev pub recordCalleeFire : List ℕ → List ℕ
+recordCalleeFire r = textAt calleeFireAt partyRoom r
 
 -- the number of n bytes at a place
 abbrev pub numberIn : ℕ → ℕ → List ℕ → ℕ
-numberIn at n r = numberOf (take n (drop at r))
+numberIn at n r = bigEndian (take n (drop at r))
 
 -- the numbers of a record
 unfoldable pub fieldsOf : List ℕ → Fields
@@ -173,9 +173,9 @@ isFree r = eqb (getD r stateAt 0) 0
 
 -- a record is a call's if it is not free and holds its Call-ID
 unfoldable pub isNamed : List ℕ → List ℕ → Bool
-isNamed id r = not (isFree r) && same (callIdOf r) id
+isNamed id r = not (isFree r) && same (recordCallId r) id
 
 -- user, caller's Fire-ID and callee's Fire-ID are those of the record
 unfoldable pub sameParties : List ℕ → List ℕ → List ℕ → List ℕ → Bool
 sameParties user callerFire calleeFire r =
-    same (userOf r) user && (same (callerFireOf r) callerFire && same (calleeFireOf r) calleeFire)
+    same (recordUser r) user && (same (recordCallerFire r) callerFire && same (recordCalleeFire r) calleeFire)

@@ -1,6 +1,5 @@
--- Where a call's record is, the lowest free one, and how many are free. Cited by the contracts of `src/searching.rt`;
--- how many are free is for the laws of the stores. Assumes nothing.
-use Prim.Native.Nat.{ℕ, zero, suc, _+_}
+-- Where a call's record is, and the lowest free one. Cited by the contracts of `src/searching.rt`. Assumes nothing.
+use Prim.Native.Nat.{ℕ, zero, suc}
 use Rattle.table.specs.Image.{size, recordAt}
 use Rattle.table.specs.Record.{isFree, isNamed}
 use Rattle.table.specs.declared.searching.Found.the-variants.{At, Nothing}
@@ -26,23 +25,10 @@ unfoldable pub every : (ℕ → Bool) → ℕ → Bool
 every p zero = true
 every p (suc n) = every p n && p n
 
-abbrev pub one : Bool → ℕ
-one true = 1
-one false = 0
-
--- how many numbers below n pass a test
-unfoldable pub tally : (ℕ → Bool) → ℕ → ℕ
-tally p zero = 0
-tally p (suc n) = one (p n) + tally p n
-
 -- the place of a call's record
-unfoldable pub placeOf : List ℕ → List ℕ → Found
-placeOf id t = lowest (λ k. isNamed id (recordAt t k)) (size t)
+unfoldable pub placeNamed : List ℕ → List ℕ → Found
+placeNamed id t = lowest (λ k. isNamed id (recordAt t k)) (size t)
 
 -- the lowest free record's place
 unfoldable pub freePlace : List ℕ → Found
 freePlace t = lowest (λ k. isFree (recordAt t k)) (size t)
-
--- how many records are free
-unfoldable pub freeCount : List ℕ → ℕ
-freeCount t = tally (λ k. isFree (recordAt t k)) (size t)

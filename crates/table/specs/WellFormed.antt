@@ -4,8 +4,8 @@ use Prim.Native.Nat.{ℕ, _+_, _*_}
 use Rattle.octets.specs.Class.{among, all}
 use Rattle.octets.specs.Text.{same}
 use Rattle.rules.specs.Texts.{callIdRule, userRule, fireRule}
-use Rattle.table.specs.Image.{headerSize, recordSize, headerOf, size, recordAt}
-use Rattle.table.specs.Record.{callIdAt, userAt, callerFireAt, calleeFireAt, spareAt, spareSize, callIdRoom, partyRoom, roomAt, textAt, callIdOf, fieldsOf, isFree}
+use Rattle.table.specs.Image.{headerSize, recordSize, mostRecords, headerOf, size, recordAt}
+use Rattle.table.specs.Record.{callIdAt, userAt, callerFireAt, calleeFireAt, spareAt, spareSize, callIdRoom, partyRoom, roomAt, textAt, recordCallId, fieldsOf, isFree}
 use Rattle.table.specs.Search.{every}
 use Rattle.table.specs.declared.numbers.Fields.{Fields}
 use lib.Dec.{eqb, leb}
@@ -68,7 +68,7 @@ recordSound r = zeros r || usedSound r
 
 -- two records are not two of one call
 unfoldable pub apart : List ℕ → List ℕ → Bool
-apart r s = isFree r || (isFree s || not (same (callIdOf r) (callIdOf s)))
+apart r s = isFree r || (isFree s || not (same (recordCallId r) (recordCallId s)))
 
 -- record k is apart from each record before it
 unfoldable pub apartBefore : List ℕ → ℕ → Bool
@@ -82,7 +82,7 @@ distinct t = every (apartBefore t) (size t)
 unfoldable pub frameSound : List ℕ → Bool
 frameSound t =
     eqb (length t) (headerSize + recordSize * size t)
-    && (among 1 255 (size t)
+    && (among 1 mostRecords (size t)
     && same (take headerSize t) (headerOf (size t)))
 
 -- each record is well-formed by itself

@@ -2,6 +2,7 @@
 use crate::layout::HEADER_SIZE;
 use crate::layout::MOST_RECORDS;
 use crate::layout::RECORD_SIZE;
+use crate::layout::VERSION;
 use crate::texts::clear;
 ghost use mathlib.Core.Path.{_≡_};
 ghost use Prim.Native.Nat.{_<_};
@@ -29,7 +30,24 @@ pub fn header(count: usize) -> [u8; HEADER_SIZE]
 {
     let high = (count / 256 % 256) as u8;
     let low = (count % 256) as u8;
-    [78, 67, 84, 0, 0, 1, high, low, 0, 0, 0, 0, 0, 0, 0, 0]
+    [
+        b'N',
+        b'C',
+        b'T',
+        0,
+        0,
+        VERSION,
+        high,
+        low,
+        0,
+        0,
+        0,
+        0,
+        0,
+        0,
+        0,
+        0,
+    ]
 }
 
 // Makes a table of so many free records; refused, with the buffer as it was, where the count is not

@@ -6,6 +6,8 @@ pub const RECORD_SIZE: usize = 160;
 
 pub const MOST_RECORDS: usize = 255;
 
+pub const VERSION: u8 = 1;
+
 pub const STATE_AT: usize = 0;
 
 pub const CALL_ID_AT: usize = 1;

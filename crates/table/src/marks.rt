@@ -14,17 +14,10 @@ ghost use mathlib.Core.Bool.{true};
 ghost use mathlib.Core.Path.{_≡_};
 ghost use Prim.Native.Nat.{_≤_, _<_};
 ghost use lib.ListN.{length};
-ghost use Rattle.table.specs.Image.{recordAt, recordSize, size};
-ghost use Rattle.table.specs.Mark.{markOf, marked, Marks};
-ghost use Rattle.table.specs.Record.{callIdAt, callIdOf, callIdRoom, roomAt};
+ghost use Rattle.table.specs.Image.{mostRecords, recordAt, recordSize, size};
+ghost use Rattle.table.specs.inner.Mark.{markOf, marked, Marks};
+ghost use Rattle.table.specs.Record.{callIdAt, recordCallId, callIdRoom, roomAt};
 ghost use Rattle.table.specs.WellFormed.{apart, apartBefore, distinct, padded, recordsSound};
-
-// A byte as a wider number.
-fn wide(b: u8) -> u64
-    ensures { λ r. ⌜ (r ≡ b) × (r < 256) ⌝ }
-{
-    b as u64
-}
 
 // The mark of a text.
 fn mark(s: &[u8]) -> u32
@@ -33,7 +26,7 @@ fn mark(s: &[u8]) -> u32
     let mut v: u64 = 0;
     let mut i: usize = 0;
     while i < s.len() {
-        v = (v * 31 + wide(s[i])) % 4294967296;
+        v = (v * 31 + octets::wide(s[i])) % 4294967296;
         i += 1;
     }
     v as u32
@@ -42,7 +35,7 @@ fn mark(s: &[u8]) -> u32
 // Whether m is among the first n marks. It leaves no earlier than at the end: so it becomes a test of
 // several marks at once.
 fn is_marked(marks: &[u32; MOST_RECORDS], n: usize, m: u32) -> bool
-    requires { ⌜ n ≤ 255 ⌝ }
+    requires { ⌜ n ≤ mostRecords ⌝ }
     ensures { λ r. ⌜ r ≡ marked (now (marks .entry)) n m ⌝ }
 {
     let mut hit = false;
@@ -104,7 +97,7 @@ fn is_apart_before(t: &[u8], k: usize) -> bool
 // Whether record k is apart from each record before it, by the marks of those: it is where it is free;
 // else Call-IDs are compared only where its mark is among them.
 fn is_new(t: &[u8], marks: &[u32; MOST_RECORDS], k: usize, m: u32) -> bool
-    requires { ⌜ (k < size (now t)) × (k < 255) × (m ≡ markOf (callIdOf (recordAt (now t) k))) × Marks (now t) (now marks) k × (recordsSound (now t) ≡ true) ⌝ }
+    requires { ⌜ (k < size (now t)) × (k < mostRecords) × (m ≡ markOf (recordCallId (recordAt (now t) k))) × Marks (now t) (now marks) k × (recordsSound (now t) ≡ true) ⌝ }
     ensures { λ b. ⌜ b ≡ apartBefore (now (t .entry)) k ⌝ }
 {
     if t[HEADER_SIZE + RECORD_SIZE * k] == 0 {
@@ -118,7 +111,7 @@ fn is_new(t: &[u8], marks: &[u32; MOST_RECORDS], k: usize, m: u32) -> bool
 
 // Whether no Call-ID stands in two records that are not free, of records each well-formed by itself.
 pub fn is_distinct(t: &[u8]) -> bool
-    requires { ⌜ (size (now t) ≤ 255) × (recordsSound (now t) ≡ true) ⌝ }
+    requires { ⌜ (size (now t) ≤ mostRecords) × (recordsSound (now t) ≡ true) ⌝ }
     ensures { λ b. ⌜ b ≡ distinct (now (t .entry)) ⌝ }
 {
     let n = record_count(t);

@@ -12,7 +12,7 @@ use crate::layout::STATE_AT;
 ghost use mathlib.Core.Path.{_≡_};
 ghost use Prim.Native.Nat.{_+_, _≤_, _<_};
 ghost use lib.ListN.{drop, length, take};
-ghost use Rattle.octets.specs.Number.{numberOf};
+ghost use Rattle.octets.specs.Number.{bigEndian};
 ghost use Rattle.octets.specs.Splice.{splice};
 ghost use Rattle.table.specs.Image.{recordSize};
 ghost use Rattle.table.specs.Record.{countsOf, fieldsOf, lastAt, numbersOf, secureAt, timesOf};
@@ -32,22 +32,15 @@ pub struct Fields {
     pub chat: u64,
 }
 
-// A byte as a wider number.
-fn wide(b: u8) -> u32
-    ensures { λ r. ⌜ (r ≡ b) × (r < 256) ⌝ }
-{
-    b as u32
-}
-
 // The number that the four bytes from `at` on are, the highest first.
 fn word_at(s: &[u8], at: usize) -> u32
     requires { ⌜ at + 4 ≤ length (now s) ⌝ }
-    ensures { λ r. ⌜ r ≡ numberOf (take 4 (drop at (now (s .entry)))) ⌝ }
+    ensures { λ r. ⌜ r ≡ bigEndian (take 4 (drop at (now (s .entry)))) ⌝ }
 {
     let mut v: u32 = 0;
     let mut i: usize = 0;
     while i < 4 {
-        v = v * 256 + wide(s[at + i]);
+        v = v * 256 + octets::wide(s[at + i]) as u32;
         i += 1;
     }
     v

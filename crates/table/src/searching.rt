@@ -11,7 +11,7 @@ ghost use Prim.Native.Nat.{_<_};
 ghost use lib.ListN.{length};
 ghost use Rattle.table.specs.Image.{recordSize, size};
 ghost use Rattle.table.specs.Record.{isNamed};
-ghost use Rattle.table.specs.Search.{freePlace, placeOf};
+ghost use Rattle.table.specs.Search.{freePlace, placeNamed};
 
 pub enum Found {
     At(usize),
@@ -41,7 +41,7 @@ fn is_named(r: &[u8], id: &[u8]) -> bool
 
 // The place of a call's record: the lowest, where there are several.
 pub fn find(t: &[u8], id: &[u8]) -> Found
-    ensures { λ f. ⌜ f ≡ placeOf (now (id .entry)) (now (t .entry)) ⌝ }
+    ensures { λ f. ⌜ f ≡ placeNamed (now (id .entry)) (now (t .entry)) ⌝ }
 {
     let n = record_count(t);
     let mut k: usize = 0;

@@ -7,20 +7,13 @@ ghost use Rattle.octets.specs.Text.{same};
 ghost use Rattle.table.specs.Record.{slotOf, textAt};
 ghost use Rattle.table.specs.WellFormed.{padded, zeros};
 
-// A byte as a wider number.
-fn wide(b: u8) -> usize
-    ensures { λ r. ⌜ (r ≡ b) × (r < 256) ⌝ }
-{
-    b as usize
-}
-
 // The text whose length stands at `at`; it never leaves its room.
 pub fn text(r: &[u8], at: usize, room: usize) -> &[u8]
     requires { ⌜ at + 1 + room ≤ length (now r) ⌝ }
     ensures { λ s. ⌜ now s ≡ textAt at room (now (r .entry)) ⌝ }
 {
     let a = at + 1;
-    let n = wide(r[at]);
+    let n = octets::wide(r[at]) as usize;
     if n <= room {
         let e = a + n;
         return &r[a..e];
@@ -63,7 +56,7 @@ pub fn is_padded(r: &[u8], at: usize, room: usize) -> bool
     requires { ⌜ at + 1 + room ≤ length (now r) ⌝ }
     ensures { λ b. ⌜ b ≡ padded at room (now (r .entry)) ⌝ }
 {
-    let n = wide(r[at]);
+    let n = octets::wide(r[at]) as usize;
     if room < n {
         return false;
     }

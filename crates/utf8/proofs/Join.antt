@@ -1,18 +1,18 @@
 -- Texts joined and cut: good texts joined are good, and a good text cut before an ASCII byte is good on both sides.
 -- Copies of parts of a message rest on these. Assumes nothing.
-use Prim.Native.Nat.{ℕ, zero, suc, _+_, _≤_, _<_}
+use Prim.Native.Nat.{ℕ, zero, suc, _≤_, _<_}
 use Rattle.octets.proofs.ClassLaws.{among-low}
-use Rattle.octets.proofs.TextLaws.{and-parts}
+use Rattle.octets.proofs.TestLaws.{and-parts}
 use Rattle.octets.specs.Class.{among, all}
 use Rattle.utf8.proofs.Rows.{one}
 use Rattle.utf8.proofs.Walk.{charAt-length}
-use Rattle.utf8.specs.Rfc3629.{rowOf, syntax, Range, Begins, char, none, pick, begins, goesOn, counted, charOf, charAt, opened, octets, verdict}
+use Rattle.utf8.specs.Rfc3629.{rowOf, syntax, Range, Begins, char, none, begins, goesOn, counted, charOf, charAt, opened, octets, verdict}
 use Rattle.utf8.specs.declared.Verdict.the-variants.{Good, Bad}
 use Rattle.utf8.specs.declared.Verdict.{Verdict}
 use borrow.Author.Tests.{leb-true}
 use lib.Dec.{leb}
 use lib.ListN.{length}
-use mathlib.Core.Bool.{Bool, true, false, _&&_}
+use mathlib.Core.Bool.{Bool, true, false, _&&_, cond}
 use mathlib.Core.List.{List, [], _∷_, _++_}
 use mathlib.Core.Path.{_≡_, refl, sym, _∙_}
 use native.Mathlib.Omega.{arith}
@@ -86,7 +86,7 @@ abbrev high : Begins → Bool
 high (char rs) = highs rs
 high none = true
 
-pick-high : (t : Bool) (x y : Begins) → high x ≡ true → high y ≡ true → high (pick t x y) ≡ true
+pick-high : (t : Bool) (x y : Begins) → high x ≡ true → high y ≡ true → high (cond t x y) ≡ true
 pick-high true x y h g = h
 pick-high false x y h g = g
 

@@ -1,3 +1,4 @@
 pub mod Rows
 pub mod Walk
 pub mod Join
+pub mod Marks

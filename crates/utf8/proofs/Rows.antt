@@ -2,12 +2,12 @@
 use Prim.Native.Nat.{ℕ, _+_, _≤_, _<_}
 use Rattle.octets.proofs.ClassLaws.{in-among, among-low, among-high, among-in}
 use Rattle.octets.specs.Class.{among}
-use Rattle.utf8.specs.Rfc3629.{Range, _to_, tail, char, none, pick, begins, goesOn, counted, charOf, charAt}
+use Rattle.utf8.specs.Rfc3629.{Range, _to_, tail, char, none, begins, goesOn, counted, charOf, charAt}
 use lib.ListN.{length, drop, getD, drop-of-length-le, List·getD-eq-default}
 use lib.Seq.{drop-cons}
-use mathlib.Core.Bool.{Bool, true, false, _&&_}
+use mathlib.Core.Bool.{true, false, _&&_, cond, and-true}
 use mathlib.Core.List.{List, [], _∷_}
-use mathlib.Core.Path.{_≡_, refl, sym, _∙_}
+use mathlib.Core.Path.{_≡_, sym, _∙_}
 use native.Mathlib.Decide.{decLt}
 use native.Mathlib.Numerals.{add-one}
 use native.Mathlib.Omega.{arith}
@@ -95,9 +95,9 @@ module _ (b : ℕ) where
 
     -- what is left of the syntax
     pub from-F0 : begins b
-        ≡ pick (among 0xF0 0xF0 b) (char ((0x90 to 0xBF) ∷ tail ∷ tail ∷ []))
-        (pick (among 0xF1 0xF3 b) (char (tail ∷ tail ∷ tail ∷ []))
-        (pick (among 0xF4 0xF4 b) (char ((0x80 to 0x8F) ∷ tail ∷ tail ∷ [])) none))
+        ≡ cond (among 0xF0 0xF0 b) (char ((0x90 to 0xBF) ∷ tail ∷ tail ∷ []))
+        (cond (among 0xF1 0xF3 b) (char (tail ∷ tail ∷ tail ∷ []))
+        (cond (among 0xF4 0xF4 b) (char ((0x80 to 0x8F) ∷ tail ∷ tail ∷ [])) none))
     unfolding begins
     from-F0 = simp (past-one (omega arith), past-two (omega arith), past-E0, past-EC, past-ED, past-EF)
 
@@ -108,10 +108,18 @@ module _ (b : ℕ) where
     four f k = from-F0 ∙ simp (past 0xF0 0xF0 {b = b} (omega arith) (omega arith), in-among 0xF1 0xF3 b (omega arith) (omega arith))
 
     pub four-F4 : b ≡ 0xF4 → begins b ≡ char ((0x80 to 0x8F) ∷ tail ∷ tail ∷ [])
-    four-F4 e = from-F0 ∙ simp (past 0xF0 0xF0 {b = b} (omega arith) (omega arith), past 0xF1 0xF3 {b = b} (omega arith) (omega arith), in-among 0xF4 0xF4 b (omega arith) (omega arith))
+    four-F4 e = from-F0 ∙ simp (
+      past 0xF0 0xF0 {b = b} (omega arith) (omega arith),
+      past 0xF1 0xF3 {b = b} (omega arith) (omega arith),
+      in-among 0xF4 0xF4 b (omega arith) (omega arith),
+    )
 
     pub beyond : 0xF4 ≤ b → (b ≡ 0xF4 → ⊥) → begins b ≡ none
-    beyond k f = from-F0 ∙ simp (past 0xF0 0xF0 {b = b} (omega arith) (omega arith), past 0xF1 0xF3 {b = b} (omega arith) (omega arith), past 0xF4 0xF4 {b = b} (omega arith) (omega arith))
+    beyond k f = from-F0 ∙ simp (
+      past 0xF0 0xF0 {b = b} (omega arith) (omega arith),
+      past 0xF1 0xF3 {b = b} (omega arith) (omega arith),
+      past 0xF4 0xF4 {b = b} (omega arith) (omega arith),
+    )
 
 -- a byte of a range that begins above 0 stands inside the text
 pub inside : (s : List ℕ) (i lo hi : ℕ) → 0 < lo → among lo hi (getD s i 0) ≡ true → i < length s
@@ -146,10 +154,6 @@ module _ (lo hi : ℕ) (rs : List Range) (s : List ℕ) (i : ℕ) (h : 0 < lo) w
 pub last : (lo hi : ℕ) (s : List ℕ) (i : ℕ) → 0 < lo → among lo hi (getD s i 0) ≡ goesOn ((lo to hi) ∷ []) (drop i s)
 unfolding goesOn
 last lo hi s i h = sym (goes-more (lo to hi) [] s i h ∙ and-true (among lo hi (getD s i 0)))
-  where
-    and-true : (t : Bool) → (t && true) ≡ t
-    and-true true = refl
-    and-true false = refl
 
 -- the character at a place, by its first byte
 pub char-here : (s : List ℕ) (i : ℕ) → i < length s → charAt (drop i s) ≡ charOf (begins (getD s i 0)) (drop (i + 1) s)

@@ -1,9 +1,10 @@
 -- The walk over a text: one character at a time, which is how `check` goes. Assumes nothing.
 use Prim.Native.Nat.{ℕ, zero, suc, _+_, _≤_, _<_}
-use Rattle.octets.proofs.TextLaws.{and-parts}
+use Rattle.octets.proofs.TestLaws.{and-parts}
 use Rattle.octets.specs.Class.{among}
 use Rattle.utf8.proofs.Rows.{char-here, one}
-use Rattle.utf8.specs.Rfc3629.{Ascii, Range, Begins, char, none, begins, goesOn, counted, charOf, charAt, octets}
+use Rattle.utf8.specs.Rfc3629.{Range, Begins, char, none, begins, goesOn, counted, charOf, charAt, octets}
+use Rattle.utf8.specs.inner.Ascii.{Ascii}
 use Rattle.utf8.specs.declared.Verdict.the-variants.{Good, Bad}
 use lib.ListN.{length, drop, getD, drop-of-length-le}
 use lib.Seq.{drop-cons, drop-drop}
@@ -52,7 +53,8 @@ module _ (s : List ℕ) (i : ℕ) where
   char-more zero h e f = absurd (f refl)
   char-more (suc k) h e f =
       let d : drop i s ≡ getD s i 0 ∷ drop (suc i) s = drop-cons s i 0 h in
-      rw d (begun k i (getD s i 0) (drop (suc i) s) (ap charAt (sym d) ∙ sym e) ∙ ap (octets 0 (i + suc k)) (drop-drop k (suc i) s ∙ ap (λ (n : ℕ). drop n s) (let z : suc i + k ≡ i + suc k = omega arith in z)))
+      rw d (begun k i (getD s i 0) (drop (suc i) s) (ap charAt (sym d) ∙ sym e)
+      ∙ ap (octets 0 (i + suc k)) (drop-drop k (suc i) s ∙ ap (λ (n : ℕ). drop n s) (let z : suc i + k ≡ i + suc k = omega arith in z)))
 
   -- an ASCII byte at i
   pub ascii-more : i < length s → getD s i 0 < 0x80 → octets 0 i (drop i s) ≡ octets 0 (i + 1) (drop (i + 1) s)

@@ -1,8 +1,8 @@
 -- RFC 3629, section 4: which octets are UTF-8 (01 Reading, row 3). The contracts of `src/` cite it. Assumes nothing.
-use Prim.Native.Nat.{ℕ, zero, suc, _+_, _<_}
-use mathlib.Core.Bool.{Bool, true, false, _&&_}
+use Prim.Native.Nat.{ℕ, zero, suc}
+use mathlib.Core.Bool.{Bool, true, false, _&&_, cond}
 use mathlib.Core.List.{List, [], _∷_}
-use lib.ListN.{length, getD}
+use lib.ListN.{length}
 use Rattle.octets.specs.Class.{among}
 use Rattle.utf8.specs.declared.Verdict.{Verdict}
 use Rattle.utf8.specs.declared.Verdict.the-variants.{Good, Bad}
@@ -43,15 +43,11 @@ pub data Begins : Type 0 where
   char : List Range → Begins
   none : Begins
 
-abbrev pub pick : Bool → Begins → Begins → Begins
-pick true a b = a
-pick false a b = b
-
 -- the first row that an octet can begin (no octet begins two)
 abbrev pub rowOf : List (List Range) → ℕ → Begins
 rowOf [] b = none
 rowOf ([] ∷ rows) b = rowOf rows b
-rowOf ((r ∷ rs) ∷ rows) b = pick (among (r .low) (r .high) b) (char rs) (rowOf rows b)
+rowOf ((r ∷ rs) ∷ rows) b = cond (among (r .low) (r .high) b) (char rs) (rowOf rows b)
 
 unfoldable pub begins : ℕ → Begins
 begins b = rowOf syntax b
@@ -90,7 +86,3 @@ octets zero i (b ∷ s) = opened (charAt (b ∷ s)) i (λ k. octets k (suc i) s)
 -- good, or the first octet of the first bad sequence
 abbrev pub verdict : List ℕ → Verdict
 verdict s = octets 0 0 s
-
--- n bytes from a place on are ASCII, which is UTF8-1, each a char by itself
-pub record Ascii (s : List ℕ) (at n : ℕ) : Type 0 where
-  pub each : (j : ℕ) → j < n → getD s (at + j) 0 < 0x80

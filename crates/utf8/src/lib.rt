@@ -8,7 +8,8 @@ ghost use mathlib.Core.Bool.{true};
 ghost use mathlib.Core.Path.{_≡_};
 ghost use Prim.Native.Nat.{_+_, _<_, _≤_};
 ghost use lib.ListN.{getD, length};
-ghost use Rattle.utf8.specs.Rfc3629.{Ascii, verdict};
+ghost use Rattle.utf8.specs.Rfc3629.{verdict};
+ghost use Rattle.utf8.specs.inner.Ascii.{Ascii};
 
 pub enum Verdict {
     Good,

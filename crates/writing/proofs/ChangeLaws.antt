@@ -4,17 +4,18 @@ use Prim.Native.Nat.{ℕ, zero, suc, _+_, _-_, _≤_, _<_}
 use Rattle.frame.proofs.Forwarding.{Changed}
 use Rattle.frame.proofs.MessageShape.{swapRead}
 use Rattle.json.specs.Places.{part, bytes, raw, closing, behind, size, left, Inside, outside, quoted, escaped, turn, depth, valueOf, members, spell}
-use Rattle.message.specs.Known.{empty, noted}
+use Rattle.fields.specs.Known.{empty, noted}
 use Rattle.message.specs.Shape.{tagOf, objectOf}
-use Rattle.message.specs.Via.{viaRule}
+use Rattle.fields.specs.Via.{viaRule}
 use Rattle.rules.specs.Names.{fields, tags}
-use Rattle.rules.specs.Pieces.{placeOf}
+use Rattle.rules.specs.Pieces.{wordNumber}
 use Rattle.utf8.specs.Rfc3629.{verdict}
 use Rattle.utf8.specs.declared.Verdict.the-variants as verdicts
-use Rattle.writing.proofs.AcceptedLaws.{Accepted}
-use Rattle.writing.proofs.AlikeLaws.{AlikeAt, neither, both, Alike, field-there, alike-accepted}
-use Rattle.writing.proofs.MemberLaws.{fields-few, tag-of, membersOf, pairs-once, via-where, shape}
-use Rattle.writing.proofs.PairLaws.{found, valueIn, doubled, Nth, nth-one, swap-found, swap-doubled, swap-nth, swap-other, late-members, by-once, noted-none, noted-by, where-is}
+use Rattle.message.proofs.AcceptedRows.{Accepted}
+use Rattle.message.proofs.AlikeLaws.{AlikeAt, neither, both, Alike, field-there, alike-accepted}
+use Rattle.message.proofs.MemberLaws.{fields-few, tag-of, membersOf, pairs-once, via-where, shape}
+use Rattle.message.proofs.PairLaws.{found, valueIn, doubled, Nth, nth-one, late-members, by-once, noted-none, noted-by, where-is}
+use Rattle.writing.proofs.SwapLaws.{swap-found, swap-doubled, swap-nth, swap-other}
 use lib.ListN.{length, getD, take, drop}
 use lib.Seq.{drop-cons, drop-drop, take-take}
 use mathlib.Core.Bool.{Bool, true, false}
@@ -57,7 +58,8 @@ bytes-at s x l e =
 raw-own : (s : List ℕ) (x : ℕ) (l : List ℕ) → drop x s ≡ 34 ∷ l → raw s x ≡ raw (bytes s x) 0
 raw-own s x l e =
     let r : raw (own l) 0 ≡ take (left (take (left l quoted 0) l) quoted 0 - 1) (take (left l quoted 0) l) = raw-at (own l) 0 (take (left l quoted 0) l) refl in
-    raw-at s x l e ∙ sym (ap (λ (v : List ℕ). raw v 0) (bytes-at s x l e) ∙ r ∙ ap (λ (n : ℕ). take (n - 1) (take (left l quoted 0) l)) (left-own l quoted 0) ∙ take-take (left l quoted 0 - 1) (left l quoted 0) l (omega arith))
+    raw-at s x l e ∙ sym (ap (λ (v : List ℕ). raw v 0) (bytes-at s x l e) ∙ r ∙ ap (λ (n : ℕ). take (n - 1) (take (left l quoted 0) l)) (left-own l quoted 0)
+    ∙ take-take (left l quoted 0 - 1) (left l quoted 0) l (omega arith))
 
 opens-at : (s : List ℕ) (x : ℕ) → getD s x 0 ≡ 34 → drop x s ≡ 34 ∷ drop (suc x) s
 opens-at s x e = drop-cons s x 0 (inside s x e) ∙ ap (λ (b : ℕ). b ∷ drop (suc x) s) e
@@ -98,10 +100,11 @@ module _ {s : List ℕ} {tag : ℕ} {t : List ℕ} (a : Accepted s tag t) (s′ 
   shape-again : (tagOf s′ ≡ tag) × (objectOf s′ ≡ shape a .y)
   shape-again =
       let g = same-raw s s′ (shape a .x) (shape a .string) (c .tag) in
-      tag-of s′ (shape a .x) (shape a .y) tag (c .again .array) (c .again .two) (g .0) (c .again .object) (ap (placeOf tags) (g .1) ∙ shape a .name)
+      tag-of s′ (shape a .x) (shape a .y) tag (c .again .array) (c .again .two) (g .0) (c .again .object) (ap (wordNumber tags) (g .1) ∙ shape a .name)
 
   read-again : membersOf s′ ≡ swapRead (via-where a .n) v (membersOf s)
-  read-again = ap (λ (o : ℕ). map (spell s′) (members s′ o)) (shape-again .1) ∙ c .same ∙ ap (λ (o : ℕ). swapRead (via-where a .n) v (map (spell s) (members s o))) (sym (shape a .at))
+  read-again = ap (λ (o : ℕ). map (spell s′) (members s′ o)) (shape-again .1) ∙ c .same
+      ∙ ap (λ (o : ℕ). swapRead (via-where a .n) v (map (spell s) (members s o))) (sym (shape a .at))
 
   once-again : doubled fields (membersOf s′) ≡ false
   once-again = ap (doubled fields) read-again ∙ swap-doubled fields v (via-where a .n) (membersOf s) ∙ pairs-once a
@@ -117,9 +120,12 @@ module _ {s : List ℕ} {tag : ℕ} {t : List ℕ} (a : Accepted s tag t) (s′ 
   alike-at k h true f =
       let p = noted-by fields fields-few s (members s (objectOf s)) k (late-members s (objectOf s)) h (pairs-once a) f in
       let q = noted-by fields fields-few s′ (members s′ (objectOf s′)) k (late-members s′ (objectOf s′)) h once-again (found-again k ∙ f) in
-      both (rw (← (a .places)) (p .0)) (q .0) (λ ne. ap (λ (l : List ℕ). bytes s (getD l k 0)) (sym (a .places)) ∙ p .1 ∙ sym (q .1 ∙ ap (valueIn fields k) read-again ∙ swap-other fields v k 6 (via-where a .n) (membersOf s) (via-where a .nth) ne))
+      both (rw (← (a .places)) (p .0)) (q .0)
+      (λ ne. ap (λ (l : List ℕ). bytes s (getD l k 0)) (sym (a .places)) ∙ p .1
+      ∙ sym (q .1 ∙ ap (valueIn fields k) read-again ∙ swap-other fields v k 6 (via-where a .n) (membersOf s) (via-where a .nth) ne))
   alike-at k h false f =
-      neither (ap (λ (l : List ℕ). getD l k 0) (sym (a .places)) ∙ noted-none fields fields-few s (members s (objectOf s)) k f) (noted-none fields fields-few s′ (members s′ (objectOf s′)) k (found-again k ∙ f))
+      neither (ap (λ (l : List ℕ). getD l k 0) (sym (a .places)) ∙ noted-none fields fields-few s (members s (objectOf s)) k f)
+      (noted-none fields fields-few s′ (members s′ (objectOf s′)) k (found-again k ∙ f))
 
   alike-all : Alike s t s′ places′
   alike-all k h g = alike-at k h (found fields k (membersOf s)) refl
@@ -132,16 +138,19 @@ module _ {s : List ℕ} {tag : ℕ} {t : List ℕ} (a : Accepted s tag t) (s′ 
   unfolding places′
   via-again =
       let w = where-is fields fields-few s′ (members s′ (objectOf s′)) 6 (omega arith) once-again (there₆ (alike-all 6 (omega arith) (omega arith))) in
-      let nth : Nth fields 6 (via-where a .n) (membersOf s′) = subst (Nth fields 6 (via-where a .n)) (sym read-again) (swap-nth fields v 6 (via-where a .n) (via-where a .n) (membersOf s) (via-where a .nth)) in
+      let nth : Nth fields 6 (via-where a .n) (membersOf s′) = subst (Nth fields 6 (via-where a .n)) (sym read-again)
+      (swap-nth fields v 6 (via-where a .n) (via-where a .n) (membersOf s) (via-where a .nth)) in
       let z : w .n ≡ via-where a .n = nth-one fields 6 (w .n) (via-where a .n) (membersOf s′) (omega arith) once-again (w .nth) nth in
-      w .is ∙ ap (λ (n : ℕ). valueOf s′ (getD (members s′ (objectOf s′)) n 0)) z ∙ ap (λ (o : ℕ). valueOf s′ (getD (members s′ o) (via-where a .n) 0)) (shape-again .1) ∙ sym (c .again .place)
+      w .is ∙ ap (λ (n : ℕ). valueOf s′ (getD (members s′ (objectOf s′)) n 0)) z ∙ ap (λ (o : ℕ). valueOf s′ (getD (members s′ o) (via-where a .n) 0)) (shape-again .1)
+      ∙ sym (c .again .place)
 
   -- THE LAW
   pub via-changed : viaRule v ≡ true → 1 ≤ length s′ → length s′ ≤ 32768 → verdict s′ ≡ verdicts.Good → Again s tag t s′
   unfolding places′
   via-changed r x y u = record {
     t′ = places′;
-    accepted = alike-accepted a alike-all (ap (λ (p : ℕ). viaRule (bytes s′ p)) via-again ∙ ap viaRule (c .there) ∙ r) x y u (length s′) (c .whole) (shape-again .0) (by-once fields fields-few s′ (members s′ (objectOf s′)) once-again) refl;
+    accepted = alike-accepted a alike-all (ap (λ (p : ℕ). viaRule (bytes s′ p)) via-again ∙ ap viaRule (c .there) ∙ r) x y u (length s′) (c .whole) (shape-again .0)
+        (by-once fields fields-few s′ (members s′ (objectOf s′)) once-again) refl;
     alike = alike-all;
     via = via-again;
     object = shape-again .1 ∙ sym (shape a .at);

@@ -1,15 +1,17 @@
 -- Document 01's example, the BYE and its 200, computed from the definitions (01 Writing). Assumes nothing.
-use Rattle.json.specs.Machine.{isWs, opens, begin, ends, step, stops, walk, from}
-use Rattle.json.specs.Places.{part, spaces, past, isOpen, isShut, left, size, behind, closing, raw, next, valueOf, follows, more, memberAt, membersFrom, members, elementsFrom, elements}
+use Prim.Native.Nat.{ℕ}
+use Rattle.json.specs.inner.Machine.{opens, begin, ends, step, stops, walk, from}
+use Rattle.json.specs.Places.{part, spaces, past, isOpen, isShut, left, size, behind, closing, raw, next, valueOf, follows, more, memberAt, membersFrom, members, elementsFrom}
+use Rattle.json.specs.Places.{elements, isWs}
 use Rattle.message.specs.Checks.{lacks, breaks, lowest, checked}
-use Rattle.message.specs.Field.{addressRule, textRule, byKind, keeps}
-use Rattle.message.specs.Known.{numberAt, has, note, noted, repeated}
+use Rattle.fields.specs.Field.{addressRule, keeps}
+use Rattle.fields.specs.Known.{numberAt, has, note, noted, repeated}
 use Rattle.message.specs.Message.{numberOf, methodOf, fromCaller, toCaller, settingOf, sameSide, wrongSide, wrongNumber, sidesDisagree, requestDisagrees, disagrees, messageOf}
-use Rattle.message.specs.Spans.{textAt}
+use Rattle.fields.specs.Spans.{textAt}
 use Rattle.message.specs.Reading.{agreed, settled, judged, known, shaped, reading}
 use Rattle.message.specs.Shape.{tagAt, tagOf, objectOf}
-use Rattle.message.specs.Value.{isString, isArray, textOf, freely, ruled}
-use Rattle.message.specs.Via.{hopPlaces, hopRule, hopKeeps, isHop, viaRule}
+use Rattle.fields.specs.Value.{isString, isArray, textOf, freely, ruled}
+use Rattle.fields.specs.Via.{hopPlaces, hopRule, hopKeeps, isHop, viaRule}
 use Rattle.octets.specs.Ascii.{ascii}
 use Rattle.octets.specs.Class.{among, isDigit, isLower, isUpper, isLetter, isAlnum, all}
 use Rattle.octets.specs.Text.{same, standsAt}
@@ -18,7 +20,7 @@ use Rattle.rules.specs.Classes.{holds}
 use Rattle.rules.specs.Date.{leap, daysIn, dateRule}
 use Rattle.rules.specs.Fields.{isIn, tagAsks, methodAsks}
 use Rattle.rules.specs.Pieces as pieces
-use Rattle.rules.specs.Pieces.{span, digits, value, placeFrom, within, reads}
+use Rattle.rules.specs.Pieces.{runLength, digits, decimalAt, wordNumberFrom, within, reads}
 use Rattle.rules.specs.Sequence as sequence
 use Rattle.rules.specs.Sequence.{sequenceRule, numberEnd, sequenceOf}
 use Rattle.rules.specs.Status.{indexIn, listed, statusText}
@@ -26,8 +28,25 @@ use Rattle.rules.specs.Texts.{callIdRule, hostRule, destinationRule, organizati
 use Rattle.utf8.specs.Rfc3629.{begins, goesOn, charAt, octets}
 use Rattle.writing.specs.Outcome.{write}
 use Rattle.writing.specs.Reply.{replyText, replyOf, unanswered, wrongCode, replyTo, replying}
+use mathlib.Core.List.{List, _++_}
 use mathlib.Core.Path.{_≡_, refl}
 
-pub example : replying (ascii "[\"request\",{\"CSeq\":\"7 BYE\",\"To\":\"net119:u1@nishi.caller\",\"From\":\"net119:fire@kita.callee\",\"Call-ID\":\"A1.nx\",\"Date\":\"2024-02-29T23:59:59+0900\",\"Via\":[{\"host\":\"h1.nx\",\"destination\":\"kita.callee\",\"organization\":\"nx\"}]}]") 200 (ascii "2024-03-01T00:00:00+0900") ≡ write (ascii "[\"response\",{\"Status\":\"200 OK\",\"CSeq\":\"7 BYE\",\"To\":\"net119:u1@nishi.caller\",\"From\":\"net119:fire@kita.callee\",\"Call-ID\":\"A1.nx\",\"Date\":\"2024-03-01T00:00:00+0900\",\"Via\":[{\"host\":\"h1.nx\",\"destination\":\"kita.callee\",\"organization\":\"nx\"}]}]")
-unfolding among isDigit isLower isUpper isLetter isAlnum all same standsAt begins goesOn charAt octets isWs opens begin ends step stops walk from part spaces past isOpen isShut left size behind closing raw next valueOf follows more memberAt membersFrom members elementsFrom elements sequenceRule numberEnd sequenceOf span digits value placeFrom within reads leap daysIn dateRule callerRule calleeRule userEnd callerEnd calleeEnd addressOf indexIn listed statusText callIdRule hostRule destinationRule organizationRule unescaped holds isIn tagAsks methodAsks textAt numberOf methodOf fromCaller toCaller settingOf sameSide wrongSide wrongNumber sidesDisagree requestDisagrees disagrees messageOf agreed settled judged known shaped reading lacks breaks lowest checked isString isArray textOf freely ruled tagAt tagOf objectOf addressRule textRule byKind keeps hopPlaces hopRule hopKeeps isHop viaRule numberAt has note noted repeated replyText replyOf unanswered wrongCode replyTo replying pieces.behind pieces.keeps sequence.numberOf sequence.methodOf
+abbrev pub request : List ℕ
+request =
+    ascii "[\"request\",{\"CSeq\":\"7 BYE\",\"To\":\"net119:u1@nishi.caller\",\"From\":\"net119:fire@kita.callee\","
+    ++ ascii "\"Call-ID\":\"A1.nx\",\"Date\":\"2024-02-29T23:59:59+0900\",\"Via\":[{\"host\":\"h1.nx\",\"destination\":\"kita.callee\",\"organization\":\"nx\"}]}]"
+
+abbrev pub response : List ℕ
+response =
+    ascii "[\"response\",{\"Status\":\"200 OK\",\"CSeq\":\"7 BYE\",\"To\":\"net119:u1@nishi.caller\",\"From\":\"net119:fire@kita.callee\","
+    ++ ascii "\"Call-ID\":\"A1.nx\",\"Date\":\"2024-03-01T00:00:00+0900\",\"Via\":[{\"host\":\"h1.nx\",\"destination\":\"kita.callee\",\"organization\":\"nx\"}]}]"
+
+pub example : replying request 200 (ascii "2024-03-01T00:00:00+0900") ≡ write response
+unfolding among isDigit isLower isUpper isLetter isAlnum all same standsAt begins goesOn charAt octets isWs opens begin ends step stops walk from part spaces past isOpen isShut
+    left size behind closing raw next valueOf follows more memberAt membersFrom members elementsFrom elements sequenceRule numberEnd sequenceOf runLength digits decimalAt
+    wordNumberFrom within reads leap daysIn dateRule callerRule calleeRule userEnd callerEnd calleeEnd addressOf indexIn listed statusText callIdRule hostRule destinationRule
+    organizationRule unescaped holds isIn tagAsks methodAsks textAt numberOf methodOf fromCaller toCaller settingOf sameSide wrongSide wrongNumber sidesDisagree requestDisagrees
+    disagrees messageOf agreed settled judged known shaped reading lacks breaks lowest checked isString isArray textOf freely ruled tagAt tagOf objectOf addressRule keeps
+    hopPlaces hopRule hopKeeps isHop viaRule numberAt has note noted repeated replyText replyOf unanswered wrongCode replyTo replying pieces.behind pieces.hasPiece
+    sequence.cseqNumber sequence.cseqMethod
 example = refl

@@ -4,27 +4,26 @@
 use Prim.Native.Nat.{ℕ, suc, _≤_}
 use Rattle.frame.proofs.ArrayEdits.{butLast}
 use Rattle.frame.proofs.Forwarding.{Changed}
-use Rattle.frame.specs.Edit.{added, removed}
-use Rattle.json.specs.Ends.{prevOf, stopsOf, lastOf}
-use Rattle.json.specs.Places.{bytes, behind, elements, part}
-use Rattle.message.specs.Hop.{hostOf}
+use Rattle.frame.specs.Edit.{added, removed, stopsOf}
+use Rattle.json.specs.Places.{bytes, behind, elements, part, prevOf, lastOf}
+use Rattle.fields.specs.Hop.{hostOf}
 use Rattle.message.specs.Message.{settingOf, messageOf}
 use Rattle.message.specs.Reading.{reading}
 use Rattle.message.specs.declared.facts.Message.{Message}
-use Rattle.message.specs.declared.facts.Span.{Span}
+use Rattle.fields.specs.declared.spans.Span.{Span}
 use Rattle.message.specs.declared.reading.Reading.the-variants.{Read}
-use Rattle.writing.proofs.AcceptedLaws.{Accepted, accepted-read, read-taken}
-use Rattle.writing.proofs.AlikeLaws.{SameFacts, same-bytes, alike-facts}
+use Rattle.message.proofs.AcceptedRows.{Accepted, accepted-read, read-taken}
+use Rattle.message.proofs.AlikeLaws.{SameFacts, same-bytes, alike-facts}
 use Rattle.writing.proofs.ChangeLaws.{Again}
 use Rattle.writing.proofs.ForwardLaws.{forward-all, added-again, reduce-all, removed-again}
-use Rattle.writing.proofs.MemberLaws.{shape, via-where}
+use Rattle.message.proofs.MemberLaws.{shape, via-where}
 use Rattle.writing.proofs.OutcomeLaws.{stood, Added, was-added, Taken, was-taken}
 use Rattle.writing.proofs.PartLaws.{lastIn, prior-last}
 use Rattle.writing.proofs.PutLaws.{halves}
-use Rattle.writing.proofs.RouteLaws.{route-passed}
+use Rattle.writing.proofs.TrailLaws.{trail-passed}
 use Rattle.writing.proofs.WayLaws.{host-of}
 use Rattle.writing.specs.Adding.{entry, pathRule, adding}
-use Rattle.writing.specs.Outcome.{Outcome, answered, Wrote}
+use Rattle.writing.specs.Outcome.{Outcome, answered, Writes}
 use Rattle.writing.specs.Removing.{removing, hostIn, shown, Took, nextHop}
 use Rattle.writing.specs.Objects.{objects}
 use Rattle.writing.specs.declared.answers.Refusal.{Refusal}
@@ -55,7 +54,8 @@ pub record Edited (s : List ℕ) (m : Message) (s′ v : List ℕ) : Type 0 wher
   pub outside : s′ ≡ take (m .via) s ++ (v ++ drop (behind s (m .via)) s)
   pub there : bytes s′ (m .via) ≡ v
 
-edited-at : {s : List ℕ} {tag : ℕ} {t : List ℕ} (a : Accepted s tag t) (s′ v : List ℕ) → Changed s s′ (shape a .x) (shape a .y) (via-where a .n) (getD t 6 0) v → Again s tag t s′ → Edited s (messageOf s (settingOf s tag t) t) s′ v
+edited-at : {s : List ℕ} {tag : ℕ} {t : List ℕ} (a : Accepted s tag t) (s′ v : List ℕ) → Changed s s′ (shape a .x) (shape a .y) (via-where a .n) (getD t 6 0) v → Again s tag t s′
+    → Edited s (messageOf s (settingOf s tag t) t) s′ v
 unfolding messageOf
 edited-at {s} {tag} {t} a s′ v c g = record {
   message = messageOf s′ (settingOf s′ tag (g .t′)) (g .t′);
@@ -84,10 +84,16 @@ pub record Forwarded (s : List ℕ) (m : Message) (z s′ : List ℕ) : Type 0 w
 
 added-some : (s : List ℕ) (n : ℕ) (z : List ℕ) → 1 ≤ length s → 1 ≤ length (added s n z)
 unfolding added
-added-some s n z h = omega (arith, halves s (lastOf (stopsOf s n)), length-append (take (lastOf (stopsOf s n)) s) ((44 ∷ z) ++ drop (lastOf (stopsOf s n)) s), length-append (44 ∷ z) (drop (lastOf (stopsOf s n)) s))
+added-some s n z h = omega (
+  arith,
+  halves s (lastOf (stopsOf s n)),
+  length-append (take (lastOf (stopsOf s n)) s) ((44 ∷ z) ++ drop (lastOf (stopsOf s n)) s),
+  length-append (44 ∷ z) (drop (lastOf (stopsOf s n)) s),
+)
 
 module _ {s : List ℕ} {tag : ℕ} {t : List ℕ} (a : Accepted s tag t) where
-  forward-at : (h d o : List ℕ) → pathRule h d o ≡ true → (length (elements s (getD t 6 0)) ≡ 16 → ⊥) → length (added s (getD t 6 0) (entry h d o)) ≤ 32768 → Forwarded s (messageOf s (settingOf s tag t) t) (entry h d o) (added s (getD t 6 0) (entry h d o))
+  forward-at : (h d o : List ℕ) → pathRule h d o ≡ true → (length (elements s (getD t 6 0)) ≡ 16 → ⊥) → length (added s (getD t 6 0) (entry h d o)) ≤ 32768
+      → Forwarded s (messageOf s (settingOf s tag t) t) (entry h d o) (added s (getD t 6 0) (entry h d o))
   unfolding messageOf
   forward-at h d o k few l =
       let f = forward-all a h d o k few in
@@ -104,7 +110,8 @@ forwarded-by s h d o w e l =
     subst (λ (x : List ℕ). Forwarded s (e .m) (entry h d o) x) (sym q) (subst (λ (m : Message). Forwarded s m (entry h d o) (added s (getD t 6 0) (entry h d o))) (a .is) f)
 
 -- THEOREM: what `add` writes is forwarded as document 01 says
-pub add-forwards : (s h d g : List ℕ) {o : List ℕ} {n : ℕ} {o′ : List ℕ} → Wrote o (adding s h d g) (Done n) o′ → (m : Message) × ((reading s ≡ Read m) × Forwarded s m (entry h d g) (take n o′))
+pub add-forwards : (s h d g : List ℕ) {o : List ℕ} {n : ℕ} {o′ : List ℕ} → Writes o (adding s h d g) (Done n) o′
+    → (m : Message) × ((reading s ≡ Read m) × Forwarded s m (entry h d g) (take n o′))
 add-forwards s h d g {o} {n} {o′} w =
     let x = stood w in
     let e = was-added s h d g (x .w) (x .is) in
@@ -116,7 +123,8 @@ pub record Returned (s : List ℕ) (m : Message) (s′ : List ℕ) : Type 0 wher
   pub objects : objects s′ (m .via) ≡ butLast (objects s (m .via))
 
 module _ {s : List ℕ} {tag : ℕ} {t : List ℕ} (a : Accepted s tag t) where
-  return-at : 2 ≤ length (elements s (getD t 6 0)) → 1 ≤ length (removed s (getD t 6 0)) → length (removed s (getD t 6 0)) ≤ 32768 → Returned s (messageOf s (settingOf s tag t) t) (removed s (getD t 6 0))
+  return-at : 2 ≤ length (elements s (getD t 6 0)) → 1 ≤ length (removed s (getD t 6 0)) → length (removed s (getD t 6 0)) ≤ 32768
+      → Returned s (messageOf s (settingOf s tag t) t) (removed s (getD t 6 0))
   unfolding messageOf
   return-at two x y =
       let f = reduce-all a two in
@@ -144,19 +152,21 @@ done-of : (h : Span) (w : Written) (n a e : ℕ) → removals.Done n a e ≡ sho
 done-of h (Done k) n a e q = (let z : k ≡ n = cc in ap Done z, ((let z : a ≡ h .start = cc in z), (let z : e ≡ h .end = cc in z)))
 done-of h (Refused r) n a e q = absurd (let z : _≡_ {A = ℕ} 0 1 = cc in omega arith)
 
-pub took-wrote : {h : Span} {o : List ℕ} {x : Outcome} {n a e : ℕ} {o′ : List ℕ} → Took o h x (removals.Done n a e) o′ → Wrote o x (Done n) o′
+pub took-wrote : {h : Span} {o : List ℕ} {x : Outcome} {n a e : ℕ} {o′ : List ℕ} → Took o h x (removals.Done n a e) o′ → Writes o x (Done n) o′
 took-wrote {h} {o} {x} {n} {a} {e} w = record { answer = sym (done-of h (answered (length o) x) n a e (w .answer) .0); output = w .output }
 
 -- THEOREM: what `remove` writes is the response less its last Via object, and the next host is that of the last one left
-pub remove-returns : (s h d g : List ℕ) {o : List ℕ} {n a e : ℕ} {o′ : List ℕ} → Took o (hostIn (reading s)) (removing s h d g) (removals.Done n a e) o′ → (m : Message) × ((reading s ≡ Read m) × (Returned s m (take n o′) × (nextHop s (removals.Done n a e) ≡ hostOf (lastIn (objects (take n o′) (m .via))))))
+pub remove-returns : (s h d g : List ℕ) {o : List ℕ} {n a e : ℕ} {o′ : List ℕ} → Took o (hostIn (reading s)) (removing s h d g) (removals.Done n a e) o′
+    → (m : Message) × ((reading s ≡ Read m) × (Returned s m (take n o′) × (nextHop s (removals.Done n a e) ≡ hostOf (lastIn (objects (take n o′) (m .via))))))
 remove-returns s h d g {o} {n} {a} {e} {o′} w =
     let q = done-of (hostIn (reading s)) (answered (length o) (removing s h d g)) n a e (w .answer) in
     let x = stood (took-wrote w) in
     let k = was-taken s h d g (x .w) (x .is) in
     let r = subst (λ (z : List ℕ). Returned s (k .m) z) (sym (x .front)) (returned-by s h d g (x .w) k (x .short)) in
     let v = host-of s (k .m) (k .read) in
-    let p = route-passed s (k .m) (k .read) (omega (arith, k .response)) in
-    let f : part s a e ≡ hostOf (bytes s (prevOf (elements s (k .m .via)))) = ap (λ (i : ℕ). part s i e) (q .1 .0 ∙ ap (λ (j : Span). j .start) v) ∙ ap (part s (k .m .route .host .start)) (q .1 .1 ∙ ap (λ (j : Span). j .end) v) ∙ p .host (omega (arith, k .two, p .count)) in
+    let p = trail-passed s (k .m) (k .read) (omega (arith, k .response)) in
+    let f : part s a e ≡ hostOf (bytes s (prevOf (elements s (k .m .via)))) = ap (λ (i : ℕ). part s i e) (q .1 .0 ∙ ap (λ (j : Span). j .start) v)
+    ∙ ap (part s (k .m .trail .host .start)) (q .1 .1 ∙ ap (λ (j : Span). j .end) v) ∙ p .host (omega (arith, k .two, p .count)) in
     (k .m, (k .read, (r, f ∙ ap hostOf (sym (ap lastIn (r .objects) ∙ prior-last (bytes s) (elements s (k .m .via)) (k .two))))))
 
 -- THEOREM: on refusal the part is empty
@@ -164,7 +174,7 @@ pub refused-empty : (s : List ℕ) (r : Refusal) → nextHop s (removals.Refused
 refused-empty s r = refl
 
 -- THEOREMS: each contract determines answer and output
-pub wrote-determined : {o : List ℕ} {x : Outcome} {r₁ r₂ : Written} {o₁ o₂ : List ℕ} → Wrote o x r₁ o₁ → Wrote o x r₂ o₂ → (r₁ ≡ r₂) × (o₁ ≡ o₂)
+pub wrote-determined : {o : List ℕ} {x : Outcome} {r₁ r₂ : Written} {o₁ o₂ : List ℕ} → Writes o x r₁ o₁ → Writes o x r₂ o₂ → (r₁ ≡ r₂) × (o₁ ≡ o₂)
 wrote-determined a b = (a .answer ∙ sym (b .answer), a .output ∙ sym (b .output))
 
 pub took-determined : {o : List ℕ} {h : Span} {x : Outcome} {r₁ r₂ : Removed} {o₁ o₂ : List ℕ} → Took o h x r₁ o₁ → Took o h x r₂ o₂ → (r₁ ≡ r₂) × (o₁ ≡ o₂)

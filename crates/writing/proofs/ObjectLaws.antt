@@ -10,18 +10,18 @@ use Rattle.frame.proofs.Written.{Named, body-append}
 use Rattle.json.proofs.Listing.{Item, items, values, readAll, at-byte, at-next, ws-44, ws-93, more-on, more-off, item-read, elements-at, array-long, object-read}
 use Rattle.json.proofs.ScanLaws.{Opener, Opened}
 use Rattle.json.specs.Places.{behind, bytes, past, follows, members, elementsFrom, elements, spell}
-use Rattle.message.proofs.GatherLaws.{there}
-use Rattle.message.specs.Hop.{hopOf, hostOf}
-use Rattle.message.specs.Spans.{textAt}
-use Rattle.message.specs.Value.{isArray, isString, textOf, freely, ruled}
-use Rattle.message.specs.Via.{hopPlaces, hopRule, isHop, viaRule}
+use Rattle.fields.proofs.GatherLaws.{there}
+use Rattle.fields.specs.Hop.{hopOf, hostOf}
+use Rattle.fields.specs.Spans.{textAt}
+use Rattle.fields.specs.Value.{isArray, isString, textOf, freely, ruled}
+use Rattle.fields.specs.Via.{hopPlaces, hopRule, isHop, viaRule}
 use Rattle.octets.proofs.ClassLaws.{among-in, in-among}
-use Rattle.octets.proofs.TextLaws.{and-parts}
+use Rattle.octets.proofs.TestLaws.{and-parts}
 use Rattle.octets.specs.Class.{among, all}
 use Rattle.rules.specs.Names.{hopMembers}
 use Rattle.writing.proofs.ChangeLaws.{first-byte}
-use Rattle.writing.proofs.EntryLaws.{HopBy, hop-few, hop-pairs, pairs-hop}
-use Rattle.writing.proofs.PairLaws.{found, valueIn, late-members, by-once, noted-by}
+use Rattle.message.proofs.HopPairs.{HopBy, hop-few, hop-pairs, pairs-hop}
+use Rattle.message.proofs.PairLaws.{found, valueIn, late-members, by-once, noted-by}
 use borrow.Author.Tests.{eq-eqb, eqb-true}
 use lib.Dec.{eqb}
 use lib.ListN.{length, getD, drop, length-map}
@@ -50,14 +50,18 @@ all-stand (suc N) d s a i [] t h c e =
     (record { v = i .v; t = i .u ++ (93 ∷ t); is = r .start; piece = h .piece }, subst (AllStand d s) (sym (more-off 93 s t (elementsFrom N s) (past s a) refl (r .rest))) tt)
 all-stand (suc N) d s a i (j ∷ js) t h c e =
     let r = item-read (Val d) (λ v q x. x .sized) 44 s a i (items j js t) (solid-goods d i (j ∷ js) h .0) ws-44 e in
-    let y = follows s (past s a) in
-    (record { v = i .v; t = i .u ++ (44 ∷ items j js t); is = r .start; piece = h .0 .piece }, subst (AllStand d s) (sym (more-on s (items j js t) (elementsFrom N s) (past s a) (r .rest))) (all-stand N d s (y + 1) j js t (h .1) (omega arith) (at-next 44 _ s y (r .rest))))
+    let y = follows s (past s a) in (
+      record { v = i .v; t = i .u ++ (44 ∷ items j js t); is = r .start; piece = h .0 .piece },
+      subst (AllStand d s) (sym (more-on s (items j js t) (elementsFrom N s) (past s a) (r .rest)))
+          (all-stand N d s (y + 1) j js t (h .1) (omega arith) (at-next 44 _ s y (r .rest))),
+    )
 
 -- the elements of an array of such values
 pub array-stand : (d : ℕ) (s : List ℕ) (o : ℕ) (i : Item) (is : List Item) (t : List ℕ) → Solids d i is → drop o s ≡ 91 ∷ items i is t → AllStand d s (elements s o)
 array-stand d s o i is t h e =
     let g = solid-goods d i is h in
-    subst (AllStand d s) (sym (elements-at (Val d) (λ v q x. x .sized) s o i is t g e)) (all-stand (length s) d s (o + 1) i is t h (array-long (Val d) (λ v q x. x .sized) s o i is t g e) (at-next 91 _ s o e))
+    subst (AllStand d s) (sym (elements-at (Val d) (λ v q x. x .sized) s o i is t g e))
+    (all-stand (length s) d s (o + 1) i is t h (array-long (Val d) (λ v q x. x .sized) s o i is t g e) (at-next 91 _ s o e))
 
 opened-byte : (v t s : List ℕ) (q : ℕ) → Opened v → drop q s ≡ v ++ t → Opener (getD s q 0)
 opened-byte [] t s q o e = absurd o
@@ -73,7 +77,8 @@ module _ (d : ℕ) (r : List ℕ) (p : Piece d (123 ∷ r)) (n : (t : List ℕ) 
   parsed = piece-object d r p n
 
   read-in : (s t : List ℕ) (q : ℕ) → drop q s ≡ (123 ∷ r) ++ t → map (spell s) (members s q) ≡ readAll (parsed .f ∷ parsed .fs)
-  read-in s t q e = object-read (Val (d - 1)) Named (λ v q x. x .sized) (λ n x. x .listed) s q (parsed .f) (parsed .fs) t (parsed .good) (e ∙ ap (λ (z : List ℕ). 123 ∷ (z ++ t)) (parsed .eq) ∙ ap (λ (z : List ℕ). 123 ∷ z) (body-append (parsed .f) (parsed .fs) t))
+  read-in s t q e = object-read (Val (d - 1)) Named (λ v q x. x .sized) (λ n x. x .listed) s q (parsed .f) (parsed .fs) t (parsed .good)
+      (e ∙ ap (λ (z : List ℕ). 123 ∷ (z ++ t)) (parsed .eq) ∙ ap (λ (z : List ℕ). 123 ∷ z) (body-append (parsed .f) (parsed .fs) t))
 
   own-read : (s t : List ℕ) (q : ℕ) → drop q s ≡ (123 ∷ r) ++ t → map (spell s) (members s q) ≡ map (spell (123 ∷ r)) (members (123 ∷ r) 0)
   own-read s t q e = read-in s t q e ∙ sym (read-in (123 ∷ r) [] 0 (sym (append-nil (123 ∷ r))))
@@ -208,7 +213,8 @@ solid-by v x xs p h e = by v (h .array) p (hops-open v (elements v 0) (h .hops))
     by (b ∷ r) g p o e = by′ b g p o e
       where
         by′ : (b : ℕ) → b ≡ 91 → Piece 6 (b ∷ r) → AllOpen (b ∷ r) (elements (b ∷ r) 0) → elements (b ∷ r) 0 ≡ x ∷ xs → Solidly 5 (b ∷ r)
-        by′ b g p o e = subst (λ (c : ℕ). Piece 6 (c ∷ r) → AllOpen (c ∷ r) (elements (c ∷ r) 0) → elements (c ∷ r) 0 ≡ x ∷ xs → Solidly 5 (c ∷ r)) (sym g) (λ p′ o′ e′. solidly-as (91 ∷ r) r [] 0 x xs p′ (sym (append-nil (91 ∷ r))) e′ o′) p o e
+        by′ b g p o e = subst (λ (c : ℕ). Piece 6 (c ∷ r) → AllOpen (c ∷ r) (elements (c ∷ r) 0) → elements (c ∷ r) 0 ≡ x ∷ xs → Solidly 5 (c ∷ r)) (sym g)
+            (λ p′ o′ e′. solidly-as (91 ∷ r) r [] 0 x xs p′ (sym (append-nil (91 ∷ r))) e′ o′) p o e
 
 items-objects : (v : List ℕ) (i : Item) (is : List Item) → Solids 5 i is → v ≡ 91 ∷ items i is [] → map (bytes v) (elements v 0) ≡ values (i ∷ is)
 items-objects v i is h e = ap (λ (z : List ℕ). map (bytes z) (elements z 0)) e ∙ array-elements 5 [] i is [] h

@@ -1,8 +1,7 @@
 -- Parts of parts: a part of a value stands in the message where the value does; and the last but one of a list. Assumes nothing.
 use Prim.Native.Nat.{ℕ, zero, suc, _+_, _-_, _≤_}
 use Rattle.frame.proofs.ArrayEdits.{butLast}
-use Rattle.json.specs.Ends.{prevOf}
-use Rattle.json.specs.Places.{part, bytes, behind}
+use Rattle.json.specs.Places.{part, bytes, behind, prevOf}
 use borrow.Author.Tests.{leb-true, leb-false}
 use lib.Dec.{leb}
 use lib.ListN.{length, take, drop, length-take, length-drop}

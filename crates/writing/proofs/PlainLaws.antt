@@ -3,11 +3,11 @@
 use Prim.Native.Nat.{ℕ, suc, _+_, _≤_}
 use Rattle.frame.proofs.Written.{plainly}
 use Rattle.octets.proofs.ClassLaws.{among-in, digit-in}
-use Rattle.octets.proofs.TextLaws.{and-parts}
+use Rattle.octets.proofs.TestLaws.{and-parts, or-split}
 use Rattle.octets.specs.Class.{all, among, isDigit, isLower, isUpper, isLetter, isAlnum}
 use Rattle.rules.specs.Classes.{holds}
 use Rattle.rules.specs.Pieces as pieces
-use Rattle.rules.specs.Pieces.{further, run, span, within, reads}
+use Rattle.rules.specs.Pieces.{further, run, runLength, within, reads}
 use Rattle.rules.specs.Texts.{unescaped, hostRule, destinationRule, organizationRule}
 use Rattle.rules.specs.declared.classes.Class.the-variants.{Alnum, Graphic, Label, Name}
 use Rattle.rules.specs.declared.classes.Class.{Class}
@@ -45,10 +45,6 @@ unfolding all unescaped
 plain-unescaped [] h = refl
 plain-unescaped (b ∷ s) h = rw (ne-eqb b 92 (h .0 .slash)) (plain-unescaped s (h .1))
 
-or-parts : (a b : Bool) → (a || b) ≡ true → (a ≡ true) ⊎ (b ≡ true)
-or-parts true b e = inl refl
-or-parts false b e = inr e
-
 plain-in : (b : ℕ) → 93 ≤ b → b ≤ 126 → PlainByte b
 plain-in b h g = record { low = omega arith; high = g; quote = λ e. omega arith; slash = λ e. omega arith }
 
@@ -66,11 +62,11 @@ digit-plain b e = let r = digit-in b e in plain-under b (omega (arith, r .0)) (o
 alnum-by : (b : ℕ) → (isDigit b ≡ true) ⊎ (isLetter b ≡ true) → PlainByte b
 unfolding isLetter
 alnum-by b (inl e) = digit-plain b e
-alnum-by b (inr e) = letter-plain b (or-parts (isLower b) (isUpper b) e)
+alnum-by b (inr e) = letter-plain b (or-split (isLower b) (isUpper b) e)
 
 alnum-plain : (b : ℕ) → isAlnum b ≡ true → PlainByte b
 unfolding isAlnum
-alnum-plain b e = alnum-by b (or-parts (isDigit b) (isLetter b) e)
+alnum-plain b e = alnum-by b (or-split (isDigit b) (isLetter b) e)
 
 mark-plain : (b x : ℕ) → 35 ≤ x → x ≤ 91 → eqb b x ≡ true → PlainByte b
 mark-plain b x h g e = let z = eqb-true b x e in plain-under b (omega arith) (omega arith)
@@ -81,7 +77,7 @@ marks-plain b (inr e) = mark-plain b 46 (omega arith) (omega arith) e
 
 name-by : (b : ℕ) → (isAlnum b ≡ true) ⊎ ((eqb b 45 || eqb b 46) ≡ true) → PlainByte b
 name-by b (inl e) = alnum-plain b e
-name-by b (inr e) = marks-plain b (or-parts (eqb b 45) (eqb b 46) e)
+name-by b (inr e) = marks-plain b (or-split (eqb b 45) (eqb b 46) e)
 
 label-by : (b : ℕ) → (isAlnum b ≡ true) ⊎ (eqb b 45 ≡ true) → PlainByte b
 label-by b (inl e) = alnum-plain b e
@@ -89,11 +85,11 @@ label-by b (inr e) = mark-plain b 45 (omega arith) (omega arith) e
 
 name-plain : (b : ℕ) → holds Name b ≡ true → PlainByte b
 unfolding holds
-name-plain b e = name-by b (or-parts (isAlnum b) (eqb b 45 || eqb b 46) e)
+name-plain b e = name-by b (or-split (isAlnum b) (eqb b 45 || eqb b 46) e)
 
 label-plain : (b : ℕ) → holds Label b ≡ true → PlainByte b
 unfolding holds
-label-plain b e = label-by b (or-parts (isAlnum b) (eqb b 45) e)
+label-plain b e = label-by b (or-split (isAlnum b) (eqb b 45) e)
 
 graphic-plain : (b : ℕ) → holds Graphic b ≡ true → PlainByte b
 unfolding holds
@@ -103,20 +99,20 @@ graphic-plain b e =
     let r = among-in 33 126 b (p .0) in
     record { low = omega (arith, r .0); high = r .1; quote = eqb-false b 34 (not-true (eqb b 34) (q .0)); slash = eqb-false b 92 (not-true (eqb b 92) (q .1)) }
 
-span-all : (c : Class) (f : (b : ℕ) → holds c b ≡ true → PlainByte b) (s : List ℕ) → span c s ≡ length s → Plain s
-unfolding span
+span-all : (c : Class) (f : (b : ℕ) → holds c b ≡ true → PlainByte b) (s : List ℕ) → runLength c s ≡ length s → Plain s
+unfolding runLength
 span-all c f [] e = tt
 span-all c f (b ∷ s) e = by (holds c b) refl (λ z. span-all c f s z) e
   where
-    by : (u : Bool) → holds c b ≡ u → (span c s ≡ length s → Plain s) → further u (span c s) ≡ suc (length s) → PlainByte b × Plain s
+    by : (u : Bool) → holds c b ≡ u → (runLength c s ≡ length s → Plain s) → further u (runLength c s) ≡ suc (length s) → PlainByte b × Plain s
     by true h g z = (f b h, g (omega arith))
     by false h g z = absurd (omega arith)
 
 run-plain : (lo hi : ℕ) (c d : Class) (f : (b : ℕ) → holds c b ≡ true → PlainByte b) (s : List ℕ) → reads (run lo hi c d ∷ []) s 0 ≡ true → Plain s
-unfolding reads pieces.keeps pieces.behind
+unfolding reads pieces.hasPiece pieces.behind
 run-plain lo hi c d f s e =
-    let p = and-parts (within lo hi d s 0 (0 + span c (drop 0 s))) (eqb (0 + span c (drop 0 s)) (length s)) e in
-    span-all c f s (omega (arith, eqb-true (0 + span c (drop 0 s)) (length s) (p .1)))
+    let p = and-parts (within lo hi d s 0 (0 + runLength c (drop 0 s))) (eqb (0 + runLength c (drop 0 s)) (length s)) e in
+    span-all c f s (omega (arith, eqb-true (0 + runLength c (drop 0 s)) (length s) (p .1)))
 
 pub host-plain : (s : List ℕ) → hostRule s ≡ true → Plain s
 unfolding hostRule

@@ -2,9 +2,9 @@
 -- byte what it was. Over the public contracts of `reply`, `add` and `remove`. Assumes nothing.
 use Prim.Native.Nat.{ℕ}
 use Rattle.message.specs.Reading.{reading}
-use Rattle.message.specs.declared.facts.Span.{Span}
+use Rattle.fields.specs.declared.spans.Span.{Span}
 use Rattle.writing.specs.Adding.{adding}
-use Rattle.writing.specs.Outcome.{Outcome, refuse, write, either, fitted, answered, put, left, Wrote}
+use Rattle.writing.specs.Outcome.{Outcome, refuse, write, fitted, answered, put, left, Writes}
 use Rattle.writing.specs.Removing.{removing, hostIn, shown, Took}
 use Rattle.writing.specs.Reply.{replying}
 use Rattle.writing.specs.declared.answers.Refusal.the-variants.{Long, Room}
@@ -15,7 +15,7 @@ use Rattle.writing.specs.declared.answers.Written.{Written}
 use borrow.Author.Tests.{lt-leb, le-leb, ltb-true, ltb-false}
 use lib.Dec.{ltb}
 use lib.ListN.{length}
-use mathlib.Core.Bool.{Bool, true, false}
+use mathlib.Core.Bool.{Bool, true, false, cond}
 use mathlib.Core.List.{List}
 use mathlib.Core.Path.{_≡_, refl, ap, _∙_}
 use native.Mathlib.Omega.{arith}
@@ -28,13 +28,13 @@ pub data Asked : Type 0 where
 
 -- the contract of that writer allows that it refuses so, and leaves o′ of the output o
 abbrev pub Refuses : Asked → Refusal → List ℕ → List ℕ → Type 0
-Refuses (reply s code date) f o o′ = Wrote o (replying s code date) (Refused f) o′
-Refuses (add s h d g) f o o′ = Wrote o (adding s h d g) (Refused f) o′
+Refuses (reply s code date) f o o′ = Writes o (replying s code date) (Refused f) o′
+Refuses (add s h d g) f o o′ = Writes o (adding s h d g) (Refused f) o′
 Refuses (remove s h d g) f o o′ = Took o (hostIn (reading s)) (removing s h d g) (removals.Refused f) o′
 
 -- 39 and 33, which go by the result's length
 too-much : (o w : List ℕ) (f : Refusal) (a b : Bool) → ltb 32768 (length w) ≡ a → ltb (length o) (length w) ≡ b
-    → Refused f ≡ either a (Refused Long) (either b (Refused Room) (Done (length w))) → put o w ≡ o
+    → Refused f ≡ cond a (Refused Long) (cond b (Refused Room) (Done (length w))) → put o w ≡ o
 unfolding put
 too-much o w f true b p q e = rw (lt-leb (length w) 32768 (ltb-true 32768 (length w) p))
 too-much o w f false true p q e =

@@ -1,37 +1,42 @@
 -- A reply as a message of seven members without white space: it is accepted JSON, with its tag, its members and their places (`reply-shape`). Values of an
 -- accepted request end by themselves and are good UTF-8 (`copied`). Assumes nothing.
+use Rattle.octets.proofs.TestLaws.{and-parts}
 use Prim.Native.Nat.{ℕ, _≤_, _<_}
 use Rattle.frame.proofs.Forwarding.{value-apart, value-followed, value-piece}
-use Rattle.frame.proofs.MessageShape.{Fronts, Around, AroundFine, message, head, upTo, beyond, tail, message-accepted, message-start, message-elements, message-members, value-there, message-split}
+use Rattle.frame.proofs.MessageShape.{Fronts, Around, AroundFine, message, head, upTo, beyond, tail, message-accepted, message-start, message-elements, message-members}
+use Rattle.frame.proofs.MessageShape.{value-there, message-split}
 use Rattle.frame.proofs.Standing.{Val, Piece, piece-val}
 use Rattle.frame.proofs.Written.{plainly, Named, body-append, plain-name, inQuotes, text-piece}
 use Rattle.json.proofs.Listing.{Field, Fine, Fines, items, item, body, entry, readAll, name-is}
 use Rattle.json.proofs.ScanLaws.{Opener, Opened}
-use Rattle.json.specs.Machine.{answer}
+use Rattle.json.specs.inner.Machine.{answer}
 use Rattle.json.specs.Places.{bytes, behind, past, raw, valueOf, members, elements, spell}
 use Rattle.json.specs.declared.Walked.the-variants.{End}
-use Rattle.message.specs.Field.{byKind, keeps, textRule}
+use Rattle.fields.specs.Field.{addressRule, keeps}
 use Rattle.message.specs.Shape.{tagOf, objectOf}
-use Rattle.message.specs.Value.{isString, freely, ruled}
-use Rattle.message.specs.declared.fields.Setting.{Setting}
-use Rattle.octets.proofs.TextLaws.{and-parts}
+use Rattle.fields.specs.Value.{isString, freely, ruled}
+use Rattle.fields.specs.declared.judging.Setting.{Setting}
 use Rattle.octets.specs.Ascii.{ascii}
 use Rattle.octets.specs.Text.{same}
 use Rattle.rules.specs.Names.{tags}
-use Rattle.rules.specs.Pieces.{placeFrom, placeOf}
+use Rattle.rules.specs.Pieces.{wordNumberFrom, wordNumber}
 use Rattle.utf8.specs.Rfc3629.{verdict}
 use Rattle.utf8.specs.declared.Verdict.the-variants.{Good}
-use Rattle.writing.proofs.AcceptedLaws.{Accepted, first, good-sound, is-kept}
-use Rattle.writing.proofs.AlikeLaws.{field-there, tag-asks}
+use Rattle.message.proofs.AcceptedRows.{Accepted, good-sound, is-kept}
+use Rattle.message.specs.Message.{first}
+use Rattle.message.proofs.AlikeLaws.{field-there, tag-asks}
 use Rattle.writing.proofs.ChangeLaws.{first-byte}
 use Rattle.writing.proofs.ForwardLaws.{opens}
-use Rattle.writing.proofs.MemberLaws.{shape, field-where, field-member, tag-of, membersOf}
+use Rattle.message.proofs.MemberLaws.{shape, field-where, tag-of, membersOf}
+use Rattle.writing.proofs.StandingLaws.{field-member}
 use Rattle.writing.proofs.SeamLaws.{utf-part}
 use Rattle.writing.specs.Reply.{replyText}
 use borrow.Author.Tests.{eqb-true}
+use Rattle.rules.specs.Sequence.{sequenceRule}
+use Rattle.rules.specs.Texts.{callIdRule}
 use lib.Dec.{eqb}
 use lib.ListN.{length, getD, take, drop, length-append}
-use mathlib.Core.Bool.{Bool, true}
+use mathlib.Core.Bool.{Bool, true, cond}
 use mathlib.Core.List.{List, [], _∷_, _++_, append-assoc, map}
 use mathlib.Core.Logic.{_⊎_, inl, inr}
 use mathlib.Core.Path.{_≡_, refl, sym, ap, subst, _∙_}
@@ -75,7 +80,13 @@ fine-of b n v h p = record { before = tt; named = plain-name n h; before₁ = tt
 
 around-fine : AroundFine around
 unfolding plainly
-around-fine = record { hw = tt; hi = record { before = tt; val = λ t. piece-val 7 (inQuotes (ascii "response")) (44 ∷ t) (text-piece 7 (ascii "response") refl); behind = tt }; hj = tt; hu = tt; ht = tt }
+around-fine = record {
+  hw = tt;
+  hi = record { before = tt; val = λ t. piece-val 7 (inQuotes (ascii "response")) (44 ∷ t) (text-piece 7 (ascii "response") refl); behind = tt };
+  hj = tt;
+  hu = tt;
+  ht = tt;
+}
 
 -- what is known of a reply's text
 pub record Shown (w : List ℕ) (status cseq to from call date via : List ℕ) : Type 0 where
@@ -87,7 +98,8 @@ pub record Shown (w : List ℕ) (status cseq to from call date via : List ℕ) :
   pub parts : w ≡ ahead ++ (via ++ (125 ∷ (93 ∷ [])))
   pub place : valueOf w (getD (members w 12) 6 0) ≡ length ahead
 
-module _ (status cseq to from call date via : List ℕ) (p₀ : plainly status ≡ true) (p₁ : Piece 6 cseq) (p₂ : Piece 6 to) (p₃ : Piece 6 from) (p₄ : Piece 6 call) (p₅ : plainly date ≡ true) (p₆ : Piece 6 via) where
+module _ (status cseq to from call date via : List ℕ) (p₀ : plainly status ≡ true) (p₁ : Piece 6 cseq) (p₂ : Piece 6 to) (p₃ : Piece 6 from) (p₄ : Piece 6 call)
+    (p₅ : plainly date ≡ true) (p₆ : Piece 6 via) where
   abbrev f₀ : Field
   f₀ = status₇ status cseq to from call date via
 
@@ -102,7 +114,10 @@ module _ (status cseq to from call date via : List ℕ) (p₀ : plainly status �
       fine-of 44 (ascii "CSeq") cseq refl p₁,
       (
         fine-of 44 (ascii "To") to refl p₂,
-        (fine-of 44 (ascii "From") from refl p₃, (fine-of 44 (ascii "Call-ID") call refl p₄, (fine-of 44 (ascii "Date") (inQuotes date) refl (text-piece 6 date p₅), fine-of 125 (ascii "Via") via refl p₆))),
+        (
+          fine-of 44 (ascii "From") from refl p₃,
+          (fine-of 44 (ascii "Call-ID") call refl p₄, (fine-of 44 (ascii "Date") (inQuotes date) refl (text-piece 6 date p₅), fine-of 125 (ascii "Via") via refl p₆)),
+        ),
       ),
     ),
   )
@@ -134,8 +149,8 @@ module _ (status cseq to from call date via : List ℕ) (p₀ : plainly status �
   unfolding message items item plainly
   tag-name = name-is text₀ (ascii "response") _ 1 (plain-name (ascii "response") refl .listed) refl
 
-  tag-two : placeOf tags (raw text₀ 1) ≡ 2
-  unfolding placeFrom same
+  tag-two : wordNumber tags (raw text₀ 1) ≡ 2
+  unfolding wordNumberFrom same
   tag-two = rw tag-name
 
   shape-two : (tagOf text₀ ≡ 2) × (objectOf text₀ ≡ 12)
@@ -179,20 +194,28 @@ replyAhead status cseq to from call date =
     ++ (date
     ++ ascii "\",\"Via\":")))))))))))
 
-regroup : (k₀ a k₁ b k₂ c k₃ d k₄ e k₅ f k₆ g : List ℕ) → (k₀ ++ (a ++ (k₁ ++ (b ++ (k₂ ++ (c ++ (k₃ ++ (d ++ (k₄ ++ (e ++ (k₅ ++ (f ++ k₆)))))))))))) ++ g ≡ k₀ ++ (a ++ (k₁ ++ (b ++ (k₂ ++ (c ++ (k₃ ++ (d ++ (k₄ ++ (e ++ (k₅ ++ (f ++ (k₆ ++ g))))))))))))
+regroup : (k₀ a k₁ b k₂ c k₃ d k₄ e k₅ f k₆ g : List ℕ)
+    → (k₀ ++ (a ++ (k₁ ++ (b ++ (k₂ ++ (c ++ (k₃ ++ (d ++ (k₄ ++ (e ++ (k₅ ++ (f ++ k₆)))))))))))) ++ g ≡ k₀
+    ++ (a ++ (k₁ ++ (b ++ (k₂ ++ (c ++ (k₃ ++ (d ++ (k₄ ++ (e ++ (k₅ ++ (f ++ (k₆ ++ g))))))))))))
 regroup k₀ a k₁ b k₂ c k₃ d k₄ e k₅ f k₆ g = simp append-assoc
 
-pub reply-split : (status cseq to from call date via : List ℕ) → replyAhead status cseq to from call date ++ (via ++ (125 ∷ (93 ∷ []))) ≡ replyText status cseq to from call date via
+pub reply-split : (status cseq to from call date via : List ℕ)
+    → replyAhead status cseq to from call date ++ (via ++ (125 ∷ (93 ∷ []))) ≡ replyText status cseq to from call date via
 unfolding replyAhead replyText
 reply-split status cseq to from call date via =
-    regroup (ascii "[\"response\",{\"Status\":\"") status (ascii "\",\"CSeq\":") cseq (ascii ",\"To\":") to (ascii ",\"From\":") from (ascii ",\"Call-ID\":") call (ascii ",\"Date\":\"") date (ascii "\",\"Via\":") (via ++ (125 ∷ (93 ∷ [])))
+    regroup (ascii "[\"response\",{\"Status\":\"") status (ascii "\",\"CSeq\":") cseq (ascii ",\"To\":") to (ascii ",\"From\":") from (ascii ",\"Call-ID\":") call
+    (ascii ",\"Date\":\"") date (ascii "\",\"Via\":") (via ++ (125 ∷ (93 ∷ [])))
 
 pub ahead-long : (a b l w : List ℕ) → w ≡ a ++ l → b ++ l ≡ w → length a ≡ length b
 ahead-long a b l w e f = omega (arith, ap length e, ap length f, length-append a l, length-append b l)
 
+-- the rules of the texts that a reply copies: 1 CSeq, 2 To, 3 From, 5 Call-ID
+abbrev pub copiedRule : ℕ → List ℕ → Bool
+copiedRule n = cond (eqb n 1) sequenceRule (cond (eqb n 5) callIdRule addressRule)
+
 -- A text under a rule is a string.
-pub text-field : (k : Setting) (n : ℕ) (v : List ℕ) → (n ≡ 1) ⊎ ((n ≡ 2) ⊎ ((n ≡ 3) ⊎ (n ≡ 5))) → keeps k n v ≡ ruled (textRule n) v
-unfolding keeps byKind
+pub text-field : (k : Setting) (n : ℕ) (v : List ℕ) → (n ≡ 1) ⊎ ((n ≡ 2) ⊎ ((n ≡ 3) ⊎ (n ≡ 5))) → keeps k n v ≡ ruled (copiedRule n) v
+unfolding keeps
 text-field k n v (inl e) = rw e
 text-field k n v (inr (inl e)) = rw e
 text-field k n v (inr (inr (inl e))) = rw e
@@ -222,15 +245,19 @@ module _ {s : List ℕ} {tag : ℕ} {t : List ℕ} (a : Accepted s tag t) (n : �
       let m = field-member a n h g in
       let p = value-piece s (shape a .x) (shape a .y) (field-where a n h g .n) (getD t n 0) m o in
       let e = value-apart s (shape a .x) (shape a .y) (field-where a n h g .n) (getD t n 0) m in
-      record { piece = p; utf = utf-part (take (getD t n 0) s) (bytes s (getD t n 0)) (drop (behind s (getD t n 0)) s) (opened-front (bytes s (getD t n 0)) (p .opened)) (value-followed s (shape a .x) (shape a .y) (field-where a n h g .n) (getD t n 0) m) (subst (λ (x : List ℕ). verdict x ≡ Good) e (a .utf)) }
+      record {
+        piece = p;
+        utf = utf-part (take (getD t n 0) s) (bytes s (getD t n 0)) (drop (behind s (getD t n 0)) s) (opened-front (bytes s (getD t n 0)) (p .opened))
+            (value-followed s (shape a .x) (shape a .y) (field-where a n h g .n) (getD t n 0) m) (subst (λ (x : List ℕ). verdict x ≡ Good) e (a .utf));
+      }
 
   kept-field : keeps (first tag) n (bytes s (getD t n 0)) ≡ true
   kept-field = is-kept (good-sound s true (first tag) t (a .fits)) n h (omega arith) (omega (arith, tag-asks tag n (a .kind .0) (a .kind .1) h g)) (field-there a n h g)
 
-  pub copied-text : (n ≡ 1) ⊎ ((n ≡ 2) ⊎ ((n ≡ 3) ⊎ (n ≡ 5))) → Copied (bytes s (getD t n 0)) × (ruled (textRule n) (bytes s (getD t n 0)) ≡ true)
+  pub copied-text : (n ≡ 1) ⊎ ((n ≡ 2) ⊎ ((n ≡ 3) ⊎ (n ≡ 5))) → Copied (bytes s (getD t n 0)) × (ruled (copiedRule n) (bytes s (getD t n 0)) ≡ true)
   copied-text e =
       let r = sym (text-field (first tag) n (bytes s (getD t n 0)) e) ∙ kept-field in
-      (copied-at (inl (first-byte s (getD t n 0) (behind s (getD t n 0)) 33 (ruled-string (textRule n) (bytes s (getD t n 0)) r))), r)
+      (copied-at (inl (first-byte s (getD t n 0) (behind s (getD t n 0)) 33 (ruled-string (copiedRule n) (bytes s (getD t n 0)) r))), r)
 
 pub copied-via : {s : List ℕ} {tag : ℕ} {t : List ℕ} (a : Accepted s tag t) → Copied (bytes s (getD t 6 0))
 copied-via {s} {tag} {t} a = copied-at a 6 (omega arith) (omega arith) (inr (inl (opens a)))

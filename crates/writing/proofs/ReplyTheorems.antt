@@ -9,41 +9,43 @@ use Rattle.frame.specs.Edit.{added, removed}
 use Rattle.json.proofs.Listing.{readAll}
 use Rattle.json.specs.Places.{bytes, valueOf, members, elements}
 use Rattle.message.specs.Checks.{lacks, breaks}
-use Rattle.message.specs.Field.{byKind, statusField, keeps, textRule}
-use Rattle.message.specs.Known.{empty, noted}
-use Rattle.message.specs.Message.{methodOf, numberOf, fromCaller, toCaller, codeOf, settingOf, sidesDisagree, responseDisagrees, disagrees, messageOf}
-use Rattle.message.specs.Spans.{textAt}
+use Rattle.fields.specs.Field.{statusField, keeps}
+use Rattle.fields.specs.Known.{empty, noted}
+use Rattle.message.specs.Message.{methodOf, numberOf, fromCaller, toCaller, codeOf, settingOf, sidesDisagree, responseDisagrees, disagrees, messageOf, first}
+use Rattle.fields.specs.Spans.{textAt}
 use Rattle.message.specs.Reading.{reading}
 use Rattle.message.specs.Shape.{objectOf}
-use Rattle.message.specs.Value.{isString, textOf, freely, ruled}
+use Rattle.fields.specs.Value.{isString, textOf, freely, ruled}
 use Rattle.message.specs.declared.facts.Message.{Message}
 use Rattle.message.specs.declared.reading.Reading.the-variants.{Read}
 use Rattle.octets.specs.Ascii.{ascii}
 use Rattle.octets.specs.Class.{all}
 use Rattle.octets.specs.Text.{same}
+use Rattle.octets.proofs.TestLaws.{or-none}
 use Rattle.rules.specs.Date.{dateRule}
 use Rattle.rules.specs.Fields.{isIn, tagAsks}
 use Rattle.rules.specs.Names.{fields}
-use Rattle.rules.specs.Pieces.{placeFrom}
+use Rattle.rules.specs.Pieces.{wordNumberFrom}
 use Rattle.rules.specs.Status.{listed, statusText, statusRule}
 use Rattle.utf8.proofs.Join.{join, ascii-good}
 use Rattle.utf8.specs.Rfc3629.{verdict}
 use Rattle.utf8.specs.declared.Verdict.the-variants.{Good}
-use Rattle.writing.proofs.AcceptedLaws.{Accepted, first, Sound, accepted-read, read-taken, sound-good}
-use Rattle.writing.proofs.Bounds.{via-keeps}
+use Rattle.message.proofs.AcceptedRows.{Accepted, Sound, accepted-read, read-taken, sound-good}
+use Rattle.message.proofs.AcceptedVia.{via-keeps}
 use Rattle.writing.proofs.EntryLaws.{quoted-text, quoted-ruled, entry-piece}
 use Rattle.writing.proofs.ForwardLaws.{kept-via, opens, via-some, stand}
 use Rattle.writing.proofs.ForwardTheorems.{SameValues, forwarded-by, took-wrote}
-use Rattle.writing.proofs.MemberLaws.{fields-few, shape, via-where, via-member, membersOf}
+use Rattle.message.proofs.MemberLaws.{fields-few, shape, via-where, membersOf}
+use Rattle.writing.proofs.StandingLaws.{via-member}
 use Rattle.writing.proofs.ObjectLaws.{all-open}
 use Rattle.writing.proofs.OutcomeLaws.{stood, Replied, was-replied, was-added, was-taken, written-front}
-use Rattle.writing.proofs.PairLaws.{found, valueIn, doubled, Nth, nth-one, or-none, late-members, by-once, noted-by, where-is}
+use Rattle.message.proofs.PairLaws.{found, valueIn, doubled, Nth, nth-one, late-members, by-once, noted-by, where-is}
 use Rattle.writing.proofs.PlainLaws.{plain-plainly, plain-ascii}
 use Rattle.writing.proofs.PutLaws.{reply-long}
-use Rattle.writing.proofs.ReplyLaws.{status₇, rest₇, Shown, reply-shape, replyAhead, reply-split, ahead-long, text-field, Copied, copied-text, copied-via}
+use Rattle.writing.proofs.ReplyLaws.{copiedRule, status₇, rest₇, Shown, reply-shape, replyAhead, reply-split, ahead-long, text-field, Copied, copied-text, copied-via}
 use Rattle.writing.proofs.WordLaws.{date-plain, status-plain, status-kept, status-code}
 use Rattle.writing.specs.Adding.{entry, adding}
-use Rattle.writing.specs.Outcome.{write, Wrote}
+use Rattle.writing.specs.Outcome.{write, Writes}
 use Rattle.writing.specs.Removing.{removing, hostIn, Took}
 use Rattle.writing.specs.Reply.{replyText, replyOf, wrongCode, replying}
 use Rattle.writing.specs.Objects.{objects}
@@ -52,7 +54,7 @@ use Rattle.writing.specs.declared.answers.Written.the-variants.{Done}
 use borrow.Author.Tests.{ne-eqb, ltb-true, ltb-false, not-false}
 use lib.Dec.{eqb, ltb}
 use lib.ListN.{length, getD, take}
-use mathlib.Core.Bool.{Bool, true, false, not, _&&_}
+use mathlib.Core.Bool.{Bool, true, false, not, _&&_, and-false}
 use mathlib.Core.List.{List, [], _∷_, _++_}
 use mathlib.Core.Logic.{inl, inr}
 use mathlib.Core.Path.{_≡_, refl, sym, ap, subst, _∙_}
@@ -89,7 +91,15 @@ pub record ReadBack (s : List ℕ) (m : Message) (code : ℕ) (date w : List ℕ
 none-asked : (n : ℕ) → 8 ≤ n → tagAsks 2 n ≡ 0
 unfolding tagAsks isIn
 none-asked n h =
-    rw (ne-eqb n 1 (λ e. omega arith), ne-eqb n 2 (λ e. omega arith), ne-eqb n 3 (λ e. omega arith), ne-eqb n 4 (λ e. omega arith), ne-eqb n 5 (λ e. omega arith), ne-eqb n 6 (λ e. omega arith), ne-eqb n 7 (λ e. omega arith))
+    rw (
+      ne-eqb n 1 (λ e. omega arith),
+      ne-eqb n 2 (λ e. omega arith),
+      ne-eqb n 3 (λ e. omega arith),
+      ne-eqb n 4 (λ e. omega arith),
+      ne-eqb n 5 (λ e. omega arith),
+      ne-eqb n 6 (λ e. omega arith),
+      ne-eqb n 7 (λ e. omega arith),
+    )
 
 by-seven : (P : ℕ → Type 0) → P 1 → P 2 → P 3 → P 4 → P 5 → P 6 → P 7 → (n : ℕ) → 1 ≤ n → n ≤ 7 → P n
 by-seven P a b c d e f g zero h i = absurd (omega arith)
@@ -102,27 +112,14 @@ by-seven P a b c d e f g (suc (suc (suc (suc (suc (suc zero)))))) h i = f
 by-seven P a b c d e f g (suc (suc (suc (suc (suc (suc (suc zero))))))) h i = g
 by-seven P a b c d e f g (suc (suc (suc (suc (suc (suc (suc (suc n)))))))) h i = absurd (omega arith)
 
-and-not : (a b : Bool) → (a && (b && false)) ≡ false
-and-not true true = refl
-and-not true false = refl
-and-not false b = refl
-
-and-no : (a : Bool) → (a && false) ≡ false
-and-no true = refl
-and-no false = refl
-
 -- the status field of a response
 status-field : (v : List ℕ) → keeps (first 2) 7 v ≡ freely statusRule v
 unfolding keeps statusField
 status-field v = refl
 
-date-field : (v : List ℕ) → keeps (first 2) 4 v ≡ ruled (textRule 4) v
-unfolding keeps byKind
+date-field : (v : List ℕ) → keeps (first 2) 4 v ≡ ruled dateRule v
+unfolding keeps
 date-field v = refl
-
-date-rule : (x : List ℕ) → dateRule x ≡ true → textRule 4 x ≡ true
-unfolding textRule
-date-rule x e = e
 
 module _ {s t : List ℕ} (a : Accepted s 1 t) (code : ℕ) (date : List ℕ) (ok : listed code ≡ true) (day : dateRule date ≡ true) where
   abbrev v₁ : List ℕ
@@ -143,16 +140,16 @@ module _ {s t : List ℕ} (a : Accepted s 1 t) (code : ℕ) (date : List ℕ) (o
   abbrev text : List ℕ
   text = replyText (statusText code) v₁ v₂ v₃ v₅ date v₆
 
-  c₁ : Copied v₁ × (ruled (textRule 1) v₁ ≡ true)
+  c₁ : Copied v₁ × (ruled (copiedRule 1) v₁ ≡ true)
   c₁ = copied-text a 1 (omega arith) (omega arith) (inl refl)
 
-  c₂ : Copied v₂ × (ruled (textRule 2) v₂ ≡ true)
+  c₂ : Copied v₂ × (ruled (copiedRule 2) v₂ ≡ true)
   c₂ = copied-text a 2 (omega arith) (omega arith) (inr (inl refl))
 
-  c₃ : Copied v₃ × (ruled (textRule 3) v₃ ≡ true)
+  c₃ : Copied v₃ × (ruled (copiedRule 3) v₃ ≡ true)
   c₃ = copied-text a 3 (omega arith) (omega arith) (inr (inr (inl refl)))
 
-  c₅ : Copied v₅ × (ruled (textRule 5) v₅ ≡ true)
+  c₅ : Copied v₅ × (ruled (copiedRule 5) v₅ ≡ true)
   c₅ = copied-text a 5 (omega arith) (omega arith) (inr (inr (inr refl)))
 
   c₆ : Copied v₆
@@ -160,13 +157,14 @@ module _ {s t : List ℕ} (a : Accepted s 1 t) (code : ℕ) (date : List ℕ) (o
 
   unfoldable shown : Shown text (statusText code) v₁ v₂ v₃ v₅ date v₆
   shown =
-      reply-shape (statusText code) v₁ v₂ v₃ v₅ date v₆ (plain-plainly (statusText code) (status-plain code)) (c₁ .0 .piece) (c₂ .0 .piece) (c₃ .0 .piece) (c₅ .0 .piece) (plain-plainly date (date-plain date day)) (c₆ .piece)
+      reply-shape (statusText code) v₁ v₂ v₃ v₅ date v₆ (plain-plainly (statusText code) (status-plain code)) (c₁ .0 .piece) (c₂ .0 .piece) (c₃ .0 .piece) (c₅ .0 .piece)
+      (plain-plainly date (date-plain date day)) (c₆ .piece)
 
   abbrev seven₀ : List (List ℕ × List ℕ)
   seven₀ = readAll (status₇ (statusText code) v₁ v₂ v₃ v₅ date v₆ ∷ rest₇ (statusText code) v₁ v₂ v₃ v₅ date v₆)
 
   once₀ : doubled fields seven₀ ≡ false
-  unfolding doubled found placeFrom same
+  unfolding doubled found wordNumberFrom same
   once₀ = refl
 
   once : doubled fields (membersOf text) ≡ false
@@ -181,35 +179,35 @@ module _ {s t : List ℕ} (a : Accepted s 1 t) (code : ℕ) (date : List ℕ) (o
       (r .0, r .1 ∙ ap (valueIn fields n) (shown .read))
 
   found₀ : (n : ℕ) → 1 ≤ n → n ≤ 7 → found fields n seven₀ ≡ true
-  unfolding found placeFrom same
+  unfolding found wordNumberFrom same
   found₀ = by-seven (λ n. found fields n seven₀ ≡ true) refl refl refl refl refl refl refl
 
   value₁ : bytes text (getD places 1 0) ≡ v₁
-  unfolding valueIn placeFrom same
+  unfolding valueIn wordNumberFrom same
   value₁ = value-at 1 (omega arith) (found₀ 1 (omega arith) (omega arith)) .1
 
   value₂ : bytes text (getD places 2 0) ≡ v₂
-  unfolding valueIn placeFrom same
+  unfolding valueIn wordNumberFrom same
   value₂ = value-at 2 (omega arith) (found₀ 2 (omega arith) (omega arith)) .1
 
   value₃ : bytes text (getD places 3 0) ≡ v₃
-  unfolding valueIn placeFrom same
+  unfolding valueIn wordNumberFrom same
   value₃ = value-at 3 (omega arith) (found₀ 3 (omega arith) (omega arith)) .1
 
   value₄ : bytes text (getD places 4 0) ≡ inQuotes date
-  unfolding valueIn placeFrom same
+  unfolding valueIn wordNumberFrom same
   value₄ = value-at 4 (omega arith) (found₀ 4 (omega arith) (omega arith)) .1
 
   value₅ : bytes text (getD places 5 0) ≡ v₅
-  unfolding valueIn placeFrom same
+  unfolding valueIn wordNumberFrom same
   value₅ = value-at 5 (omega arith) (found₀ 5 (omega arith) (omega arith)) .1
 
   value₆ : bytes text (getD places 6 0) ≡ v₆
-  unfolding valueIn placeFrom same
+  unfolding valueIn wordNumberFrom same
   value₆ = value-at 6 (omega arith) (found₀ 6 (omega arith) (omega arith)) .1
 
   value₇ : bytes text (getD places 7 0) ≡ inQuotes (statusText code)
-  unfolding valueIn placeFrom same
+  unfolding valueIn wordNumberFrom same
   value₇ = value-at 7 (omega arith) (found₀ 7 (omega arith) (omega arith)) .1
 
   status-text : textOf (inQuotes (statusText code)) ≡ statusText code
@@ -225,19 +223,19 @@ module _ {s t : List ℕ} (a : Accepted s 1 t) (code : ℕ) (date : List ℕ) (o
       (rw value₁ (text-field (first 2) 1 v₁ (inl refl) ∙ c₁ .1))
       (rw value₂ (text-field (first 2) 2 v₂ (inr (inl refl)) ∙ c₂ .1))
       (rw value₃ (text-field (first 2) 3 v₃ (inr (inr (inl refl))) ∙ c₃ .1))
-      (rw value₄ (date-field (inQuotes date) ∙ quoted-ruled (textRule 4) date (date-plain date day) (date-rule date day)))
+      (rw value₄ (date-field (inQuotes date) ∙ quoted-ruled dateRule date (date-plain date day) day))
       (rw value₅ (text-field (first 2) 5 v₅ (inr (inr (inr refl))) ∙ c₅ .1))
       (rw value₆ (via-keeps (first 2) v₆ ∙ kept-via a))
       (rw value₇ (status-field (inQuotes (statusText code)) ∙ kept₇))
 
   lacks-none : (n : ℕ) → 1 ≤ n → (b : Bool) → ltb n 8 ≡ b → lacks true (first 2) places n ≡ false
   unfolding lacks
-  lacks-none n h true e = rw (ne-eqb (getD places n 0) 0 (λ z. omega (arith, value-at n h (found₀ n h (omega (arith, ltb-true n 8 e))) .0))) (and-no (eqb (tagAsks 2 n) 1))
+  lacks-none n h true e = rw (ne-eqb (getD places n 0) 0 (λ z. omega (arith, value-at n h (found₀ n h (omega (arith, ltb-true n 8 e))) .0))) (and-false (eqb (tagAsks 2 n) 1))
   lacks-none n h false e = rw (none-asked n (ltb-false n 8 e))
 
   breaks-none : (n : ℕ) → 1 ≤ n → (b : Bool) → ltb n 8 ≡ b → breaks text true (first 2) places n ≡ false
   unfolding breaks
-  breaks-none n h true e = rw (kept n h (omega (arith, ltb-true n 8 e))) (and-not (ltb 0 (tagAsks 2 n)) (ltb 0 (getD places n 0)))
+  breaks-none n h true e = rw (kept n h (omega (arith, ltb-true n 8 e)), and-false (ltb 0 (getD places n 0))) (and-false (ltb 0 (tagAsks 2 n)))
   breaks-none n h false e = rw (none-asked n (ltb-false n 8 e))
 
   sound : Sound text true (first 2) places
@@ -309,7 +307,7 @@ module _ {s t : List ℕ} (a : Accepted s 1 t) (code : ℕ) (date : List ℕ) (o
 
     -- where Via stands in it
     nth₆ : Nth fields 6 6 seven₀
-    unfolding placeFrom same
+    unfolding wordNumberFrom same
     nth₆ = refl
 
     via-stands : getD places 6 0 ≡ length (replyAhead (statusText code) v₁ v₂ v₃ v₅ date)
@@ -317,7 +315,8 @@ module _ {s t : List ℕ} (a : Accepted s 1 t) (code : ℕ) (date : List ℕ) (o
         let w = where-is fields fields-few text (members text (objectOf text)) 6 (omega arith) once (value-at 6 (omega arith) (found₀ 6 (omega arith) (omega arith)) .0) in
         let z = nth-one fields 6 (w .n) 6 (membersOf text) (omega arith) once (w .nth) (subst (Nth fields 6 6) (sym (shown .read)) nth₆) in
         w .is ∙ ap (λ (n : ℕ). valueOf text (getD (members text (objectOf text)) n 0)) z ∙ ap (λ (o : ℕ). valueOf text (getD (members text o) 6 0)) (shown .object) ∙ shown .place
-        ∙ ahead-long (shown .ahead) (replyAhead (statusText code) v₁ v₂ v₃ v₅ date) (v₆ ++ (125 ∷ (93 ∷ []))) text (shown .parts) (reply-split (statusText code) v₁ v₂ v₃ v₅ date v₆)
+        ∙ ahead-long (shown .ahead) (replyAhead (statusText code) v₁ v₂ v₃ v₅ date) (v₆ ++ (125 ∷ (93 ∷ []))) text (shown .parts)
+        (reply-split (statusText code) v₁ v₂ v₃ v₅ date v₆)
 
     objects-by : (es : List ℕ) → elements s (getD t 6 0) ≡ es → objects text (getD places 6 0) ≡ objects s (getD t 6 0)
     objects-by [] e = absurd (omega (arith, via-some a, ap length e))
@@ -352,27 +351,33 @@ method-is : (s : List ℕ) (tag : ℕ) (t : List ℕ) (m : Message) → messageO
 unfolding messageOf settingOf
 method-is s tag t m e = sym (ap (λ (x : Message). x .method) e)
 
-text-of : (s t : List ℕ) (m : Message) (code : ℕ) (date : List ℕ) → messageOf s (settingOf s 1 t) t ≡ m → replyText (statusText code) (bytes s (getD t 1 0)) (bytes s (getD t 2 0)) (bytes s (getD t 3 0)) (bytes s (getD t 5 0)) date (bytes s (getD t 6 0)) ≡ replyOf s m code date
+text-of : (s t : List ℕ) (m : Message) (code : ℕ) (date : List ℕ) → messageOf s (settingOf s 1 t) t ≡ m
+    → replyText (statusText code) (bytes s (getD t 1 0)) (bytes s (getD t 2 0)) (bytes s (getD t 3 0)) (bytes s (getD t 5 0)) date (bytes s (getD t 6 0)) ≡ replyOf s m code date
 unfolding replyOf messageOf
 text-of s t m code date e = ap (λ (x : Message). replyOf s x code date) e
 
-replied-one : (s t : List ℕ) (m : Message) (code : ℕ) (date : List ℕ) → Accepted s 1 t → messageOf s (settingOf s 1 t) t ≡ m → wrongCode code (m .method) ≡ false → dateRule date ≡ true → length (replyOf s m code date) ≤ 32768 → ReadBack s m code date (replyOf s m code date)
+replied-one : (s t : List ℕ) (m : Message) (code : ℕ) (date : List ℕ) → Accepted s 1 t → messageOf s (settingOf s 1 t) t ≡ m → wrongCode code (m .method) ≡ false
+    → dateRule date ≡ true → length (replyOf s m code date) ≤ 32768 → ReadBack s m code date (replyOf s m code date)
 replied-one s t m code date a i c y l =
     let k = code-parts code (m .method) c in
     let fit : responseDisagrees code (methodOf s t) ≡ false = ap (responseDisagrees code) (sym (method-is s 1 t m i)) ∙ k .1 in
     subst (λ (x : Message). ReadBack s x code date (replyOf s x code date)) i (read-back-at a code date (k .0) y fit (omega (arith, ap length (text-of s t m code date i))))
 
-replied-at : (s t : List ℕ) (m : Message) (code : ℕ) (date : List ℕ) (tag : ℕ) → tag ≡ 1 → Accepted s tag t → messageOf s (settingOf s tag t) t ≡ m → wrongCode code (m .method) ≡ false → dateRule date ≡ true → length (replyOf s m code date) ≤ 32768 → ReadBack s m code date (replyOf s m code date)
+replied-at : (s t : List ℕ) (m : Message) (code : ℕ) (date : List ℕ) (tag : ℕ) → tag ≡ 1 → Accepted s tag t → messageOf s (settingOf s tag t) t ≡ m
+    → wrongCode code (m .method) ≡ false → dateRule date ≡ true → length (replyOf s m code date) ≤ 32768 → ReadBack s m code date (replyOf s m code date)
 replied-at s t m code date tag e =
-    subst (λ (n : ℕ). Accepted s n t → messageOf s (settingOf s n t) t ≡ m → wrongCode code (m .method) ≡ false → dateRule date ≡ true → length (replyOf s m code date) ≤ 32768 → ReadBack s m code date (replyOf s m code date)) (sym e) (replied-one s t m code date)
+    subst (λ (n : ℕ). Accepted s n t → messageOf s (settingOf s n t) t ≡ m → wrongCode code (m .method) ≡ false → dateRule date ≡ true → length (replyOf s m code date) ≤ 32768
+    → ReadBack s m code date (replyOf s m code date)) (sym e) (replied-one s t m code date)
 
 pub read-back-by : (s : List ℕ) (code : ℕ) (date w : List ℕ) (e : Replied s code date w) → length w ≤ 32768 → ReadBack s (e .m) code date w
 read-back-by s code date w e l =
     let a = read-taken s (e .m) (e .read) (omega (arith, e .request)) in
-    subst (λ (x : List ℕ). ReadBack s (e .m) code date x) (sym (e .is)) (replied-at s (a .t) (e .m) code date (e .m .tag) (e .request) (a .accepted) (a .is) (e .listed) (e .day) (omega (arith, ap length (e .is))))
+    subst (λ (x : List ℕ). ReadBack s (e .m) code date x) (sym (e .is))
+    (replied-at s (a .t) (e .m) code date (e .m .tag) (e .request) (a .accepted) (a .is) (e .listed) (e .day) (omega (arith, ap length (e .is))))
 
 -- THEOREM: what `reply` writes is read back
-pub reply-read-back : (s : List ℕ) (code : ℕ) (date : List ℕ) {o : List ℕ} {n : ℕ} {o′ : List ℕ} → Wrote o (replying s code date) (Done n) o′ → (m : Message) × ((reading s ≡ Read m) × ReadBack s m code date (take n o′))
+pub reply-read-back : (s : List ℕ) (code : ℕ) (date : List ℕ) {o : List ℕ} {n : ℕ} {o′ : List ℕ} → Writes o (replying s code date) (Done n) o′
+    → (m : Message) × ((reading s ≡ Read m) × ReadBack s m code date (take n o′))
 reply-read-back s code date {o} {n} {o′} w =
     let x = stood w in
     let e = was-replied s code date (x .w) (x .is) in
@@ -385,21 +390,26 @@ one-read s a b e f = inside (sym e ∙ f)
     inside : {a b : Message} → Read a ≡ Read b → a ≡ b
     inside e = cc
 
-undone-at : {s t : List ℕ} {tag : ℕ} (a : Accepted s tag t) (p q z : List ℕ) → Piece 5 z → (es : List ℕ) → elements s (getD t 6 0) ≡ es → removed (p ++ (added (bytes s (getD t 6 0)) 0 z ++ q)) (length p) ≡ p ++ (bytes s (getD t 6 0) ++ q)
+undone-at : {s t : List ℕ} {tag : ℕ} (a : Accepted s tag t) (p q z : List ℕ) → Piece 5 z → (es : List ℕ) → elements s (getD t 6 0) ≡ es
+    → removed (p ++ (added (bytes s (getD t 6 0)) 0 z ++ q)) (length p) ≡ p ++ (bytes s (getD t 6 0) ++ q)
 undone-at {s} {t} a p q z g [] e = absurd (omega (arith, via-some a, ap length e))
-undone-at {s} {t} a p q z g (x ∷ xs) e = copied-undone s (shape a .x) (shape a .y) (via-where a .n) (getD t 6 0) (via-member a) x xs (opens a) e (all-open 5 s (elements s (getD t 6 0)) (stand a)) p q z g
+undone-at {s} {t} a p q z g (x ∷ xs) e = copied-undone s (shape a .x) (shape a .y) (via-where a .n) (getD t 6 0) (via-member a) x xs (opens a) e
+    (all-open 5 s (elements s (getD t 6 0)) (stand a)) p q z g
 
 via-is : (s : List ℕ) (tag : ℕ) (t : List ℕ) (m : Message) → messageOf s (settingOf s tag t) t ≡ m → getD t 6 0 ≡ m .via
 unfolding messageOf
 via-is s tag t m e = ap (λ (x : Message). x .via) e
 
-undone : (s : List ℕ) (m : Message) → reading s ≡ Read m → m .tag ≤ 2 → (p q z : List ℕ) → Piece 5 z → removed (p ++ (added (bytes s (m .via)) 0 z ++ q)) (length p) ≡ p ++ (bytes s (m .via) ++ q)
+undone : (s : List ℕ) (m : Message) → reading s ≡ Read m → m .tag ≤ 2 → (p q z : List ℕ) → Piece 5 z
+    → removed (p ++ (added (bytes s (m .via)) 0 z ++ q)) (length p) ≡ p ++ (bytes s (m .via) ++ q)
 undone s m e l p q z g =
     let a = read-taken s m e l in
-    subst (λ (o : ℕ). removed (p ++ (added (bytes s o) 0 z ++ q)) (length p) ≡ p ++ (bytes s o ++ q)) (via-is s (m .tag) (a .t) m (a .is)) (undone-at (a .accepted) p q z g (elements s (getD (a .t) 6 0)) refl)
+    subst (λ (o : ℕ). removed (p ++ (added (bytes s o) 0 z ++ q)) (length p) ≡ p ++ (bytes s o ++ q)) (via-is s (m .tag) (a .t) m (a .is))
+    (undone-at (a .accepted) p q z g (elements s (getD (a .t) 6 0)) refl)
 
 -- THEOREM: where nothing is refused, the reply to a forwarded request, less our entry, is the reply to the original, byte for byte
-pub reply-less-ours : (s h d g : List ℕ) (code : ℕ) (date s′ w′ w w₀ : List ℕ) → adding s h d g ≡ write s′ → length s′ ≤ 32768 → replying s′ code date ≡ write w′ → length w′ ≤ 32768 → removing w′ h d g ≡ write w → replying s code date ≡ write w₀ → w ≡ w₀
+pub reply-less-ours : (s h d g : List ℕ) (code : ℕ) (date s′ w′ w w₀ : List ℕ) → adding s h d g ≡ write s′ → length s′ ≤ 32768 → replying s′ code date ≡ write w′
+    → length w′ ≤ 32768 → removing w′ h d g ≡ write w → replying s code date ≡ write w₀ → w ≡ w₀
 unfolding replyOf
 reply-less-ours s h d g code date s′ w′ w w₀ e₁ l₁ e₂ l₂ e₃ e₄ =
     let a = was-added s h d g s′ e₁ in
@@ -415,15 +425,23 @@ reply-less-ours s h d g code date s′ w′ w w₀ e₁ l₁ e₂ l₂ e₃ e₄
     let n = f .edited .message in
     let p = replyAhead (statusText code) (bytes s (m .cseq)) (bytes s (m .to)) (bytes s (m .from)) (bytes s (m .call)) date in
     let q : List ℕ = 125 ∷ (93 ∷ []) in
-    let ahead : replyAhead (statusText code) (bytes s′ (b .m .cseq)) (bytes s′ (b .m .to)) (bytes s′ (b .m .from)) (bytes s′ (b .m .call)) date ≡ p = ap (λ (j : Message). replyAhead (statusText code) (bytes s′ (j .cseq)) (bytes s′ (j .to)) (bytes s′ (j .from)) (bytes s′ (j .call)) date) x ∙ rw (f .edited .values .cseq, f .edited .values .to, f .edited .values .from, f .edited .values .call) in
+    let ahead : replyAhead (statusText code) (bytes s′ (b .m .cseq)) (bytes s′ (b .m .to)) (bytes s′ (b .m .from)) (bytes s′ (b .m .call)) date ≡ p = ap
+    (λ (j : Message). replyAhead (statusText code) (bytes s′ (j .cseq)) (bytes s′ (j .to)) (bytes s′ (j .from)) (bytes s′ (j .call)) date) x
+    ∙ rw (f .edited .values .cseq, f .edited .values .to, f .edited .values .from, f .edited .values .call) in
     let via : bytes s′ (b .m .via) ≡ added (bytes s (m .via)) 0 (entry h d g) = ap (λ (j : Message). bytes s′ (j .via)) x ∙ ap (bytes s′) (f .edited .via) ∙ f .edited .there in
-    let text : w′ ≡ p ++ (added (bytes s (m .via)) 0 (entry h d g) ++ q) = b .is ∙ sym (reply-split (statusText code) (bytes s′ (b .m .cseq)) (bytes s′ (b .m .to)) (bytes s′ (b .m .from)) (bytes s′ (b .m .call)) date (bytes s′ (b .m .via))) ∙ ap (λ (l : List ℕ). l ++ (bytes s′ (b .m .via) ++ q)) ahead ∙ ap (λ (l : List ℕ). p ++ (l ++ q)) via in
+    let text : w′ ≡ p ++ (added (bytes s (m .via)) 0 (entry h d g) ++ q) = b .is
+    ∙ sym (reply-split (statusText code) (bytes s′ (b .m .cseq)) (bytes s′ (b .m .to)) (bytes s′ (b .m .from)) (bytes s′ (b .m .call)) date (bytes s′ (b .m .via)))
+    ∙ ap (λ (l : List ℕ). l ++ (bytes s′ (b .m .via) ++ q)) ahead ∙ ap (λ (l : List ℕ). p ++ (l ++ q)) via in
     let place : c .m .via ≡ length p = ap (λ (j : Message). j .via) y ∙ r .place ∙ ap length ahead in
-    c .is ∙ ap (removed w′) place ∙ ap (λ (l : List ℕ). removed l (length p)) text ∙ undone s m (a .read) (omega (arith, a .request)) p q (entry h d g) (entry-piece h d g (a .path))
-    ∙ reply-split (statusText code) (bytes s (m .cseq)) (bytes s (m .to)) (bytes s (m .from)) (bytes s (m .call)) date (bytes s (m .via)) ∙ sym (k .is ∙ ap (λ (j : Message). replyOf s j code date) v)
+    c .is ∙ ap (removed w′) place ∙ ap (λ (l : List ℕ). removed l (length p)) text
+    ∙ undone s m (a .read) (omega (arith, a .request)) p q (entry h d g) (entry-piece h d g (a .path))
+    ∙ reply-split (statusText code) (bytes s (m .cseq)) (bytes s (m .to)) (bytes s (m .from)) (bytes s (m .call)) date (bytes s (m .via))
+    ∙ sym (k .is ∙ ap (λ (j : Message). replyOf s j code date) v)
 
 -- the same of what the functions write
-pub returned-reply : (s h d g : List ℕ) (code : ℕ) (date : List ℕ) {o₁ o₂ o₃ o₄ : List ℕ} {n₁ n₂ n₃ n₄ a e : ℕ} {p₁ p₂ p₃ p₄ : List ℕ} → Wrote o₁ (adding s h d g) (Done n₁) p₁ → Wrote o₂ (replying (take n₁ p₁) code date) (Done n₂) p₂ → Took o₃ (hostIn (reading (take n₂ p₂))) (removing (take n₂ p₂) h d g) (removals.Done n₃ a e) p₃ → Wrote o₄ (replying s code date) (Done n₄) p₄ → take n₃ p₃ ≡ take n₄ p₄
+pub returned-reply : (s h d g : List ℕ) (code : ℕ) (date : List ℕ) {o₁ o₂ o₃ o₄ : List ℕ} {n₁ n₂ n₃ n₄ a e : ℕ} {p₁ p₂ p₃ p₄ : List ℕ} → Writes o₁ (adding s h d g) (Done n₁) p₁
+    → Writes o₂ (replying (take n₁ p₁) code date) (Done n₂) p₂ → Took o₃ (hostIn (reading (take n₂ p₂))) (removing (take n₂ p₂) h d g) (removals.Done n₃ a e) p₃
+    → Writes o₄ (replying s code date) (Done n₄) p₄ → take n₃ p₃ ≡ take n₄ p₄
 returned-reply s h d g code date {o₁} {o₂} {o₃} {o₄} {n₁} {n₂} {n₃} {n₄} {a} {e} {p₁} {p₂} {p₃} {p₄} w₁ w₂ w₃ w₄ =
     let x₁ = written-front w₁ in
     let x₂ = written-front w₂ in
@@ -432,7 +450,8 @@ returned-reply s h d g code date {o₁} {o₂} {o₃} {o₄} {n₁} {n₂} {n₃
     reply-less-ours s h d g code date (take n₁ p₁) (take n₂ p₂) (take n₃ p₃) (take n₄ p₄) (x₁ .0) (x₁ .1) (x₂ .0) (x₂ .1) (x₃ .0) (x₄ .0)
 
 -- THEOREM: a writer of one fixed text is shut out: one text is the reply to requests with the same values only, and with one code
-pub reply-tells : {s : List ℕ} {m : Message} {code : ℕ} {date w s₂ : List ℕ} {m₂ : Message} {code₂ : ℕ} {date₂ : List ℕ} → ReadBack s m code date w → ReadBack s₂ m₂ code₂ date₂ w → SameValues s m s₂ m₂ × ((bytes s₂ (m₂ .via) ≡ bytes s (m .via)) × (code₂ ≡ code))
+pub reply-tells : {s : List ℕ} {m : Message} {code : ℕ} {date w s₂ : List ℕ} {m₂ : Message} {code₂ : ℕ} {date₂ : List ℕ} → ReadBack s m code date w → ReadBack s₂ m₂ code₂ date₂ w
+    → SameValues s m s₂ m₂ × ((bytes s₂ (m₂ .via) ≡ bytes s (m .via)) × (code₂ ≡ code))
 reply-tells {s} {m} {code} {date} {w} a b =
     let e : b .message ≡ a .message = one-read w (b .message) (a .message) (b .read) (a .read) in (
       record {

@@ -4,13 +4,13 @@ use Rattle.frame.specs.Edit.{added, removed}
 use Rattle.json.specs.Places.{bytes}
 use Rattle.message.specs.Reading.{reading}
 use Rattle.message.specs.declared.facts.Message.{Message}
-use Rattle.message.specs.declared.facts.Span.{Span}
+use Rattle.fields.specs.declared.spans.Span.{Span}
 use Rattle.message.specs.declared.reading.Reading.the-variants as readings
 use Rattle.rules.specs.Date.{dateRule}
 use Rattle.rules.specs.Status.{statusText}
-use Rattle.writing.proofs.RouteLaws.{Passed}
+use Rattle.writing.proofs.TrailLaws.{Passed}
 use Rattle.writing.specs.Adding.{entry, pathRule, addTo, adding}
-use Rattle.writing.specs.Outcome.{Outcome, refuse, write, Wrote}
+use Rattle.writing.specs.Outcome.{Outcome, refuse, write, Writes}
 use Rattle.writing.specs.Removing.{removeFrom, removing, hostIn, Took}
 use Rattle.writing.specs.Reply.{replyOf, replyText, unanswered, wrongCode, replyTo, replying}
 use Rattle.writing.specs.Objects.{objects, isOurs, some}
@@ -27,10 +27,10 @@ use mathlib.Core.List.{List, _∷_, _++_}
 use mathlib.Core.Path.{_≡_, _∙_}
 
 -- what is refused leaves the output
-pub refused-as : (o : List ℕ) (r : Refusal) {x : Outcome} → x ≡ refuse r → Wrote o x (writings.Refused r) o
+pub refused-as : (o : List ℕ) (r : Refusal) {x : Outcome} → x ≡ refuse r → Writes o x (writings.Refused r) o
 refused-as o r e = record { answer = rw e; output = rw e }
 
-pub wrote-as : {o : List ℕ} {x y : Outcome} {r : Written} {o′ : List ℕ} → x ≡ y → Wrote o y r o′ → Wrote o x r o′
+pub wrote-as : {o : List ℕ} {x y : Outcome} {r : Written} {o′ : List ℕ} → x ≡ y → Writes o y r o′ → Writes o x r o′
 wrote-as e w = record { answer = w .answer ∙ rw e; output = w .output ∙ rw e }
 
 -- the reply
@@ -49,7 +49,8 @@ module _ (s : List ℕ) (m : Message) (code : ℕ) (date : List ℕ) where
       unfolding replyTo
       bad-date e = rw (a, b, e)
 
-      pub a-reply : dateRule date ≡ true → {cseq to from call via : List ℕ} → cseq ≡ bytes s (m .cseq) → to ≡ bytes s (m .to) → from ≡ bytes s (m .from) → call ≡ bytes s (m .call) → via ≡ bytes s (m .via) → replyTo s m code date ≡ write (replyText (statusText code) cseq to from call date via)
+      pub a-reply : dateRule date ≡ true → {cseq to from call via : List ℕ} → cseq ≡ bytes s (m .cseq) → to ≡ bytes s (m .to) → from ≡ bytes s (m .from) → call ≡ bytes s (m .call)
+          → via ≡ bytes s (m .via) → replyTo s m code date ≡ write (replyText (statusText code) cseq to from call date via)
       unfolding replyTo replyOf
       a-reply e f₁ f₂ f₃ f₄ f₅ = rw (a, b, e, f₁, f₂, f₃, f₄, f₅)
 
@@ -68,18 +69,19 @@ module _ (s : List ℕ) (m : Message) (host destination organization : List ℕ)
   no-adding ne = rw (ne-eqb (m .tag) 1 ne)
 
   module _ (a : m .tag ≡ 1) {met : Bool} (f : met ≡ some (isOurs host destination) (objects s (m .via))) where
-    pub on-route : met ≡ true → addTo s m host destination organization ≡ refuse Loop
+    pub on-trail : met ≡ true → addTo s m host destination organization ≡ refuse Loop
     unfolding addTo
-    on-route e = rw (eq-eqb (m .tag) 1 a, ← f, e)
+    on-trail e = rw (eq-eqb (m .tag) 1 a, ← f, e)
 
-    module _ (b : met ≡ false) (w : Passed s (m .via) (m .route)) where
-      pub sixteen : m .route .count ≡ 16 → addTo s m host destination organization ≡ refuse Full
+    module _ (b : met ≡ false) (w : Passed s (m .via) (m .trail)) where
+      pub sixteen : m .trail .count ≡ 16 → addTo s m host destination organization ≡ refuse Full
       unfolding addTo
-      sixteen e = rw (eq-eqb (m .tag) 1 a, ← f, b, ← (w .count), eq-eqb (m .route .count) 16 e)
+      sixteen e = rw (eq-eqb (m .tag) 1 a, ← f, b, ← (w .count), eq-eqb (m .trail .count) 16 e)
 
-      pub an-adding : (m .route .count ≡ 16 → ⊥) → addTo s m host destination organization ≡ write (take (m .route .end) s ++ ((44 ∷ entry host destination organization) ++ drop (m .route .end) s))
+      pub an-adding : (m .trail .count ≡ 16 → ⊥)
+          → addTo s m host destination organization ≡ write (take (m .trail .end) s ++ ((44 ∷ entry host destination organization) ++ drop (m .trail .end) s))
       unfolding addTo added
-      an-adding ne = rw (eq-eqb (m .tag) 1 a, ← f, b, ← (w .count), ne-eqb (m .route .count) 16 ne, ← (w .end))
+      an-adding ne = rw (eq-eqb (m .tag) 1 a, ← f, b, ← (w .count), ne-eqb (m .trail .count) 16 ne, ← (w .end))
 
 module _ (s host destination organization : List ℕ) where
   pub bad-path : pathRule host destination organization ≡ false → adding s host destination organization ≡ refuse Path
@@ -107,25 +109,27 @@ module _ (s : List ℕ) (m : Message) (host destination : List ℕ) where
   unfolding removeFrom
   no-removing ne = rw (ne-eqb (m .tag) 2 ne)
 
-  module _ (a : m .tag ≡ 2) (w : Passed s (m .via) (m .route)) where
-    pub too-few : m .route .count < 2 → removeFrom s m host destination ≡ refuse Few
+  module _ (a : m .tag ≡ 2) (w : Passed s (m .via) (m .trail)) where
+    pub too-few : m .trail .count < 2 → removeFrom s m host destination ≡ refuse Few
     unfolding removeFrom
-    too-few h = rw (eq-eqb (m .tag) 2 a, ← (w .count), lt-ltb (m .route .count) 2 h)
+    too-few h = rw (eq-eqb (m .tag) 2 a, ← (w .count), lt-ltb (m .trail .count) 2 h)
 
-    module _ (b : 2 ≤ m .route .count) {x : List ℕ} (f : x ≡ bytes s (m .route .last)) where
+    module _ (b : 2 ≤ m .trail .count) {x : List ℕ} (f : x ≡ bytes s (m .trail .last)) where
       pub not-ours : isOurs host destination x ≡ false → removeFrom s m host destination ≡ refuse Foreign
       unfolding removeFrom
-      not-ours e = rw (eq-eqb (m .tag) 2 a, ← (w .count), le-ltb (m .route .count) 2 b, ← (w .last), ← f, e)
+      not-ours e = rw (eq-eqb (m .tag) 2 a, ← (w .count), le-ltb (m .trail .count) 2 b, ← (w .last), ← f, e)
 
       module _ (e : isOurs host destination x ≡ true) where
-        a-removing : removeFrom s m host destination ≡ write (take (m .route .seam) s ++ drop (m .route .end) s)
+        a-removing : removeFrom s m host destination ≡ write (take (m .trail .seam) s ++ drop (m .trail .end) s)
         unfolding removeFrom removed
-        a-removing = rw (eq-eqb (m .tag) 2 a, ← (w .count), le-ltb (m .route .count) 2 b, ← (w .last), ← f, e, ← (w .seam b), ← (w .end))
+        a-removing = rw (eq-eqb (m .tag) 2 a, ← (w .count), le-ltb (m .trail .count) 2 b, ← (w .last), ← f, e, ← (w .seam b), ← (w .end))
 
-        pub took-done : {o : List ℕ} {n : ℕ} {z : Written} {o′ : List ℕ} → z ≡ writings.Done n → Wrote o (write (take (m .route .seam) s ++ drop (m .route .end) s)) z o′ → Took o (m .route .host) (removeFrom s m host destination) (removals.Done n (m .route .host .start) (m .route .host .end)) o′
+        pub took-done : {o : List ℕ} {n : ℕ} {z : Written} {o′ : List ℕ} → z ≡ writings.Done n → Writes o (write (take (m .trail .seam) s ++ drop (m .trail .end) s)) z o′
+            → Took o (m .trail .host) (removeFrom s m host destination) (removals.Done n (m .trail .host .start) (m .trail .host .end)) o′
         took-done i g = record { answer = rw (a-removing, ← (g .answer), i); output = g .output ∙ rw a-removing }
 
-        pub took-not : {o : List ℕ} {y : Refusal} {z : Written} {o′ : List ℕ} → z ≡ writings.Refused y → Wrote o (write (take (m .route .seam) s ++ drop (m .route .end) s)) z o′ → Took o (m .route .host) (removeFrom s m host destination) (removals.Refused y) o′
+        pub took-not : {o : List ℕ} {y : Refusal} {z : Written} {o′ : List ℕ} → z ≡ writings.Refused y → Writes o (write (take (m .trail .seam) s ++ drop (m .trail .end) s)) z o′
+            → Took o (m .trail .host) (removeFrom s m host destination) (removals.Refused y) o′
         took-not i g = record { answer = rw (a-removing, ← (g .answer), i); output = g .output ∙ rw a-removing }
 
 module _ (s host destination organization : List ℕ) where
@@ -142,5 +146,5 @@ module _ (s host destination organization : List ℕ) where
     unfolding removing
     remove-of m e = rw (k, e)
 
-pub host-of : (s : List ℕ) (m : Message) → reading s ≡ readings.Read m → hostIn (reading s) ≡ m .route .host
+pub host-of : (s : List ℕ) (m : Message) → reading s ≡ readings.Read m → hostIn (reading s) ≡ m .trail .host
 host-of s m e = rw e

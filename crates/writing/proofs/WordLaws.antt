@@ -1,11 +1,12 @@
 -- Dates and the status texts are plain; a status text keeps the rule of Status, with its own code. Assumes nothing.
 use Prim.Native.Nat.{ℕ, zero, suc, _+_, _<_}
-use Rattle.octets.proofs.TextLaws.{and-parts, same-eq}
+use Rattle.octets.proofs.TextLaws.{same-eq}
+use Rattle.octets.proofs.TestLaws.{and-parts}
 use Rattle.octets.specs.Class.{all, among, isDigit}
 use Rattle.octets.specs.Text.{same, standsAt}
 use Rattle.rules.specs.Date.{date, daysIn, dateRule}
 use Rattle.rules.specs.Pieces as pieces
-use Rattle.rules.specs.Pieces.{Piece, fixed, run, number, count, word, free, digits, value, reads}
+use Rattle.rules.specs.Pieces.{Piece, fixed, run, number, count, word, free, digits, decimalAt, reads}
 use Rattle.rules.specs.Status.{codes, texts, onward, indexIn, listed, statusText, statusRule, statusOf}
 use Rattle.rules.specs.declared.statuses.Status.the-variants.{Code}
 use Rattle.writing.proofs.PlainLaws.{PlainByte, Plain, digit-plain}
@@ -61,7 +62,8 @@ digits-plain zero s at e h = let z : at + 0 ≡ at = omega arith in subst (λ (k
 digits-plain (suc n) s at e h =
     let p = and-parts (digits n s at) (isDigit (getD s (at + n) 0)) e in
     let z : at + suc n ≡ suc (at + n) = omega arith in
-    digits-plain n s at (p .0) (subst Plain (sym (drop-cons s (at + n) 0 (digit-there s (at + n) (p .1)))) (digit-plain (getD s (at + n) 0) (p .1), subst (λ (k : ℕ). Plain (drop k s)) z h))
+    digits-plain n s at (p .0) (subst Plain (sym (drop-cons s (at + n) 0 (digit-there s (at + n) (p .1))))
+    (digit-plain (getD s (at + n) 0) (p .1), subst (λ (k : ℕ). Plain (drop k s)) z h))
 
 take-rest : (n : ℕ) (l : List ℕ) → l ≡ take n l ++ drop n l
 take-rest zero l = refl
@@ -72,18 +74,19 @@ fixed-plain : (w s : List ℕ) (at : ℕ) → standsAt s at w ≡ true → Plain
 unfolding standsAt
 fixed-plain w s at e p h =
     let q = same-eq (take (length w) (drop at s)) w e in
-    subst Plain (sym (take-rest (length w) (drop at s))) (plain-append (take (length w) (drop at s)) (drop (length w) (drop at s)) (subst Plain (sym q) p) (subst Plain (sym (drop-drop (length w) at s)) h))
+    subst Plain (sym (take-rest (length w) (drop at s)))
+    (plain-append (take (length w) (drop at s)) (drop (length w) (drop at s)) (subst Plain (sym q) p) (subst Plain (sym (drop-drop (length w) at s)) h))
 
 reads-plain : (ps : List Piece) (s : List ℕ) (at : ℕ) → Plainly ps → reads ps s at ≡ true → Plain (drop at s)
-unfolding reads pieces.keeps pieces.behind
+unfolding reads pieces.hasPiece pieces.behind
 reads-plain [] s at p e = let z = eqb-true at (length s) e in subst Plain (sym (drop-of-length-le s {i = at} (omega arith))) tt
 reads-plain (fixed w ∷ ps) s at p e =
     let q = and-parts (standsAt s at w) (reads ps s (at + length w)) e in
     fixed-plain w s at (q .0) (p .0) (reads-plain ps s (at + length w) (p .1) (q .1))
 reads-plain (run lo hi c d ∷ ps) s at p e = absurd p
 reads-plain (number n lo hi ∷ ps) s at p e =
-    let q = and-parts (digits n s at && among lo hi (value n s at)) (reads ps s (at + n)) e in
-    digits-plain n s at (and-parts (digits n s at) (among lo hi (value n s at)) (q .0) .0) (reads-plain ps s (at + n) p (q .1))
+    let q = and-parts (digits n s at && among lo hi (decimalAt n s at)) (reads ps s (at + n)) e in
+    digits-plain n s at (and-parts (digits n s at) (among lo hi (decimalAt n s at)) (q .0) .0) (reads-plain ps s (at + n) p (q .1))
 reads-plain (count hi ∷ ps) s at p e = absurd p
 reads-plain (word ws ∷ ps) s at p e = absurd p
 reads-plain (free ∷ ps) s at p e = absurd p
@@ -95,7 +98,7 @@ date-plain s e =
     let c = plain-test 58 refl in
     let t = plain-test 84 refl in
     let z = plain-test 43 refl in
-    reads-plain (date (daysIn (value 4 s 0) (value 2 s 5))) s 0 ((m, tt), ((m, tt), ((t, tt), ((c, tt), ((c, tt), ((z, tt), tt)))))) e
+    reads-plain (date (daysIn (decimalAt 4 s 0) (decimalAt 2 s 5))) s 0 ((m, tt), ((m, tt), ((t, tt), ((c, tt), ((c, tt), ((z, tt), tt)))))) e
 
 -- The status texts, by tests over their table.
 unfoldable allOf : (List ℕ → Bool) → List (List ℕ) → Bool
@@ -118,7 +121,7 @@ status-plain code = plain-tests (getD texts (indexIn codes code) []) (one-of (al
 
 -- the text of the i-th code keeps its rule, with that code
 rightAt : List ℕ → ℕ → Bool
-rightAt x c = statusRule x && eqb (value 3 x 0) c
+rightAt x c = statusRule x && eqb (decimalAt 3 x 0) c
 
 unfoldable rightAll : List (List ℕ) → List ℕ → Bool
 rightAll [] cs = true
@@ -133,7 +136,7 @@ right-at (x ∷ xs) (c ∷ cs) zero e h = and-parts (rightAt x c) (rightAll xs c
 right-at (x ∷ xs) (c ∷ cs) (suc i) e h = right-at xs cs i (and-parts (rightAt x c) (rightAll xs cs) e .1) (omega arith)
 
 all-right : rightAll texts codes ≡ true
-unfolding rightAll rightAt statusRule reads pieces.keeps pieces.behind digits value standsAt same among isDigit
+unfolding rightAll rightAt statusRule reads pieces.hasPiece pieces.behind digits decimalAt standsAt same among isDigit
 all-right = refl
 
 index-is : (cs : List ℕ) (c : ℕ) → indexIn cs c < length cs → getD cs (indexIn cs c) 0 ≡ c
@@ -141,16 +144,17 @@ unfolding indexIn
 index-is [] c h = absurd (omega arith)
 index-is (x ∷ cs) c h = by (eqb x c) refl (λ g. index-is cs c g) h
   where
-    by : (b : Bool) → eqb x c ≡ b → (indexIn cs c < length cs → getD cs (indexIn cs c) 0 ≡ c) → onward b (indexIn cs c) < suc (length cs) → getD (x ∷ cs) (onward b (indexIn cs c)) 0 ≡ c
+    by : (b : Bool) → eqb x c ≡ b → (indexIn cs c < length cs → getD cs (indexIn cs c) 0 ≡ c) → onward b (indexIn cs c) < suc (length cs)
+        → getD (x ∷ cs) (onward b (indexIn cs c)) 0 ≡ c
     by true e f h = eqb-true x c e
     by false e f h = f (omega arith)
 
-status-right : (code : ℕ) → listed code ≡ true → (statusRule (statusText code) ≡ true) × (value 3 (statusText code) 0 ≡ code)
+status-right : (code : ℕ) → listed code ≡ true → (statusRule (statusText code) ≡ true) × (decimalAt 3 (statusText code) 0 ≡ code)
 unfolding statusText listed rightAt
 status-right code e =
     let h = ltb-true (indexIn codes code) 14 e in
     let r = right-at texts codes (indexIn codes code) all-right h in
-    let p = and-parts (statusRule (getD texts (indexIn codes code) [])) (eqb (value 3 (getD texts (indexIn codes code) []) 0) (getD codes (indexIn codes code) 0)) r in
+    let p = and-parts (statusRule (getD texts (indexIn codes code) [])) (eqb (decimalAt 3 (getD texts (indexIn codes code) []) 0) (getD codes (indexIn codes code) 0)) r in
     (p .0, eqb-true _ _ (p .1) ∙ index-is codes code h)
 
 pub status-kept : (code : ℕ) → listed code ≡ true → statusRule (statusText code) ≡ true

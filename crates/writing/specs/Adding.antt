@@ -6,12 +6,12 @@ use Rattle.message.specs.Reading.{reading}
 use Rattle.message.specs.declared.facts.Message.{Message}
 use Rattle.octets.specs.Ascii.{ascii}
 use Rattle.rules.specs.Texts.{hostRule, destinationRule, organizationRule}
-use Rattle.writing.specs.Outcome.{Outcome, refuse, write, choose, onRead}
+use Rattle.writing.specs.Outcome.{Outcome, refuse, write, onRead}
 use Rattle.writing.specs.Objects.{objects, isOurs, some}
 use Rattle.writing.specs.declared.answers.Refusal.the-variants.{Path, Kind, Loop, Full}
 use lib.Dec.{eqb}
 use lib.ListN.{length}
-use mathlib.Core.Bool.{Bool, not, _&&_}
+use mathlib.Core.Bool.{Bool, not, _&&_, cond}
 use mathlib.Core.List.{List, _++_}
 
 -- our entry: `{"host":"H","destination":"D","organization":"O"}`; a comma stands before it
@@ -32,12 +32,12 @@ pathRule host destination organization = hostRule host && (destinationRule desti
 -- 30 (not a request), 34 (our host and destination in one Via object), 35 (sixteen objects), and the entry right after the last Via object
 unfoldable pub addTo : List ℕ → Message → List ℕ → List ℕ → List ℕ → Outcome
 addTo s m host destination organization =
-    choose (not (eqb (m .tag) 1)) (refuse Kind)
-    (choose (some (isOurs host destination) (objects s (m .via))) (refuse Loop)
-    (choose (eqb (length (elements s (m .via))) 16) (refuse Full)
+    cond (not (eqb (m .tag) 1)) (refuse Kind)
+    (cond (some (isOurs host destination) (objects s (m .via))) (refuse Loop)
+    (cond (eqb (length (elements s (m .via))) 16) (refuse Full)
     (write (added s (m .via) (entry host destination organization)))))
 
 unfoldable pub adding : List ℕ → List ℕ → List ℕ → List ℕ → Outcome
 adding s host destination organization =
-    choose (not (pathRule host destination organization)) (refuse Path)
+    cond (not (pathRule host destination organization)) (refuse Path)
     (onRead (reading s) (λ m. addTo s m host destination organization))

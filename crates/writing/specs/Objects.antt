@@ -2,7 +2,7 @@
 -- `some`. Assumes nothing.
 use Prim.Native.Nat.{ℕ}
 use Rattle.json.specs.Places.{bytes, elements}
-use Rattle.message.specs.Hop.{hostOf, destinationOf}
+use Rattle.fields.specs.Hop.{hostOf, destinationOf}
 use Rattle.octets.specs.Text.{same}
 use mathlib.Core.Bool.{Bool, false, _&&_, _||_}
 use mathlib.Core.List.{List, [], _∷_, map}

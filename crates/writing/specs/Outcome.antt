@@ -2,7 +2,6 @@
 -- output after it. Cited by the contracts of the entries and of what they
 -- write with. Assumes nothing.
 use Prim.Native.Nat.{ℕ}
-use Rattle.json.specs.Places.{pickL}
 use Rattle.message.specs.declared.facts.Message.{Message}
 use Rattle.message.specs.declared.reading.Reading.the-variants as readings
 use Rattle.message.specs.declared.reading.Reading.{Reading}
@@ -13,35 +12,27 @@ use Rattle.writing.specs.declared.answers.Written.the-variants.{Done, Re
 use Rattle.writing.specs.declared.answers.Written.{Written}
 use lib.Dec.{leb, ltb}
 use lib.ListN.{length}
-use mathlib.Core.Bool.{Bool, true, false, _&&_}
+use mathlib.Core.Bool.{Bool, true, false, _&&_, cond}
 use mathlib.Core.List.{List}
 use mathlib.Core.Path.{_≡_}
 
 -- the paper's number of a refusal
-abbrev pub numberOf : Refusal → ℕ
-numberOf Path = 38
-numberOf Kind = 30
-numberOf Code = 31
-numberOf Date = 32
-numberOf Loop = 34
-numberOf Full = 35
-numberOf Few = 37
-numberOf Foreign = 36
-numberOf Long = 39
-numberOf Room = 33
+abbrev pub writingNumber : Refusal → ℕ
+writingNumber Path = 38
+writingNumber Kind = 30
+writingNumber Code = 31
+writingNumber Date = 32
+writingNumber Loop = 34
+writingNumber Full = 35
+writingNumber Few = 37
+writingNumber Foreign = 36
+writingNumber Long = 39
+writingNumber Room = 33
 
 -- what the rules say before the result's length counts: a refusal, or the result
 pub data Outcome : Type 0 where
   refuse : Refusal → Outcome
   write : List ℕ → Outcome
-
-abbrev pub choose : Bool → Outcome → Outcome → Outcome
-choose true a b = a
-choose false a b = b
-
-abbrev pub either : Bool → Written → Written → Written
-either true a b = a
-either false a b = b
 
 -- 30: what is not accepted by the reading is refused; else f of what is read
 abbrev pub onRead : Reading → (Message → Outcome) → Outcome
@@ -50,7 +41,7 @@ onRead (readings.Read m) f = f m
 
 -- into an output of so many bytes: 39, the result is over 32,768; 33, the output is shorter than the result; or done
 unfoldable pub fitted : ℕ → List ℕ → Written
-fitted room w = either (ltb 32768 (length w)) (Refused Long) (either (ltb room (length w)) (Refused Room) (Done (length w)))
+fitted room w = cond (ltb 32768 (length w)) (Refused Long) (cond (ltb room (length w)) (Refused Room) (Done (length w)))
 
 -- the answer
 abbrev pub answered : ℕ → Outcome → Written
@@ -59,7 +50,7 @@ answered room (write w) = fitted room w
 
 -- the output with the result at its front, if it fits; bytes past the result stay
 unfoldable pub put : List ℕ → List ℕ → List ℕ
-put o w = pickL (leb (length w) 32768 && leb (length w) (length o)) (written o w) o
+put o w = cond (leb (length w) 32768 && leb (length w) (length o)) (written o w) o
 
 -- the output after: on refusal it is as it was
 abbrev pub left : List ℕ → Outcome → List ℕ
@@ -67,6 +58,6 @@ left o (refuse r) = o
 left o (write w) = put o w
 
 -- answer and output of a writing into o
-pub record Wrote (o : List ℕ) (x : Outcome) (r : Written) (o′ : List ℕ) : Type 0 where
+pub record Writes (o : List ℕ) (x : Outcome) (r : Written) (o′ : List ℕ) : Type 0 where
   pub answer : r ≡ answered (length o) x
   pub output : o′ ≡ left o x

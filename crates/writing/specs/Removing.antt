@@ -2,16 +2,15 @@
 -- `next_hop` `nextHop`. Assumes nothing.
 use Prim.Native.Nat.{ℕ}
 use Rattle.frame.specs.Edit.{removed}
-use Rattle.json.specs.Ends.{lastOf}
-use Rattle.json.specs.Places.{bytes, elements, part}
+use Rattle.json.specs.Places.{bytes, elements, part, lastOf}
 use Rattle.message.specs.Reading.{reading}
-use Rattle.message.specs.Spans.{nowhere}
+use Rattle.fields.specs.Spans.{nowhere}
 use Rattle.message.specs.declared.facts.Message.{Message}
-use Rattle.message.specs.declared.facts.Span.{Span}
+use Rattle.fields.specs.declared.spans.Span.{Span}
 use Rattle.message.specs.declared.reading.Reading.the-variants as readings
 use Rattle.message.specs.declared.reading.Reading.{Reading}
 use Rattle.writing.specs.Adding.{pathRule}
-use Rattle.writing.specs.Outcome.{Outcome, refuse, write, choose, onRead, answered, left}
+use Rattle.writing.specs.Outcome.{Outcome, refuse, write, onRead, answered, left}
 use Rattle.writing.specs.Objects.{isOurs}
 use Rattle.writing.specs.declared.answers.Refusal.the-variants.{Path, Kind, Few, Foreign}
 use Rattle.writing.specs.declared.answers.Removed.the-variants as removals
@@ -20,7 +19,7 @@ use Rattle.writing.specs.declared.answers.Written.the-variants as writin
 use Rattle.writing.specs.declared.answers.Written.{Written}
 use lib.Dec.{eqb, ltb}
 use lib.ListN.{length}
-use mathlib.Core.Bool.{not}
+use mathlib.Core.Bool.{not, cond}
 use mathlib.Core.List.{List, []}
 use mathlib.Core.Path.{_≡_}
 
@@ -28,20 +27,20 @@ use mathlib.Core.Path.{_≡_}
 -- from the end of the last but one Via object to the end of the last
 unfoldable pub removeFrom : List ℕ → Message → List ℕ → List ℕ → Outcome
 removeFrom s m host destination =
-    choose (not (eqb (m .tag) 2)) (refuse Kind)
-    (choose (ltb (length (elements s (m .via))) 2) (refuse Few)
-    (choose (not (isOurs host destination (bytes s (lastOf (elements s (m .via)))))) (refuse Foreign)
+    cond (not (eqb (m .tag) 2)) (refuse Kind)
+    (cond (ltb (length (elements s (m .via))) 2) (refuse Few)
+    (cond (not (isOurs host destination (bytes s (lastOf (elements s (m .via)))))) (refuse Foreign)
     (write (removed s (m .via)))))
 
 unfoldable pub removing : List ℕ → List ℕ → List ℕ → List ℕ → Outcome
 removing s host destination organization =
-    choose (not (pathRule host destination organization)) (refuse Path)
+    cond (not (pathRule host destination organization)) (refuse Path)
     (onRead (reading s) (λ m. removeFrom s m host destination))
 
 -- where the host of the last but one Via object stands in what is read; `shown` has it only where there are two
 abbrev pub hostIn : Reading → Span
 hostIn (readings.Refused n p) = nowhere
-hostIn (readings.Read m) = m .route .host
+hostIn (readings.Read m) = m .trail .host
 
 -- the answer, where that host stands at h
 abbrev pub shown : Span → Written → Removed

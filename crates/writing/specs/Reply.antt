@@ -6,10 +6,10 @@ use Rattle.message.specs.declared.facts.Message.{Message}
 use Rattle.octets.specs.Ascii.{ascii}
 use Rattle.rules.specs.Date.{dateRule}
 use Rattle.rules.specs.Status.{listed, statusText}
-use Rattle.writing.specs.Outcome.{Outcome, refuse, write, choose, onRead}
+use Rattle.writing.specs.Outcome.{Outcome, refuse, write, onRead}
 use Rattle.writing.specs.declared.answers.Refusal.the-variants.{Kind, Code, Date}
 use lib.Dec.{eqb}
-use mathlib.Core.Bool.{Bool, not, _&&_, _||_}
+use mathlib.Core.Bool.{Bool, not, _&&_, _||_, cond}
 use mathlib.Core.List.{List, _++_}
 
 -- compact, keys as fixed byte strings in this order: Status with its phrase and Date as given, the five copied values as they stand
@@ -47,9 +47,9 @@ wrongCode code method = not (listed code) || (eqb code 202 && not (eqb method 7)
 -- 30, 31, 32, and the reply
 unfoldable pub replyTo : List ℕ → Message → ℕ → List ℕ → Outcome
 replyTo s m code date =
-    choose (unanswered m) (refuse Kind)
-    (choose (wrongCode code (m .method)) (refuse Code)
-    (choose (not (dateRule date)) (refuse Date)
+    cond (unanswered m) (refuse Kind)
+    (cond (wrongCode code (m .method)) (refuse Code)
+    (cond (not (dateRule date)) (refuse Date)
     (write (replyOf s m code date))))
 
 unfoldable pub replying : List ℕ → ℕ → List ℕ → Outcome

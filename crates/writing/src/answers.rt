@@ -1,7 +1,7 @@
 // What the writer answers (01 Writing): how long the result is, or why there is none.
 // The paper's number of each refusal is a definition of specs/Outcome.antt; `number` gives it.
 ghost use mathlib.Core.Path.{_≡_};
-ghost use Rattle.writing.specs.Outcome.{numberOf};
+ghost use Rattle.writing.specs.Outcome.{writingNumber};
 
 pub enum Refusal {
     // 38: our own path breaks the Via rules.
@@ -40,7 +40,7 @@ pub enum Removed {
 
 // The number of a refusal in document 01.
 pub fn number(r: Refusal) -> u8
-    ensures { λ n. ⌜ n ≡ numberOf r ⌝ }
+    ensures { λ n. ⌜ n ≡ writingNumber r ⌝ }
 {
     match r {
         Refusal::Path => 38,

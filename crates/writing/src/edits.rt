@@ -19,7 +19,7 @@ ghost use lib.ListN.{drop, length, take};
 ghost use Rattle.message.specs.Reading.{reading};
 ghost use Rattle.message.specs.declared.reading.Reading.the-variants as readings;
 ghost use Rattle.writing.specs.Adding.{addTo, adding, entry, pathRule};
-ghost use Rattle.writing.specs.Outcome.{Wrote, write};
+ghost use Rattle.writing.specs.Outcome.{Writes, write};
 ghost use Rattle.writing.specs.Removing.{Took, hostIn, nextHop, removeFrom, removing};
 
 // Whether our own path keeps the Via rules.
@@ -45,7 +45,7 @@ fn put_added(
     organization: &[u8],
 ) -> Written
     requires { ⌜ (length (now s) ≤ 32768) × (pathRule (now host) (now destination) (now organization) ≡ true) ⌝ }
-    ensures { λ r. ⌜ Wrote (now (out .entry)) (write (take end (now (s .entry)) ++ ((44 ∷ entry (now (host .entry)) (now (destination .entry)) (now (organization .entry))) ++ drop end (now (s .entry))))) r (now (out .exit)) ⌝ }
+    ensures { λ r. ⌜ Writes (now (out .entry)) (write (take end (now (s .entry)) ++ ((44 ∷ entry (now (host .entry)) (now (destination .entry)) (now (organization .entry))) ++ drop end (now (s .entry))))) r (now (out .exit)) ⌝ }
 {
     let total = s.len() + host.len() + destination.len() + organization.len() + 47;
     if 32768 < total {
@@ -71,14 +71,14 @@ fn add_to(
     organization: &[u8],
 ) -> Written
     requires { ⌜ (reading (now s) ≡ readings.Read m) × (pathRule (now host) (now destination) (now organization) ≡ true) ⌝ }
-    ensures { λ r. ⌜ Wrote (now (out .entry)) (addTo (now (s .entry)) m (now (host .entry)) (now (destination .entry)) (now (organization .entry))) r (now (out .exit)) ⌝ }
+    ensures { λ r. ⌜ Writes (now (out .entry)) (addTo (now (s .entry)) m (now (host .entry)) (now (destination .entry)) (now (organization .entry))) r (now (out .exit)) ⌝ }
 {
     let tag = m.tag;
     let via = m.via;
     if tag != 1 {
         return Written::Refused(Refusal::Kind);
     }
-    let r = m.route;
+    let r = m.trail;
     let count = r.count;
     let end = r.end;
     if has_ours(s, via, host, destination) {
@@ -98,7 +98,7 @@ pub fn add(
     destination: &[u8],
     organization: &[u8],
 ) -> Written
-    ensures { λ r. ⌜ Wrote (now (out .entry)) (adding (now (s .entry)) (now (host .entry)) (now (destination .entry)) (now (organization .entry))) r (now (out .exit)) ⌝ }
+    ensures { λ r. ⌜ Writes (now (out .entry)) (adding (now (s .entry)) (now (host .entry)) (now (destination .entry)) (now (organization .entry))) r (now (out .exit)) ⌝ }
 {
     if !is_path(host, destination, organization) {
         return Written::Refused(Refusal::Path);
@@ -112,7 +112,7 @@ pub fn add(
 // Writes s less its bytes from `seam` to `end`, if it fits.
 fn put_removed(out: &mut [u8], s: &[u8], seam: usize, end: usize) -> Written
     requires { ⌜ length (now s) ≤ 32768 ⌝ }
-    ensures { λ r. ⌜ Wrote (now (out .entry)) (write (take seam (now (s .entry)) ++ drop end (now (s .entry)))) r (now (out .exit)) ⌝ }
+    ensures { λ r. ⌜ Writes (now (out .entry)) (write (take seam (now (s .entry)) ++ drop end (now (s .entry)))) r (now (out .exit)) ⌝ }
 {
     let front = part(s, 0, seam);
     let back = part(s, end, s.len());
@@ -129,13 +129,13 @@ fn put_removed(out: &mut [u8], s: &[u8], seam: usize, end: usize) -> Written
 // The last Via object of what is read as m taken off.
 fn remove_from(out: &mut [u8], s: &[u8], m: Message, host: &[u8], destination: &[u8]) -> Removed
     requires { ⌜ reading (now s) ≡ readings.Read m ⌝ }
-    ensures { λ r. ⌜ Took (now (out .entry)) (m .route .host) (removeFrom (now (s .entry)) m (now (host .entry)) (now (destination .entry))) r (now (out .exit)) ⌝ }
+    ensures { λ r. ⌜ Took (now (out .entry)) (m .trail .host) (removeFrom (now (s .entry)) m (now (host .entry)) (now (destination .entry))) r (now (out .exit)) ⌝ }
 {
     let tag = m.tag;
     if tag != 2 {
         return Removed::Refused(Refusal::Kind);
     }
-    let r = m.route;
+    let r = m.trail;
     let count = r.count;
     let last = r.last;
     let seam = r.seam;

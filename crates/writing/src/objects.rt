@@ -1,10 +1,10 @@
 // The objects of Via: whether one is ours, and whether any is.
+use fields::hop_of;
+use fields::text_of;
 use json::element_at;
 use json::part;
 use json::skip;
 use json::value_part;
-use message::hop_of;
-use message::text_of;
 use octets::and;
 use octets::byte;
 use octets::same;

@@ -14,7 +14,7 @@ ghost use lib.ListN.{length};
 ghost use Rattle.message.specs.Reading.{reading};
 ghost use Rattle.message.specs.declared.reading.Reading.the-variants as readings;
 ghost use Rattle.rules.specs.Status.{statusText};
-ghost use Rattle.writing.specs.Outcome.{Wrote, write};
+ghost use Rattle.writing.specs.Outcome.{Writes, write};
 ghost use Rattle.writing.specs.Reply.{replyText, replyTo, replying, unanswered, wrongCode};
 
 // Writes the reply with these values into `out`, if it fits; no value is longer than a message.
@@ -29,7 +29,7 @@ fn put_reply(
     via: &[u8],
 ) -> Written
     requires { ⌜ (length (now date) ≤ 32768) × ((length (now cseq) ≤ 32768) × ((length (now to) ≤ 32768) × ((length (now from) ≤ 32768) × ((length (now call) ≤ 32768) × (length (now via) ≤ 32768))))) ⌝ }
-    ensures { λ r. ⌜ Wrote (now (out .entry)) (write (replyText (statusText code) (now (cseq .entry)) (now (to .entry)) (now (from .entry)) (now (call .entry)) (now (date .entry)) (now (via .entry)))) r (now (out .exit)) ⌝ }
+    ensures { λ r. ⌜ Writes (now (out .entry)) (write (replyText (statusText code) (now (cseq .entry)) (now (to .entry)) (now (from .entry)) (now (call .entry)) (now (date .entry)) (now (via .entry)))) r (now (out .exit)) ⌝ }
 {
     let status = rules::status_length(code);
     let total = 76
@@ -76,7 +76,7 @@ fn is_wrong_code(code: u16, method: u8) -> bool
 // The reply to what is read as m.
 fn reply_to(out: &mut [u8], s: &[u8], m: Message, code: u16, date: &[u8]) -> Written
     requires { ⌜ reading (now s) ≡ readings.Read m ⌝ }
-    ensures { λ r. ⌜ Wrote (now (out .entry)) (replyTo (now (s .entry)) m code (now (date .entry))) r (now (out .exit)) ⌝ }
+    ensures { λ r. ⌜ Writes (now (out .entry)) (replyTo (now (s .entry)) m code (now (date .entry))) r (now (out .exit)) ⌝ }
 {
     if is_unanswered(m) {
         return Written::Refused(Refusal::Kind);
@@ -106,7 +106,7 @@ fn reply_to(out: &mut [u8], s: &[u8], m: Message, code: u16, date: &[u8]) -> Wri
 
 // Writes the reply to the request s into `out`, with a status code and a Date.
 pub fn reply(out: &mut [u8], s: &[u8], code: u16, date: &[u8]) -> Written
-    ensures { λ r. ⌜ Wrote (now (out .entry)) (replying (now (s .entry)) code (now (date .entry))) r (now (out .exit)) ⌝ }
+    ensures { λ r. ⌜ Writes (now (out .entry)) (replying (now (s .entry)) code (now (date .entry))) r (now (out .exit)) ⌝ }
 {
     match message::read(s) {
         Reading::Refused(_, _) => Written::Refused(Refusal::Kind),

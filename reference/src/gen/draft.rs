@@ -5,11 +5,9 @@ use super::node::{Node, Spacing};
 use super::rng::Rng;
 use super::texts;
 use crate::fields;
-use crate::message::Side;
-use crate::rules::Method;
-
-/// A host, a destination and an organization.
-pub type Path = (Vec<u8>, Vec<u8>, Vec<u8>);
+use crate::message::{self, Side};
+use crate::rules::{self, ContentType, Method};
+use crate::writing::OwnPath;
 
 /// What a request or response is to say.
 #[derive(Debug, Clone)]
@@ -23,7 +21,7 @@ pub struct Plan {
     pub caller_fire: Vec<u8>,
     pub callee_fire: Vec<u8>,
     pub secure: bool,
-    pub via: Vec<Path>,
+    pub via: Vec<OwnPath>,
 }
 
 /// A tag and fields in order.
@@ -35,23 +33,24 @@ pub struct Draft {
 
 /// The side that sends a method, where there is a choice either.
 pub fn sender(rng: &mut Rng, method: Method) -> Side {
-    match method {
-        Method::Invite | Method::Ack | Method::Cancel | Method::Notify => Side::Caller,
-        Method::Refer | Method::Callback => Side::Callee,
-        Method::Bye | Method::Message => *rng.pick(&[Side::Caller, Side::Callee]),
+    const SIDES: [Side; 2] = [Side::Caller, Side::Callee];
+    match SIDES.map(|side| message::may_send(side, method)) {
+        [true, false] => Side::Caller,
+        [false, true] => Side::Callee,
+        _ => *rng.pick(&SIDES),
     }
 }
 
-/// A Via entry; 1 to 3 of them mostly, 16 rarely.
-pub fn path(rng: &mut Rng) -> Path {
-    (
-        texts::host(rng),
-        texts::destination(rng),
-        texts::organization(rng),
-    )
+pub fn path(rng: &mut Rng) -> OwnPath {
+    OwnPath {
+        host: texts::host(rng),
+        destination: texts::destination(rng),
+        organization: texts::organization(rng),
+    }
 }
 
-pub fn paths(rng: &mut Rng) -> Vec<Path> {
+/// Via entries: 1 to 3 of them mostly, 16 rarely.
+pub fn paths(rng: &mut Rng) -> Vec<OwnPath> {
     let count = match rng.below(60) {
         0 => 16,
         1 => 15,
@@ -63,7 +62,7 @@ pub fn paths(rng: &mut Rng) -> Vec<Path> {
 
 impl Plan {
     pub fn random(rng: &mut Rng) -> Plan {
-        let method = rng.pick(&Method::ALL).0;
+        let method = *rng.pick(&Method::ALL);
         let status = status(rng, method);
         Plan {
             response: rng.one_in(3).then_some(status),
@@ -84,15 +83,8 @@ impl Plan {
 
     /// The message of this plan, all right.
     pub fn compose(&self, rng: &mut Rng) -> Draft {
-        let caller = [
-            b"net119:",
-            &self.user[..],
-            b"@",
-            &self.caller_fire,
-            b".caller",
-        ]
-        .concat();
-        let callee = [b"net119:fire@", &self.callee_fire[..], b".callee"].concat();
+        let caller = texts::caller_address(&self.user, &self.caller_fire);
+        let callee = texts::callee_address(&self.callee_fire);
         let (from, to) = match self.from {
             Side::Caller => (caller, callee),
             Side::Callee => (callee, caller),
@@ -107,8 +99,7 @@ impl Plan {
             fields: Vec::new(),
         };
         if let Some(status) = self.response {
-            let text = [format!("{status} ").as_bytes(), &texts::phrase(rng)].concat();
-            draft.set("Status", Node::text(text));
+            draft.set("Status", Node::text(texts::status(rng, status)));
         }
         draft.set("CSeq", Node::text(cseq));
         draft.set("To", Node::text(to));
@@ -123,12 +114,13 @@ impl Plan {
     }
 
     fn add_method_fields(&self, rng: &mut Rng, draft: &mut Draft) {
+        use ContentType::*;
         match self.method {
             Method::Invite => self.add_invite_fields(rng, draft),
             Method::Message => {
                 let image = self.from == Side::Caller && rng.one_in(2);
                 draft.set("Message-ID", Node::text(texts::message_id(rng)));
-                draft.set_body(rng, if image { IMAGE } else { PLAIN });
+                draft.set_body(rng, if image { Image } else { Plain });
                 if rng.one_in(4) {
                     let count = rng.below(3);
                     let options = (0..count).map(|_| Node::text(texts::free(rng)));
@@ -136,8 +128,8 @@ impl Plan {
                 }
             }
             Method::Notify => {
-                let kind = *rng.pick(&[PRESENCE, LOCATION, REFER]);
-                draft.set_body(rng, kind);
+                let content_type = *rng.pick(&[Presence, Location, Refer]);
+                draft.set_body(rng, content_type);
             }
             Method::Refer => {
                 draft.set("Refer-To", Node::text(texts::fire_id(rng)));
@@ -151,9 +143,9 @@ impl Plan {
     }
 
     fn add_invite_fields(&self, rng: &mut Rng, draft: &mut Draft) {
-        let service = *rng.pick(&["ambulance", "fire", "unknown", "callback"]);
+        let service = *rng.pick(&rules::SERVICES);
         let training = service != "callback" && rng.one_in(4);
-        let rescuee = *rng.pick(&["caller", "third-party"]);
+        let rescuee = *rng.pick(&rules::RESCUEES);
         let language = *rng.pick(&["ja", "en", "zz", "aa"]);
         let secure = if self.secure { "true" } else { "false" };
         draft.set("Session-ID", Node::text(texts::call_id(rng)));
@@ -161,7 +153,7 @@ impl Plan {
             "Call-Mode",
             Node::text(if training { "training" } else { "emergency" }),
         );
-        draft.set("Call-Test", Node::raw(rng.pick(&["0", "1"])));
+        draft.set("Call-Test", Node::raw(rng.pick(&rules::CALL_TESTS)));
         draft.set("Secure-Call", Node::raw(secure));
         draft.set("Rescuee", Node::text(rescuee));
         draft.set("Request-Service", Node::text(service));
@@ -175,12 +167,6 @@ impl Plan {
         }
     }
 }
-
-const PLAIN: &str = "text/plain";
-const IMAGE: &str = "text/vnd.net119.uri.image";
-const PRESENCE: &str = "message/vnd.net119.presence";
-const LOCATION: &str = "message/vnd.net119.location";
-const REFER: &str = "message/vnd.net119.refer";
 
 /// A sequence number, at times at the end of its range.
 pub fn number(rng: &mut Rng) -> u32 {
@@ -215,16 +201,16 @@ fn memo(rng: &mut Rng) -> Node {
     Node::text(texts::memo(rng, count))
 }
 
-fn via(rng: &mut Rng, paths: &[Path]) -> Node {
+fn via(rng: &mut Rng, paths: &[OwnPath]) -> Node {
     Node::Array(paths.iter().map(|path| hop(rng, path)).collect())
 }
 
 /// A Via object, now and then with members that are ignored or out of order.
-fn hop(rng: &mut Rng, (host, destination, organization): &Path) -> Node {
+fn hop(rng: &mut Rng, path: &OwnPath) -> Node {
     let mut members = vec![
-        Node::member("host", Node::text(host)),
-        Node::member("destination", Node::text(destination)),
-        Node::member("organization", Node::text(organization)),
+        Node::member("host", Node::text(&path.host)),
+        Node::member("destination", Node::text(&path.destination)),
+        Node::member("organization", Node::text(&path.organization)),
     ];
     if rng.one_in(12) {
         let name = *rng.pick(&["x-sender", "Host", "port", "\\u0068ost", "CSeq", ""]);
@@ -271,7 +257,7 @@ fn caller(rng: &mut Rng) -> Node {
 /// A ping or a pong, all right.
 pub fn ping_or_pong(rng: &mut Rng) -> Draft {
     let ping = rng.one_in(2);
-    let queue = [texts::fire_id(rng), b".callee".to_vec()].concat();
+    let queue = texts::callee_queue(rng);
     let mut draft = Draft {
         tag: Node::text(if ping { "ping" } else { "pong" }),
         fields: Vec::new(),
@@ -280,10 +266,7 @@ pub fn ping_or_pong(rng: &mut Rng) -> Draft {
         draft.set("Destination", Node::text(queue));
     } else {
         draft.set("Responded-By", Node::text(queue));
-        draft.set(
-            "Status",
-            Node::text(rng.pick(&["available", "unavailable"])),
-        );
+        draft.set("Status", Node::text(rng.pick(&rules::AVAILABILITIES)));
     }
     draft.set("Date", Node::text(texts::date(rng)));
     let paths = paths(rng);
@@ -311,15 +294,16 @@ impl Draft {
     }
 
     /// A Content-Type with a Body that fits it.
-    fn set_body(&mut self, rng: &mut Rng, content_type: &str) {
+    fn set_body(&mut self, rng: &mut Rng, content_type: ContentType) {
+        use ContentType::*;
         let body = match content_type {
-            IMAGE => Node::text(rng.pick(&["https://", "https://x.jp/1.jpg", "https://\\u0041"])),
-            PRESENCE => Node::text(rng.pick(&["online", "offline"])),
-            LOCATION => Node::Object(vec![Node::member("latitude", Node::raw("34.68952"))]),
-            REFER => Node::text(rng.pick(&["180 Ringing", "202 Accepted", "699 ", "100 \\n"])),
-            _ => Node::text(texts::free(rng)),
+            Plain => Node::text(texts::free(rng)),
+            Image => Node::text(rng.pick(&["https://", "https://x.jp/1.jpg", "https://\\u0041"])),
+            Presence => Node::text(rng.pick(&rules::PRESENCES)),
+            Location => Node::Object(vec![Node::member("latitude", Node::raw("34.68952"))]),
+            Refer => Node::text(rng.pick(&["180 Ringing", "202 Accepted", "699 ", "100 \\n"])),
         };
-        self.set("Content-Type", Node::text(content_type));
+        self.set("Content-Type", Node::text(content_type.name()));
         self.set("Body", body);
     }
 
@@ -494,7 +478,7 @@ impl Draft {
                 self.set("Request-Service", Node::text("callback"));
             }
             _ => {
-                self.set_body(rng, IMAGE);
+                self.set_body(rng, ContentType::Image);
                 self.fields[from].1 = Node::text("net119:fire@kita.callee");
                 self.fields[to].1 = Node::text("net119:u1@nishi.caller");
             }
@@ -562,7 +546,7 @@ fn bad_value(rng: &mut Rng, field: usize, old: &Node) -> Node {
     use fields::*;
     let text = match field {
         CSEQ => {
-            let method = rng.pick(&Method::ALL).1;
+            let method = *rng.pick(&Method::NAMES);
             texts::bad_cseq(rng, method)
         }
         TO | FROM => texts::bad_address(rng),
@@ -572,12 +556,7 @@ fn bad_value(rng: &mut Rng, field: usize, old: &Node) -> Node {
         STATUS => texts::bad_status(rng),
         MESSAGE_ID => texts::bad_message_id(rng),
         CONTENT_TYPE => {
-            const TYPES: &[&str] = &[
-                PLAIN,
-                IMAGE,
-                PRESENCE,
-                LOCATION,
-                REFER,
+            const OTHERS: [&str; 6] = [
                 "message/vnd.net119.uri.image",
                 "text/html",
                 "text/plain ",
@@ -585,7 +564,7 @@ fn bad_value(rng: &mut Rng, field: usize, old: &Node) -> Node {
                 "text\\/plain",
                 "",
             ];
-            rng.pick(TYPES).as_bytes().to_vec()
+            rng.one_of(&[&ContentType::NAMES[..], &OTHERS].concat())
         }
         BODY => bad_body(rng, old),
         REFER_TO | REFERRED_BY => texts::bad_fire_id(rng),
@@ -602,7 +581,7 @@ fn bad_value(rng: &mut Rng, field: usize, old: &Node) -> Node {
         SECURE_CALL => return Node::raw(rng.pick(&["\"true\"", "0", "1", "null", "[true]"])),
         RESCUEE => b"third_party".to_vec(),
         REQUEST_SERVICE => b"police".to_vec(),
-        LANGUAGE => rng.pick(&["j", "jpn", "JA", "j1", ""]).as_bytes().to_vec(),
+        LANGUAGE => rng.one_of(&["j", "jpn", "JA", "j1", ""]),
         LOCATIONS | OPTIONS => {
             const LISTS: &[&str] = &[
                 "{}",
@@ -643,7 +622,7 @@ fn bad_body(rng: &mut Rng, old: &Node) -> Vec<u8> {
     ];
     let is_link = matches!(old, Node::Raw(bytes) if bytes.starts_with(b"\"https:"));
     let bodies = if is_link { LINKS } else { BODIES };
-    rng.pick(bodies).as_bytes().to_vec()
+    rng.one_of(bodies)
 }
 
 /// One letter of a string written as an escape: raw bytes then differ.

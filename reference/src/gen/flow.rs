@@ -6,7 +6,7 @@ use super::damage;
 use super::draft::{self, Plan};
 use super::rng::Rng;
 use super::texts;
-use crate::call::{CALLING_LIMIT, ENDED_LIMIT, IDLE_LIMIT, RINGING_LIMIT};
+use crate::call::{self, highest, CALLING_LIMIT, ENDED_LIMIT, IDLE_LIMIT, RINGING_LIMIT};
 use crate::message::{Side, MAX_LENGTH};
 use crate::rules::Method;
 use crate::table::{self, Record, State};
@@ -168,7 +168,7 @@ impl Flow {
 
     /// A tick that ends or frees a call, or just does not.
     fn expire(&mut self, rng: &mut Rng, record: &Record) -> (u64, Happening) {
-        let (start, limit) = limit_of(record);
+        let (start, limit) = call::limit(record);
         let over = u64::from(!rng.one_in(3));
         let time = start.saturating_add(limit + over).max(record.last_time);
         let time = if time < FAR {
@@ -189,9 +189,9 @@ impl Flow {
         let step = if rng.percent(80) {
             fitting_step(rng, record.state)
         } else if rng.one_in(2) {
-            Step::Request(rng.pick(&Method::ALL).0)
+            Step::Request(*rng.pick(&Method::ALL))
         } else {
-            Step::AnyResponse(rng.pick(&Method::ALL).0)
+            Step::AnyResponse(*rng.pick(&Method::ALL))
         };
         let plan = plan_for(rng, record, step);
         let time = match step {
@@ -228,7 +228,7 @@ impl Flow {
             return self.plain_time_once(rng, record, far);
         }
         let (start, limit) = if rng.percent(85) {
-            limit_of(record)
+            call::limit(record)
         } else {
             let limits = [CALLING_LIMIT, RINGING_LIMIT, IDLE_LIMIT, ENDED_LIMIT];
             let starts = [record.entered, record.chat_time, record.last_time];
@@ -266,16 +266,6 @@ fn live_calls(image: &[u8], used: &[usize]) -> Vec<usize> {
 fn far_calls(image: &[u8], used: &[usize]) -> usize {
     let records = used.iter().filter_map(|index| table::load(image, *index));
     records.filter(|record| record.last_time >= FAR).count()
-}
-
-/// From when, and how long, a tick leaves this call alone.
-fn limit_of(record: &Record) -> (u64, u64) {
-    match record.state {
-        State::Calling | State::Cancelling => (record.entered, CALLING_LIMIT),
-        State::Ringing => (record.entered, RINGING_LIMIT),
-        State::Answered | State::Talking => (record.chat_time, IDLE_LIMIT),
-        State::Ended => (record.entered, ENDED_LIMIT),
-    }
 }
 
 /// What may well come next in a state, and now and then what may not.
@@ -374,23 +364,13 @@ fn plan_for(rng: &mut Rng, record: &Record, step: Step) -> Plan {
     }
     // A repeat: the side's last request once more.
     if response.is_none() && rng.percent(6) {
-        let last = match from {
-            Side::Caller => Some((record.caller_highest, record.caller_method)),
-            Side::Callee => record.callee_highest,
-        };
+        let last = call::last_request(record, from);
         (plan.number, plan.method) = last.unwrap_or((plan.number, plan.method));
     }
     if rng.percent(4) {
         change_a_party(rng, &mut plan);
     }
     plan
-}
-
-fn highest(record: &Record, side: Side) -> u32 {
-    match side {
-        Side::Caller => record.caller_highest,
-        Side::Callee => record.callee_highest.map_or(0, |(number, _)| number),
-    }
 }
 
 fn right_number(rng: &mut Rng, record: &Record, method: Method, from: Side, answer: bool) -> u32 {

@@ -28,7 +28,7 @@ pub fn record(rng: &mut Rng, clock: u64, call_id: Vec<u8>) -> Record {
     };
     let callee_highest = rng
         .one_in(2)
-        .then(|| (draft::number(rng), rng.pick(&Method::ALL).0));
+        .then(|| (draft::number(rng), *rng.pick(&Method::ALL)));
     Record {
         state: *rng.pick(&State::ALL),
         call_id,
@@ -38,7 +38,7 @@ pub fn record(rng: &mut Rng, clock: u64, call_id: Vec<u8>) -> Record {
         secure: rng.one_in(2),
         invite_number,
         caller_highest,
-        caller_method: rng.pick(&Method::ALL).0,
+        caller_method: *rng.pick(&Method::ALL),
         callee_highest,
         last_time,
         entered: before(rng),
@@ -48,7 +48,7 @@ pub fn record(rng: &mut Rng, clock: u64, call_id: Vec<u8>) -> Record {
 
 /// A well-formed image of so many records, some of them free.
 pub fn good(rng: &mut Rng, clock: u64, count: usize) -> Vec<u8> {
-    let mut image = table::blank(count, table::length_for(count)).unwrap_or_default();
+    let mut image = table::blank_of(count);
     for index in 0..count {
         if rng.percent(70) {
             let call_id = format!("T{index}.{}", rng.below(10)).into();
@@ -136,14 +136,14 @@ fn tear_record(rng: &mut Rng, image: &mut [u8]) {
 
 /// The caller's highest one below the INVITE number, or at it.
 fn set_highest_near_invite(rng: &mut Rng, record: &mut [u8]) {
-    let invite = u32::from_be_bytes(std::array::from_fn(|i| record[116 + i]));
+    let invite = table::read_u32(record, 116);
     let highest = invite.saturating_sub(rng.below(2) as u32);
     record[120..124].copy_from_slice(&highest.to_be_bytes());
 }
 
 /// A time one above the last time, or at it.
 fn set_time_near_last(rng: &mut Rng, record: &mut [u8], at: usize) {
-    let last = u64::from_be_bytes(std::array::from_fn(|i| record[128 + i]));
+    let last = table::read_u64(record, 128);
     let time = last.saturating_add(rng.below(2) as u64);
     record[at..at + 8].copy_from_slice(&time.to_be_bytes());
 }

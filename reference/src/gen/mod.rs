@@ -11,7 +11,7 @@ mod questions;
 mod raw;
 mod rng;
 mod script;
-mod texts;
+pub mod texts;
 mod walks;
 
 use rng::Rng;
@@ -62,30 +62,35 @@ fn write_lines(
 #[cfg(test)]
 mod tests {
     use super::*;
-    use crate::{count, keep, probe};
+    use crate::count;
+    use crate::json_lines::JsonLines;
+    use crate::keep::Keep;
+    use crate::lines::tests::written;
+    use crate::lines::{Answerer, Lines};
+    use crate::probe::Probe;
+    use crate::table;
+
+    /// What a generator puts into an output.
+    fn made(put: impl FnOnce(&mut Vec<u8>) -> io::Result<()>) -> Vec<u8> {
+        let mut lines = Vec::new();
+        put(&mut lines).unwrap();
+        lines
+    }
 
     fn keep_log(seed: u64, count: u64) -> Vec<u8> {
-        let mut log = Vec::new();
-        keep_lines(seed, count, &mut log).unwrap();
-        log
+        made(|out| keep_lines(seed, count, out))
     }
 
     fn probe_script(seed: u64, count: u64) -> Vec<u8> {
-        let mut script = Vec::new();
-        probe_lines(seed, count, &mut script).unwrap();
-        script
+        made(|out| probe_lines(seed, count, out))
     }
 
     fn json_script(seed: u64, count: u64) -> Vec<u8> {
-        let mut script = Vec::new();
-        json_lines(seed, count, &mut script).unwrap();
-        script
+        made(|out| json_lines(seed, count, out))
     }
 
     fn rule_script(seed: u64, count: u64) -> Vec<u8> {
-        let mut script = Vec::new();
-        rule_lines(seed, count, &mut script).unwrap();
-        script
+        made(|out| rule_lines(seed, count, out))
     }
 
     #[test]
@@ -110,7 +115,7 @@ mod tests {
                 json_script(seed, 300),
                 rule_script(seed, 300),
             ] {
-                let mut lines = crate::lines::Lines::new(&text[..], 10);
+                let mut lines = Lines::new(&text[..], 10);
                 let mut count = 0;
                 while lines.next().unwrap().is_some() {
                     count += 1;
@@ -121,9 +126,9 @@ mod tests {
     }
 
     /// The lines that `count` prints with 0, or that no answer should have.
-    fn never_reached(answers: &[u8]) -> Vec<String> {
+    fn never_reached(answers: &str) -> Vec<String> {
         let mut out = Vec::new();
-        count::run(answers, &mut out).unwrap();
+        count::run(answers.as_bytes(), &mut out).unwrap();
         let text = String::from_utf8(out).unwrap();
         let odd = |line: &&str| line.trim_start().starts_with("0 ") || line.ends_with("other");
         text.lines().filter(odd).map(str::to_string).collect()
@@ -131,23 +136,19 @@ mod tests {
 
     #[test]
     fn a_log_reaches_every_word_state_and_number() {
-        let mut answers = Vec::new();
-        keep::run(&keep_log(1, 15_000)[..], &mut answers).unwrap();
+        let answers = written(Keep::new(), &keep_log(1, 15_000));
         assert_eq!(never_reached(&answers), Vec::<String>::new());
     }
 
     #[test]
     fn a_script_reaches_every_shape() {
-        let mut answers = Vec::new();
-        probe::run(&probe_script(1, 15_000)[..], &mut answers).unwrap();
+        let answers = written(Probe::new(), &probe_script(1, 15_000));
         assert_eq!(never_reached(&answers), Vec::<String>::new());
     }
 
     #[test]
     fn texts_reach_both_rows_and_neither() {
-        let mut answers = Vec::new();
-        crate::json_lines::run(&json_script(1, 5000)[..], &mut answers).unwrap();
-        let text = String::from_utf8(answers).unwrap();
+        let text = written(JsonLines, &json_script(1, 5000));
         for (start, least) in [("ok", 500), ("no 4 ", 500), ("no 5 ", 50), ("?", 10)] {
             let count = text.lines().filter(|line| line.starts_with(start)).count();
             assert!(count >= least, "{start}: {count}");
@@ -157,10 +158,10 @@ mod tests {
     /// Whatever happens, a table that was well-formed stays so.
     #[test]
     fn tables_stay_well_formed() {
-        let mut keep = keep::Keep::new();
+        let mut keep = Keep::new();
         for line in keep_log(2, 4000).split(|byte| *byte == b'\n') {
-            keep.answer(line, &mut io::sink()).unwrap();
-            assert!(crate::table::well_formed(keep.image()));
+            keep.answer(line);
+            assert!(table::well_formed(&keep.image));
         }
     }
 }

@@ -5,105 +5,130 @@ use super::draft;
 use super::rng::Rng;
 use super::texts;
 use crate::fields::{self, Tag};
+use crate::hex;
 use crate::rules::{self, ContentType, Method};
 use crate::writing::STATUS_TEXTS;
 
 type Maker = fn(&mut Rng) -> Vec<u8>;
 
-/// A name, how often it is asked, a text that keeps its rule mostly, and one
-/// that mostly breaks it or stands near a mark.
+/// A name, how often it is asked, and of which texts.
 struct Name {
     name: &'static str,
     weight: usize,
-    good: Maker,
-    near: Maker,
+    texts: Texts,
 }
 
-const fn name(name: &'static str, weight: usize, good: Maker, near: Maker) -> Name {
-    Name {
-        name,
-        weight,
-        good,
-        near,
+enum Texts {
+    /// A text that keeps the rule mostly, and one that mostly breaks it or
+    /// stands near a mark.
+    Made(Maker, Maker),
+    /// One of these words, and one near them.
+    Words(&'static [&'static str]),
+}
+
+impl Name {
+    fn good(&self, rng: &mut Rng) -> Vec<u8> {
+        match self.texts {
+            Texts::Made(good, _) => good(rng),
+            Texts::Words(words) => rng.one_of(words),
+        }
+    }
+
+    fn near(&self, rng: &mut Rng) -> Vec<u8> {
+        match self.texts {
+            Texts::Made(_, near) => near(rng),
+            Texts::Words(words) => near_word(rng, words),
+        }
     }
 }
 
+const fn made(name: &'static str, weight: usize, good: Maker, near: Maker) -> Name {
+    Name {
+        name,
+        weight,
+        texts: Texts::Made(good, near),
+    }
+}
+
+const fn words(name: &'static str, weight: usize, words: &'static [&'static str]) -> Name {
+    Name {
+        name,
+        weight,
+        texts: Texts::Words(words),
+    }
+}
+
+const IMAGES: [&str; 4] = [
+    "https://",
+    "https://x.jp/1.jpg",
+    "https://a\\n",
+    "https:///",
+];
+
 /// Every name that is asked.
 static NAMES: [Name; 32] = [
-    name("fire-id", 4, texts::fire_id, |rng| {
+    made("fire-id", 4, texts::fire_id, |rng| {
         let near = |rng: &mut Rng| at_length(rng, b"abz09_", 2, 15);
         either(rng, texts::bad_fire_id, near)
     }),
-    name("user-id", 4, texts::user_id, |rng| {
+    made("user-id", 4, texts::user_id, |rng| {
         at_length(rng, b"azAZ09", 1, 15)
     }),
-    name("call-id", 4, texts::call_id, |rng| {
+    made("call-id", 4, texts::call_id, |rng| {
         let near = |rng: &mut Rng| at_length(rng, b"azAZ09-.", 2, 64);
         either(rng, texts::bad_call_id, near)
     }),
-    name("date", 12, texts::date, |rng| {
+    made("date", 12, texts::date, |rng| {
         either(rng, texts::bad_date, near_date)
     }),
-    name("host", 4, texts::host, |rng| {
+    made("host", 4, texts::host, |rng| {
         let near = |rng: &mut Rng| at_length(rng, b"azAZ09-.", 1, 253);
         either(rng, texts::bad_host, near)
     }),
-    name("destination", 4, texts::destination, |rng| {
+    made("destination", 4, texts::destination, |rng| {
         let near = |rng: &mut Rng| at_length(rng, b"!#[]~az", 1, 64);
         either(rng, texts::bad_destination, near)
     }),
-    name("organization", 4, texts::organization, |rng| {
+    made("organization", 4, texts::organization, |rng| {
         let near = |rng: &mut Rng| at_length(rng, b"azAZ09-", 2, 10);
         either(rng, texts::bad_organization, near)
     }),
-    name("desk", 4, desk, near_desk),
-    name("message-id", 8, texts::message_id, |rng| {
+    made("desk", 4, texts::callee_queue, near_desk),
+    made("message-id", 8, texts::message_id, |rng| {
         either(rng, texts::bad_message_id, near_message_id)
     }),
-    name("message-type", 2, content_type, |rng| {
-        near_word(rng, content_type)
-    }),
-    name("notify-type", 2, content_type, |rng| {
-        near_word(rng, content_type)
-    }),
-    name("image", 2, image, |rng| near_word(rng, image)),
-    name("memo", 4, memo, near_memo),
-    name("language", 3, language, |rng| at_length(rng, b"az", 2, 2)),
-    name("cseq", 10, cseq, near_cseq),
-    name("address", 10, address, |rng| {
+    words("message-type", 2, &ContentType::NAMES),
+    words("notify-type", 2, &ContentType::NAMES),
+    words("image", 2, &IMAGES),
+    made("memo", 4, memo, near_memo),
+    made("language", 3, language, |rng| at_length(rng, b"az", 2, 2)),
+    made("cseq", 10, cseq, near_cseq),
+    made("address", 10, address, |rng| {
         either(rng, texts::bad_address, near_address)
     }),
-    name("status", 5, status, |rng| {
+    made("status", 5, status, |rng| {
         either(rng, texts::bad_status, near_status)
     }),
-    name("availability", 2, availability, |rng| {
-        near_word(rng, availability)
-    }),
-    name("content-type", 3, content_type, |rng| {
-        near_word(rng, content_type)
-    }),
-    name("presence", 2, presence, |rng| near_word(rng, presence)),
-    name("call-mode", 2, call_mode, |rng| near_word(rng, call_mode)),
-    name("call-test", 2, call_test, |rng| near_word(rng, call_test)),
-    name("secure-call", 2, secure_call, |rng| {
-        near_word(rng, secure_call)
-    }),
-    name("rescuee", 2, rescuee, |rng| near_word(rng, rescuee)),
-    name("service", 2, service, |rng| near_word(rng, service)),
-    name("tag", 2, tag, |rng| near_word(rng, tag)),
-    name("method", 3, method, |rng| near_word(rng, method)),
-    name("field", 6, field, |rng| near_word(rng, field)),
-    name("hop-member", 2, hop_member, |rng| {
-        near_word(rng, hop_member)
-    }),
-    name("phrase", 6, listed_code, any_code),
-    name(
+    words("availability", 2, &rules::AVAILABILITIES),
+    words("content-type", 3, &ContentType::NAMES),
+    words("presence", 2, &rules::PRESENCES),
+    words("call-mode", 2, &rules::CALL_MODES),
+    words("call-test", 2, &rules::CALL_TESTS),
+    words("secure-call", 2, &rules::SECURE_CALLS),
+    words("rescuee", 2, &rules::RESCUEES),
+    words("service", 2, &rules::SERVICES),
+    words("tag", 2, &Tag::NAMES),
+    words("method", 3, &Method::NAMES),
+    words("field", 6, &fields::NAMES),
+    words("hop-member", 2, &rules::HOP_MEMBERS),
+    made("phrase", 6, listed_code, any_code),
+    made(
         "tag-asks",
         5,
         |rng| two_up_to(rng, 4, 26),
         |rng| two_up_to(rng, 6, 28),
     ),
-    name(
+    made(
         "method-asks",
         5,
         |rng| two_up_to(rng, 8, 26),
@@ -119,20 +144,20 @@ pub fn line(rng: &mut Rng) -> Vec<u8> {
     let name = any_name(rng);
     let asks_a_table = name.name.ends_with("-asks");
     let bytes = match rng.below(12) {
-        0..=3 => (name.good)(rng),
-        4..=6 => (name.near)(rng),
+        0..=3 => name.good(rng),
+        4..=6 => name.near(rng),
         // A table has two bytes at most: it is not said what more would mean.
-        7..=10 if asks_a_table => (name.good)(rng),
+        7..=10 if asks_a_table => name.good(rng),
         _ if asks_a_table => {
             let length = rng.below(3);
             (0..length).map(|_| rng.byte()).collect()
         }
         7..=9 => {
-            let mut text = (name.good)(rng);
+            let mut text = name.good(rng);
             change_a_byte(rng, &mut text);
             text
         }
-        10 => (any_name(rng).good)(rng),
+        10 => any_name(rng).good(rng),
         _ => any_bytes(rng),
     };
     written(name.name, &bytes)
@@ -145,8 +170,9 @@ fn any_name(rng: &mut Rng) -> &'static Name {
 }
 
 fn written(name: &str, bytes: &[u8]) -> Vec<u8> {
-    let hex: String = bytes.iter().map(|byte| format!("{byte:02x}")).collect();
-    format!("{name} {hex}").into()
+    let mut line = format!("{name} ").into_bytes();
+    hex::encode_pairs(bytes, &mut line);
+    line
 }
 
 fn either(rng: &mut Rng, one: Maker, other: Maker) -> Vec<u8> {
@@ -198,10 +224,6 @@ fn any_bytes(rng: &mut Rng) -> Vec<u8> {
     }
 }
 
-fn desk(rng: &mut Rng) -> Vec<u8> {
-    [texts::fire_id(rng), b".callee".to_vec()].concat()
-}
-
 fn near_desk(rng: &mut Rng) -> Vec<u8> {
     let fire = match rng.below(3) {
         0 => texts::fire_id(rng),
@@ -209,7 +231,7 @@ fn near_desk(rng: &mut Rng) -> Vec<u8> {
         _ => at_length(rng, b"abz09", 2, 15),
     };
     let ends = [".callee", ".callee", ".caller", "callee", ".calle", ""];
-    [fire, rng.pick(&ends).as_bytes().to_vec()].concat()
+    [fire, rng.one_of(&ends)].concat()
 }
 
 /// A text of about 64 bytes, or one part of it near its own marks.
@@ -257,16 +279,6 @@ fn near_date(rng: &mut Rng) -> Vec<u8> {
     text
 }
 
-fn image(rng: &mut Rng) -> Vec<u8> {
-    const IMAGES: &[&str] = &[
-        "https://",
-        "https://x.jp/1.jpg",
-        "https://a\\n",
-        "https:///",
-    ];
-    rng.pick(IMAGES).as_bytes().to_vec()
-}
-
 fn memo(rng: &mut Rng) -> Vec<u8> {
     let count = *rng.pick(&[0, 1, 20, 127, 128]);
     texts::memo(rng, count)
@@ -305,13 +317,13 @@ fn language(rng: &mut Rng) -> Vec<u8> {
 }
 
 fn cseq(rng: &mut Rng) -> Vec<u8> {
-    let (_, method) = *rng.pick(&Method::ALL);
+    let method = *rng.pick(&Method::NAMES);
     format!("{} {method}", draft::number(rng)).into()
 }
 
 /// A bad CSeq, or a number around a power of ten or the end of its range.
 fn near_cseq(rng: &mut Rng) -> Vec<u8> {
-    let (_, method) = *rng.pick(&Method::ALL);
+    let method = *rng.pick(&Method::NAMES);
     if rng.one_in(2) {
         return texts::bad_cseq(rng, method);
     }
@@ -327,10 +339,9 @@ fn near_cseq(rng: &mut Rng) -> Vec<u8> {
 fn address(rng: &mut Rng) -> Vec<u8> {
     let fire = texts::fire_id(rng);
     if rng.one_in(2) {
-        [b"net119:fire@", &fire[..], b".callee"].concat()
+        texts::callee_address(&fire)
     } else {
-        let user = texts::user_id(rng);
-        [b"net119:", &user[..], b"@", &fire, b".caller"].concat()
+        texts::caller_address(&texts::user_id(rng), &fire)
     }
 }
 
@@ -352,8 +363,8 @@ fn near_address(rng: &mut Rng) -> Vec<u8> {
 }
 
 fn status(rng: &mut Rng) -> Vec<u8> {
-    let code = rng.between(100, 699);
-    [format!("{code} ").as_bytes(), &texts::phrase(rng)].concat()
+    let code = rng.between(100, 699) as u16;
+    texts::status(rng, code)
 }
 
 fn near_status(rng: &mut Rng) -> Vec<u8> {
@@ -363,13 +374,9 @@ fn near_status(rng: &mut Rng) -> Vec<u8> {
     [format!("{code:03}{space}").as_bytes(), &rest].concat()
 }
 
-fn word(rng: &mut Rng, words: &[&str]) -> Vec<u8> {
-    rng.pick(words).as_bytes().to_vec()
-}
-
 /// A word in other letters, cut, gone on, or stuck to another of its kind.
-fn near_word(rng: &mut Rng, word: Maker) -> Vec<u8> {
-    let mut text = word(rng);
+fn near_word(rng: &mut Rng, words: &[&str]) -> Vec<u8> {
+    let mut text = rng.one_of(words);
     let at = rng.below(text.len() + 1);
     match rng.below(7) {
         0 => text.make_ascii_uppercase(),
@@ -380,57 +387,9 @@ fn near_word(rng: &mut Rng, word: Maker) -> Vec<u8> {
         }
         4 => text.push(*rng.pick(b" s0\x00\"")),
         5 => text.insert(0, *rng.pick(b" \"0")),
-        _ => text.append(&mut word(rng)),
+        _ => text.append(&mut rng.one_of(words)),
     }
     text
-}
-
-fn content_type(rng: &mut Rng) -> Vec<u8> {
-    word(rng, &ContentType::ALL.map(|(_, name)| name))
-}
-
-fn availability(rng: &mut Rng) -> Vec<u8> {
-    word(rng, &rules::AVAILABILITIES)
-}
-
-fn presence(rng: &mut Rng) -> Vec<u8> {
-    word(rng, &rules::PRESENCES)
-}
-
-fn call_mode(rng: &mut Rng) -> Vec<u8> {
-    word(rng, &rules::CALL_MODES)
-}
-
-fn call_test(rng: &mut Rng) -> Vec<u8> {
-    word(rng, &rules::CALL_TESTS)
-}
-
-fn secure_call(rng: &mut Rng) -> Vec<u8> {
-    word(rng, &rules::SECURE_CALLS)
-}
-
-fn rescuee(rng: &mut Rng) -> Vec<u8> {
-    word(rng, &rules::RESCUEES)
-}
-
-fn service(rng: &mut Rng) -> Vec<u8> {
-    word(rng, &rules::SERVICES)
-}
-
-fn tag(rng: &mut Rng) -> Vec<u8> {
-    word(rng, &Tag::NAMES)
-}
-
-fn method(rng: &mut Rng) -> Vec<u8> {
-    word(rng, &Method::ALL.map(|(_, name)| name))
-}
-
-fn field(rng: &mut Rng) -> Vec<u8> {
-    word(rng, &fields::NAMES)
-}
-
-fn hop_member(rng: &mut Rng) -> Vec<u8> {
-    word(rng, &rules::HOP_MEMBERS)
 }
 
 fn listed_code(rng: &mut Rng) -> Vec<u8> {
@@ -507,22 +466,20 @@ fn odd_line(rng: &mut Rng) -> Vec<u8> {
         "method-asks 081a",
         "date 323032342d30322d32395432333a35393a35392b30393030",
     ];
-    rng.pick(ODD).as_bytes().to_vec()
+    rng.one_of(ODD)
 }
 
 #[cfg(test)]
 mod tests {
     use super::*;
-    use crate::rule_lines;
+    use crate::lines::tests::written;
+    use crate::rule_lines::{Question, RuleLines, QUESTIONS};
     use std::collections::{BTreeMap, BTreeSet};
 
     #[test]
     fn every_question_has_its_texts() {
         let asked: Vec<&str> = NAMES.iter().map(|name| name.name).collect();
-        let known: Vec<&str> = rule_lines::QUESTIONS
-            .iter()
-            .map(|(name, _)| *name)
-            .collect();
+        let known: Vec<&str> = QUESTIONS.iter().map(|(name, _)| *name).collect();
         assert_eq!(asked, known);
     }
 
@@ -530,9 +487,7 @@ mod tests {
     fn answers_by_name() -> BTreeMap<String, BTreeSet<String>> {
         let mut rng = Rng::new(1);
         let lines: Vec<Vec<u8>> = (0..20_000).map(|_| line(&mut rng)).collect();
-        let mut out = Vec::new();
-        rule_lines::run(&lines.join(&b'\n')[..], &mut out).unwrap();
-        let answers = String::from_utf8(out).unwrap();
+        let answers = written(RuleLines, &lines.join(&b'\n'));
         let mut all: BTreeMap<String, BTreeSet<String>> = BTreeMap::new();
         for (line, answer) in lines.iter().zip(answers.lines()) {
             let line = String::from_utf8_lossy(line);
@@ -546,21 +501,13 @@ mod tests {
     #[test]
     fn every_answer_is_reached() {
         let all = answers_by_name();
-        for (name, question) in &rule_lines::QUESTIONS {
+        for (name, question) in &QUESTIONS {
             let answers = &all[*name];
             let wanted: Vec<String> = match question {
-                rule_lines::Question::Keeps(_) => vec!["yes".into(), "no".into()],
-                rule_lines::Question::Number(number) => {
-                    let words = NAMES.iter().find(|known| known.name == *name).unwrap();
-                    let mut rng = Rng::new(2);
-                    let numbers = (0..500).filter_map(|_| number(&(words.good)(&mut rng)));
-                    numbers
-                        .chain([0])
-                        .map(|number| number.to_string())
-                        .collect()
-                }
-                rule_lines::Question::Says(_) => vec!["no".into()],
-                rule_lines::Question::Table(_) => vec!["0".into(), "1".into(), "?".into()],
+                Question::Keeps(_) => vec!["yes".into(), "no".into()],
+                Question::Number(words) => (0..=words.len()).map(|n| n.to_string()).collect(),
+                Question::Says(_) => vec!["no".into()],
+                Question::Table(_) => vec!["0".into(), "1".into(), "?".into()],
             };
             for answer in wanted {
                 assert!(answers.contains(&answer), "{name}: {answer}");

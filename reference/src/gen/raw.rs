@@ -180,7 +180,7 @@ pub fn text(rng: &mut Rng) -> Vec<u8> {
         3 | 4 => wrapped(rng, STRINGS),
         5 => control_byte(rng),
         6 | 7 => wrapped(rng, STRUCTURES),
-        8 => rng.pick(ENVELOPES).as_bytes().to_vec(),
+        8 => rng.one_of(ENVELOPES),
         9 | 10 => depth(rng),
         11 => bad_utf8(rng),
         12 => alphabet(rng),
@@ -190,7 +190,7 @@ pub fn text(rng: &mut Rng) -> Vec<u8> {
 
 /// A case by itself or where a value may stand.
 fn wrapped(rng: &mut Rng, cases: &[&str]) -> Vec<u8> {
-    let case = rng.pick(cases).as_bytes().to_vec();
+    let case = rng.one_of(cases);
     wrap(rng, &case)
 }
 
@@ -212,7 +212,7 @@ fn wrap(rng: &mut Rng, case: &[u8]) -> Vec<u8> {
 
 /// A literal, cut or changed at any of its bytes, or gone on.
 fn literal(rng: &mut Rng) -> Vec<u8> {
-    let mut word = rng.pick(LITERALS).as_bytes().to_vec();
+    let mut word = rng.one_of(LITERALS);
     let at = rng.below(word.len());
     match rng.below(5) {
         0 => word.truncate(at),

@@ -41,6 +41,11 @@ impl Rng {
         &choices[self.below(choices.len())]
     }
 
+    /// One of the texts.
+    pub fn one_of(&mut self, texts: &[&str]) -> Vec<u8> {
+        self.pick(texts).as_bytes().to_vec()
+    }
+
     /// One of the choices, each as often as its weight says.
     pub fn weighted<T: Copy>(&mut self, choices: &[(usize, T)]) -> T {
         let total = choices.iter().map(|(weight, _)| weight).sum();

@@ -1,18 +1,19 @@
 //! Lines for `probe`.
 
 use super::damage;
-use super::draft::{self, Path, Plan};
+use super::draft::{self, Plan};
 use super::flow::{self, Flow, Happening};
 use super::image;
 use super::raw;
 use super::rng::Rng;
 use super::texts;
 use crate::hex;
+use crate::lines::Answerer;
 use crate::message::MAX_LENGTH;
 use crate::probe::{Probe, MAX_BYTES, MAX_LINE, MAX_ROOM, MAX_TABLE};
 use crate::rules::Method;
 use crate::table;
-use crate::writing::{self, STATUS_TEXTS};
+use crate::writing::{self, OwnPath, STATUS_TEXTS};
 
 /// Tables of more records than this are dumped rarely: they are long.
 const SMALL: usize = 8;
@@ -38,13 +39,13 @@ impl Script {
     /// The next line, without its line feed.
     pub fn line(&mut self) -> Vec<u8> {
         let line = self.compose();
-        self.probe.answer(&line, &mut Vec::new());
+        self.probe.answer(&line);
         line
     }
 
     fn compose(&mut self) -> Vec<u8> {
         let rng = &mut self.rng;
-        let held = self.probe.image();
+        let held = &self.probe.image;
         let records = table::count(held);
         if !table::well_formed(held) && rng.percent(25) {
             return new_table(rng);
@@ -64,7 +65,7 @@ impl Script {
     }
 
     fn event_line(&mut self) -> Vec<u8> {
-        let (time, happening) = self.flow.next(&mut self.rng, self.probe.image());
+        let (time, happening) = self.flow.next(&mut self.rng, &self.probe.image);
         match happening {
             Happening::Message(bytes) => words("msg", &[&time, &Hex(bytes)]),
             Happening::Tick(call_id) => words("tick", &[&time, &Hex(call_id)]),
@@ -231,7 +232,7 @@ fn odd_line(rng: &mut Rng) -> Vec<u8> {
         "add 61  6161 0 -",
         "help",
     ];
-    rng.pick(ODD).as_bytes().to_vec()
+    rng.one_of(ODD)
 }
 
 /// Lines at and over each limit of size.
@@ -390,33 +391,31 @@ fn find(bytes: &[u8], part: &[u8]) -> Option<usize> {
 }
 
 /// Our own path: mostly good, or breaking one of its rules.
-fn own_path(rng: &mut Rng) -> Path {
+fn own_path(rng: &mut Rng) -> OwnPath {
     let mut path = draft::path(rng);
     if rng.percent(8) {
         match rng.below(3) {
-            0 => path.0 = texts::bad_host(rng),
-            1 => path.1 = texts::bad_destination(rng),
-            _ => path.2 = texts::bad_organization(rng),
+            0 => path.host = texts::bad_host(rng),
+            1 => path.destination = texts::bad_destination(rng),
+            _ => path.organization = texts::bad_organization(rng),
         }
         if rng.one_in(4) {
-            path.1 = vec![rng.byte()];
+            path.destination = vec![rng.byte()];
         }
     }
     path
 }
 
-fn lend(path: &Path) -> writing::Path<'_> {
-    writing::Path {
-        host: &path.0,
-        destination: &path.1,
-        organization: &path.2,
-    }
-}
-
-fn path_line(command: &str, path: Path, room: usize, bytes: Vec<u8>) -> Vec<u8> {
+fn path_line(command: &str, path: OwnPath, room: usize, bytes: Vec<u8>) -> Vec<u8> {
     words(
         command,
-        &[&Hex(path.0), &Hex(path.1), &Hex(path.2), &room, &Hex(bytes)],
+        &[
+            &Hex(path.host),
+            &Hex(path.destination),
+            &Hex(path.organization),
+            &room,
+            &Hex(bytes),
+        ],
     )
 }
 
@@ -429,8 +428,8 @@ fn add_line(rng: &mut Rng) -> Vec<u8> {
     match rng.below(20) {
         0 => plan.via.push(path.clone()),
         1 => plan.via.insert(0, path.clone()),
-        2 => plan.via[0].0 = path.0.clone(),
-        3 => plan.via[0].1 = path.1.clone(),
+        2 => plan.via[0].host = path.host.clone(),
+        3 => plan.via[0].destination = path.destination.clone(),
         4 => {
             let count = rng.between(15, 16);
             plan.via.resize_with(count, || draft::path(rng));
@@ -440,10 +439,10 @@ fn add_line(rng: &mut Rng) -> Vec<u8> {
     plan.via.truncate(16);
     let mut bytes = writers_message(rng, &plan);
     if rng.one_in(100) {
-        let grown = writing::add(&bytes, lend(&path), &mut ample());
+        let grown = writing::add(&bytes, path.lend(), &mut ample());
         grow_via(rng, &mut bytes, grown.ok());
     }
-    let length = writing::add(&bytes, lend(&path), &mut ample()).ok();
+    let length = writing::add(&bytes, path.lend(), &mut ample()).ok();
     let room = room_for(rng, length);
     path_line("add", path, room, bytes)
 }
@@ -457,9 +456,9 @@ fn remove_line(rng: &mut Rng) -> Vec<u8> {
     if rng.percent(85) {
         let mut ours = path.clone();
         match rng.below(12) {
-            0 => ours.0 = texts::host(rng),
-            1 => ours.1 = texts::destination(rng),
-            2 => ours.2 = texts::organization(rng),
+            0 => ours.host = texts::host(rng),
+            1 => ours.destination = texts::destination(rng),
+            2 => ours.organization = texts::organization(rng),
             _ => {}
         }
         plan.via.truncate(15);
@@ -472,20 +471,20 @@ fn remove_line(rng: &mut Rng) -> Vec<u8> {
     if rng.one_in(6) {
         bytes = way_back(rng, &path, bytes);
     }
-    let length = writing::remove(&bytes, lend(&path), &mut ample()).ok();
+    let length = writing::remove(&bytes, path.lend(), &mut ample()).ok();
     let room = room_for(rng, length.map(|(length, _)| length));
     path_line("remove", path, room, bytes)
 }
 
 /// The reply to a request that we forwarded, where none of it is refused.
-fn way_back(rng: &mut Rng, path: &Path, otherwise: Vec<u8>) -> Vec<u8> {
+fn way_back(rng: &mut Rng, path: &OwnPath, otherwise: Vec<u8>) -> Vec<u8> {
     let request = Plan {
         response: None,
         ..Plan::random(rng)
     };
     let request = writers_message(rng, &request);
     let mut out = ample();
-    let Ok(length) = writing::add(&request, lend(path), &mut out) else {
+    let Ok(length) = writing::add(&request, path.lend(), &mut out) else {
         return otherwise;
     };
     let forwarded = out[..length].to_vec();

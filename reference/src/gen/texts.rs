@@ -1,4 +1,5 @@
 //! Texts that keep or break the rules of 01 Reading, at and around each mark.
+//! The rules themselves are tested by the lists of them.
 
 use super::rng::Rng;
 
@@ -31,46 +32,40 @@ fn bounded(rng: &mut Rng, ends: &[u8], inner: &[u8], low: usize, high: usize) ->
     text
 }
 
-fn some(rng: &mut Rng, choices: &[&str]) -> Vec<u8> {
-    rng.pick(choices).as_bytes().to_vec()
-}
-
 pub fn fire_id(rng: &mut Rng) -> Vec<u8> {
     if rng.percent(70) {
-        some(
-            rng,
-            &["kita", "nishi", "tokyo", "osaka", "a1", "k_2", "sakai"],
-        )
+        rng.one_of(&["kita", "nishi", "tokyo", "osaka", "a1", "k_2", "sakai"])
     } else {
         bounded(rng, LOWER, LOWER_MARK, 2, 15)
     }
 }
 
+pub const BAD_FIRE_IDS: &[&str] = &[
+    "",
+    "k",
+    "_",
+    "__",
+    "_kita",
+    "kita_",
+    "Kita",
+    "ki-ta",
+    "ki.ta",
+    "ki ta",
+    "kit\u{e9}",
+    "k234567890123456",
+    "k2345678901234567890",
+    "ki\\u0074a",
+    "kita\\n",
+    "北",
+];
+
 pub fn bad_fire_id(rng: &mut Rng) -> Vec<u8> {
-    const BAD: &[&str] = &[
-        "",
-        "k",
-        "_",
-        "__",
-        "_kita",
-        "kita_",
-        "Kita",
-        "ki-ta",
-        "ki.ta",
-        "ki ta",
-        "kit\u{e9}",
-        "k234567890123456",
-        "k2345678901234567890",
-        "ki\\u0074a",
-        "kita\\n",
-        "北",
-    ];
-    some(rng, BAD)
+    rng.one_of(BAD_FIRE_IDS)
 }
 
 pub fn user_id(rng: &mut Rng) -> Vec<u8> {
     if rng.percent(70) {
-        some(rng, &["u1", "user00001", "fire", "Q", "A9z"])
+        rng.one_of(&["u1", "user00001", "fire", "Q", "A9z"])
     } else {
         bounded(rng, ALNUM, ALNUM, 1, 15)
     }
@@ -99,84 +94,98 @@ pub fn bad_call_id(rng: &mut Rng) -> Vec<u8> {
     }
 }
 
-/// A caller's or a callee's address that breaks the rule.
+pub fn caller_address(user: &[u8], fire: &[u8]) -> Vec<u8> {
+    [b"net119:", user, b"@", fire, b".caller"].concat()
+}
+
+pub fn callee_address(fire: &[u8]) -> Vec<u8> {
+    [b"net119:fire@", fire, b".callee"].concat()
+}
+
+/// Addresses of callers and of callees.
+pub const BAD_ADDRESSES: &[&str] = &[
+    "",
+    "net119:",
+    "net119:u1@kita",
+    "net119:u1@kita.callee",
+    "net119:Fire@kita.callee",
+    "net119:@kita.caller",
+    "net119:fire@.callee",
+    "net119:u1@k.caller",
+    "net119:u1@kita.caller ",
+    " net119:u1@kita.caller",
+    "net119:u1@kita.callers",
+    "net119:u1@kita.calle",
+    "net119:u_1@kita.caller",
+    "net119:u1@@kita.caller",
+    "net119:u1@kita_.caller",
+    "net119:u234567890123456@kita.caller",
+    "net119:u1@k234567890123456.caller",
+    "net119:fire@k234567890123456.callee",
+    "NET119:u1@kita.caller",
+    "net118:u1@kita.caller",
+    "net119:u1\\u0040kita.caller",
+    "net119:u1@kita.caller.callee",
+    "u1@kita.caller",
+];
+
 pub fn bad_address(rng: &mut Rng) -> Vec<u8> {
-    const BAD: &[&str] = &[
-        "",
-        "net119:",
-        "net119:u1@kita",
-        "net119:u1@kita.callee",
-        "net119:Fire@kita.callee",
-        "net119:@kita.caller",
-        "net119:fire@.callee",
-        "net119:u1@k.caller",
-        "net119:u1@kita.caller ",
-        " net119:u1@kita.caller",
-        "net119:u1@kita.callers",
-        "net119:u1@kita.calle",
-        "net119:u_1@kita.caller",
-        "net119:u1@@kita.caller",
-        "net119:u1@kita_.caller",
-        "net119:u234567890123456@kita.caller",
-        "net119:u1@k234567890123456.caller",
-        "net119:fire@k234567890123456.callee",
-        "NET119:u1@kita.caller",
-        "net118:u1@kita.caller",
-        "net119:u1\\u0040kita.caller",
-        "net119:u1@kita.caller.callee",
-        "u1@kita.caller",
-    ];
-    some(rng, BAD)
+    rng.one_of(BAD_ADDRESSES)
+}
+
+pub fn bad_cseqs(method: &str) -> [String; 20] {
+    [
+        format!("0 {method}"),
+        format!("01 {method}"),
+        format!("4294967296 {method}"),
+        format!("4294967300 {method}"),
+        format!("18446744073709551617 {method}"),
+        format!("99999999999999999999 {method}"),
+        format!("1  {method}"),
+        format!("1 {method} "),
+        format!(" 1 {method}"),
+        format!("1{method}"),
+        format!("-1 {method}"),
+        format!("+1 {method}"),
+        format!("1\\u0020{method}"),
+        format!("1.0 {method}"),
+        format!("1 {}", method.to_lowercase()),
+        format!("1 {method}S"),
+        format!("1 {}", &method[..method.len() - 1]),
+        "1 OPTIONS".into(),
+        "1 ".into(),
+        method.into(),
+    ]
 }
 
 pub fn bad_cseq(rng: &mut Rng, method: &str) -> Vec<u8> {
-    let text = match rng.below(20) {
-        0 => format!("0 {method}"),
-        1 => format!("01 {method}"),
-        2 => format!("4294967296 {method}"),
-        3 => format!("4294967300 {method}"),
-        4 => format!("18446744073709551617 {method}"),
-        5 => format!("99999999999999999999 {method}"),
-        6 => format!("1  {method}"),
-        7 => format!("1 {method} "),
-        8 => format!(" 1 {method}"),
-        9 => format!("1{method}"),
-        10 => format!("-1 {method}"),
-        11 => format!("+1 {method}"),
-        12 => format!("1\\u0020{method}"),
-        13 => format!("1.0 {method}"),
-        14 => format!("1 {}", method.to_lowercase()),
-        15 => format!("1 {method}S"),
-        16 => format!("1 {}", &method[..method.len() - 1]),
-        17 => "1 OPTIONS".into(),
-        18 => "1 ".into(),
-        _ => method.into(),
-    };
-    text.into()
+    rng.pick(&bad_cseqs(method)).as_bytes().to_vec()
 }
 
+/// Days that there are, at the ends of months and of ranges.
+pub const DATES: &[&str] = &[
+    "2024-02-29T23:59:59+0900",
+    "2000-02-29T00:00:00+0000",
+    "0001-01-01T00:00:00+0000",
+    "9999-12-31T23:59:59+1459",
+    "2023-04-30T12:00:00+1400",
+    "2023-02-28T23:00:59+0059",
+    "0400-02-29T00:59:00+0001",
+    "2023-01-31T00:00:00+0900",
+    "2023-03-31T00:00:00+0900",
+    "2023-05-31T00:00:00+0900",
+    "2023-06-30T00:00:00+0900",
+    "2023-07-31T00:00:00+0900",
+    "2023-08-31T00:00:00+0900",
+    "2023-09-30T00:00:00+0900",
+    "2023-10-31T00:00:00+0900",
+    "2023-11-30T00:00:00+0900",
+    "2023-12-31T00:00:00+0900",
+];
+
 pub fn date(rng: &mut Rng) -> Vec<u8> {
-    const EDGES: &[&str] = &[
-        "2024-02-29T23:59:59+0900",
-        "2000-02-29T00:00:00+0000",
-        "0001-01-01T00:00:00+0000",
-        "9999-12-31T23:59:59+1459",
-        "2023-04-30T12:00:00+1400",
-        "2023-02-28T23:00:59+0059",
-        "0400-02-29T00:59:00+0001",
-        "2023-01-31T00:00:00+0900",
-        "2023-03-31T00:00:00+0900",
-        "2023-05-31T00:00:00+0900",
-        "2023-06-30T00:00:00+0900",
-        "2023-07-31T00:00:00+0900",
-        "2023-08-31T00:00:00+0900",
-        "2023-09-30T00:00:00+0900",
-        "2023-10-31T00:00:00+0900",
-        "2023-11-30T00:00:00+0900",
-        "2023-12-31T00:00:00+0900",
-    ];
     if rng.percent(30) {
-        return some(rng, EDGES);
+        return rng.one_of(DATES);
     }
     let (year, month, day) = (rng.between(1, 9999), rng.between(1, 12), rng.between(1, 28));
     let (hour, minute, second) = (rng.below(24), rng.below(60), rng.below(60));
@@ -187,36 +196,37 @@ pub fn date(rng: &mut Rng) -> Vec<u8> {
     .into()
 }
 
+pub const BAD_DATES: &[&str] = &[
+    "",
+    "1900-02-29T00:00:00+0000",
+    "2100-02-29T00:00:00+0000",
+    "2023-02-29T00:00:00+0000",
+    "2024-02-30T00:00:00+0000",
+    "2023-04-31T00:00:00+0000",
+    "2023-01-32T00:00:00+0000",
+    "2023-01-00T00:00:00+0000",
+    "2023-00-01T00:00:00+0000",
+    "2023-13-01T00:00:00+0000",
+    "0000-01-01T00:00:00+0000",
+    "2023-01-01T24:00:00+0000",
+    "2023-01-01T00:60:00+0000",
+    "2023-01-01T00:00:60+0000",
+    "2023-01-01T00:00:00+1500",
+    "2023-01-01T00:00:00+1460",
+    "2023-01-01T00:00:00-0900",
+    "2023-01-01T00:00:00+09:00",
+    "2023-01-01T00:00:00+090",
+    "2023-01-01T00:00:00+09000",
+    "2023-01-01t00:00:00+0900",
+    "2023-01-01 00:00:00+0900",
+    "2023-01-01T00:00:00Z",
+    "2023-1-01T00:00:00+09000",
+];
+
 /// Mostly bad dates: some that a number turns bad are real days after all.
 pub fn bad_date(rng: &mut Rng) -> Vec<u8> {
-    const BAD: &[&str] = &[
-        "",
-        "1900-02-29T00:00:00+0000",
-        "2100-02-29T00:00:00+0000",
-        "2023-02-29T00:00:00+0000",
-        "2024-02-30T00:00:00+0000",
-        "2023-04-31T00:00:00+0000",
-        "2023-01-32T00:00:00+0000",
-        "2023-01-00T00:00:00+0000",
-        "2023-00-01T00:00:00+0000",
-        "2023-13-01T00:00:00+0000",
-        "0000-01-01T00:00:00+0000",
-        "2023-01-01T24:00:00+0000",
-        "2023-01-01T00:60:00+0000",
-        "2023-01-01T00:00:60+0000",
-        "2023-01-01T00:00:00+1500",
-        "2023-01-01T00:00:00+1460",
-        "2023-01-01T00:00:00-0900",
-        "2023-01-01T00:00:00+09:00",
-        "2023-01-01T00:00:00+090",
-        "2023-01-01T00:00:00+09000",
-        "2023-01-01t00:00:00+0900",
-        "2023-01-01 00:00:00+0900",
-        "2023-01-01T00:00:00Z",
-        "2023-1-01T00:00:00+09000",
-    ];
     if rng.percent(60) {
-        return some(rng, BAD);
+        return rng.one_of(BAD_DATES);
     }
     if rng.one_in(3) {
         // Every fourth of these years is a leap year.
@@ -235,10 +245,7 @@ pub fn bad_date(rng: &mut Rng) -> Vec<u8> {
 
 pub fn host(rng: &mut Rng) -> Vec<u8> {
     if rng.percent(80) {
-        some(
-            rng,
-            &["h1.nx", "call01.east.emcall.jp", "10.0.0.1", "-", "."],
-        )
+        rng.one_of(&["h1.nx", "call01.east.emcall.jp", "10.0.0.1", "-", "."])
     } else if rng.one_in(8) {
         let length = rng.between(252, 253);
         rng.text(ALNUM_MARKS, length)
@@ -263,7 +270,7 @@ pub fn bad_host(rng: &mut Rng) -> Vec<u8> {
 
 pub fn destination(rng: &mut Rng) -> Vec<u8> {
     if rng.percent(80) {
-        some(rng, &["/queue/tokyo.caller", "kita.callee", "!", "~"])
+        rng.one_of(&["/queue/tokyo.caller", "kita.callee", "!", "~"])
     } else {
         let length = length(rng, 1, 64);
         rng.text(GRAPHIC, length)
@@ -284,31 +291,41 @@ pub fn bad_destination(rng: &mut Rng) -> Vec<u8> {
 
 pub fn organization(rng: &mut Rng) -> Vec<u8> {
     if rng.percent(80) {
-        some(rng, &["nx", "emcall", "A-1", "0123456789"])
+        rng.one_of(&["nx", "emcall", "A-1", "0123456789"])
     } else {
         bounded(rng, ALNUM, b"abAB01-", 2, 10)
     }
 }
 
+pub const BAD_ORGANIZATIONS: &[&str] = &[
+    "",
+    "n",
+    "-nx",
+    "nx-",
+    "n_x",
+    "n.x",
+    "n x",
+    "01234567890",
+    "--",
+    "n\\u0078",
+    "n\u{e9}",
+];
+
 pub fn bad_organization(rng: &mut Rng) -> Vec<u8> {
-    const BAD: &[&str] = &[
-        "",
-        "n",
-        "-nx",
-        "nx-",
-        "n_x",
-        "n.x",
-        "n x",
-        "01234567890",
-        "--",
-        "n\\u0078",
-        "n\u{e9}",
-    ];
-    some(rng, BAD)
+    rng.one_of(BAD_ORGANIZATIONS)
+}
+
+/// A Destination or a Responded-By.
+pub fn callee_queue(rng: &mut Rng) -> Vec<u8> {
+    [fire_id(rng), b".callee".to_vec()].concat()
+}
+
+pub fn status(rng: &mut Rng, code: u16) -> Vec<u8> {
+    [format!("{code} ").as_bytes(), &phrase(rng)].concat()
 }
 
 /// The text of a status after its code, free.
-pub fn phrase(rng: &mut Rng) -> Vec<u8> {
+fn phrase(rng: &mut Rng) -> Vec<u8> {
     const PHRASES: &[&str] = &[
         "OK",
         "",
@@ -320,58 +337,60 @@ pub fn phrase(rng: &mut Rng) -> Vec<u8> {
         "呼出中",
         " two",
     ];
-    some(rng, PHRASES)
+    rng.one_of(PHRASES)
 }
 
+pub const BAD_STATUSES: &[&str] = &[
+    "",
+    "099 x",
+    "700 x",
+    "999 x",
+    "000 x",
+    "200",
+    "200OK",
+    "20 OK",
+    "2000 OK",
+    "2\\u00300 OK",
+    " 200 OK",
+    "200\\tOK",
+    "2OO OK",
+    "-20 OK",
+    "available",
+];
+
 pub fn bad_status(rng: &mut Rng) -> Vec<u8> {
-    const BAD: &[&str] = &[
-        "",
-        "099 x",
-        "700 x",
-        "999 x",
-        "000 x",
-        "200",
-        "200OK",
-        "20 OK",
-        "2000 OK",
-        "2\\u00300 OK",
-        " 200 OK",
-        "200\\tOK",
-        "2OO OK",
-        "-20 OK",
-        "available",
-    ];
-    some(rng, BAD)
+    rng.one_of(BAD_STATUSES)
 }
 
 pub fn message_id(rng: &mut Rng) -> Vec<u8> {
-    let side = some(rng, &["caller", "callee"]);
+    let side = rng.one_of(&["caller", "callee"]);
     let fire = fire_id(rng);
     let room = 64 - side.len() - fire.len() - 2;
     let own = bounded(rng, ALNUM, ALNUM, 1, room);
     [side, fire, own].join(&b'-')
 }
 
+pub const BAD_MESSAGE_IDS: &[&str] = &[
+    "",
+    "caller-kita-",
+    "caller-kita",
+    "caller--1",
+    "Caller-kita-1",
+    "desk-kita-1",
+    "caller-k-1",
+    "caller-_a-1",
+    "caller-kita-1-2",
+    "caller-kita-1.2",
+    "callee-kita-\\u0031",
+    "callerkita-1",
+    "callee-k234567890123456-1",
+];
+
 pub fn bad_message_id(rng: &mut Rng) -> Vec<u8> {
     if rng.one_in(4) {
         return [b"caller-kita-".to_vec(), vec![b'x'; 53]].concat();
     }
-    const BAD: &[&str] = &[
-        "",
-        "caller-kita-",
-        "caller-kita",
-        "caller--1",
-        "Caller-kita-1",
-        "desk-kita-1",
-        "caller-k-1",
-        "caller-_a-1",
-        "caller-kita-1-2",
-        "caller-kita-1.2",
-        "callee-kita-\\u0031",
-        "callerkita-1",
-        "callee-k234567890123456-1",
-    ];
-    some(rng, BAD)
+    rng.one_of(BAD_MESSAGE_IDS)
 }
 
 /// A memo of about 128 code points, one or three bytes each.
@@ -393,5 +412,5 @@ pub fn free(rng: &mut Rng) -> Vec<u8> {
         "\u{fff9}a\u{fffa}b\u{fffb}",
         "\u{7f}\u{10ffff}",
     ];
-    some(rng, FREE)
+    rng.one_of(FREE)
 }

@@ -62,5 +62,5 @@ fn odd_line(rng: &mut Rng) -> Vec<u8> {
         "0x5b",
         "read 5b5d",
     ];
-    rng.pick(ODD).as_bytes().to_vec()
+    rng.one_of(ODD)
 }

@@ -19,53 +19,17 @@ abbrev μ-loop : tie.MeasureT-loop
 loop-holds : tie.Need-loop-holds Inv-loop μ-loop
 loop-holds c = (search needs, refl, written-none (c .before .before .args .out .now) (decoded (c .before .before .args .s .now)))
 
-mul-value : tie.Need-mul-value Inv-loop μ-loop
-mul-value c = search needs
-
-shared-slice-read-value : tie.Need-shared-slice-read-value Inv-loop μ-loop
-shared-slice-read-value c = search needs
-
-value-requires : tie.Need-value-requires Inv-loop μ-loop
-value-requires c κs = search needs
-
-mul-out : tie.Need-mul-out Inv-loop μ-loop
-mul-out c = search needs
-
-mul-value-2 : tie.Need-mul-value-2 Inv-loop μ-loop
-mul-value-2 c = search needs
-
-add-value : tie.Need-add-value Inv-loop μ-loop
-add-value c = search needs
-
-shared-slice-read-value-2 : tie.Need-shared-slice-read-value-2 Inv-loop μ-loop
-shared-slice-read-value-2 c = search needs
-
-value-requires-2 : tie.Need-value-requires-2 Inv-loop μ-loop
-value-requires-2 c κs = search needs
-
-add-out : tie.Need-add-out Inv-loop μ-loop
-add-out c = search needs
-
-slice-write-out : tie.Need-slice-write-out Inv-loop μ-loop
-slice-write-out c = search needs
-
-add-i : tie.Need-add-i Inv-loop μ-loop
-add-i c = search needs
-
-loop-less : tie.Need-loop-less Inv-loop μ-loop
-loop-less c = search needs
-
 loop-again : tie.Need-loop-again Inv-loop μ-loop
 loop-again c =
-    let l = c .before .before .before .before .before .loop in
-    let x = c .before .before .before .before .before .before .before .before .args in
+    let at-loop = c .before .before .before .before .before in
+    let start = at-loop .before .before .before in
+    let l = at-loop .loop in
+    let x = start .args in
     let s = x .s .now in
     let h : l .i < length s / 2 = omega arith in
-    let v : c .before .before .value .result * 16 + c .value2 .result ≡ getD (decoded s) (l .i) 0 = rw (c .before .before .value .ensures .0, c .value2 .ensures .0) (sym (decoded-at s (l .i) h)) in
+    let v : c .before .before .worth .result * 16 + c .worth2 .result ≡ getD (decoded s) (l .i) 0 = rw (c .before .before .worth .ensures .0, c .worth2 .ensures .0)
+    (sym (decoded-at s (l .i) h)) in
     (search needs, search needs, rw (l .inv .2) (written-more (x .out .now) (decoded s) (l .i) _ (rw (length-decoded s) h) (rw (length-decoded s) (omega arith)) v))
-
-same-length : tie.Need-same-length Inv-loop μ-loop
-same-length c = search needs
 
 returns : tie.Need-returns Inv-loop μ-loop
 returns c =
@@ -81,18 +45,18 @@ decode-spec =
     Inv-loop
     μ-loop
     loop-holds
-    mul-value
-    shared-slice-read-value
-    value-requires
-    mul-out
-    mul-value-2
-    add-value
-    shared-slice-read-value-2
-    value-requires-2
-    add-out
-    slice-write-out
-    add-i
-    loop-less
+    (λ c. search needs)
+    (λ c. search needs)
+    (λ c κs. search needs)
+    (λ c. search needs)
+    (λ c. search needs)
+    (λ c. search needs)
+    (λ c. search needs)
+    (λ c κs. search needs)
+    (λ c. search needs)
+    (λ c. search needs)
+    (λ c. search needs)
+    (λ c. search needs)
     loop-again
-    same-length
+    (λ c. search needs)
     returns)

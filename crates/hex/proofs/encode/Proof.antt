@@ -20,55 +20,34 @@ abbrev μ-loop : tie.MeasureT-loop
 loop-holds : tie.Need-loop-holds Inv-loop μ-loop
 loop-holds c = (search needs, refl, written-none (c .before .before .args .out .now) (encoded (c .before .before .args .s .now)))
 
-shared-slice-read-b : tie.Need-shared-slice-read-b Inv-loop μ-loop
-shared-slice-read-b c = search needs
-
 digit-requires : tie.Need-digit-requires Inv-loop μ-loop
 digit-requires c κs = omega (arith, c .shared-slice-known2 .given (c .before .before .loop .i))
 
-mul-out : tie.Need-mul-out Inv-loop μ-loop
-mul-out c = search needs
-
-slice-write-out : tie.Need-slice-write-out Inv-loop μ-loop
-slice-write-out c = search needs
-
-digit-requires-2 : tie.Need-digit-requires-2 Inv-loop μ-loop
-digit-requires-2 c κs = search needs
-
-mul-out-2 : tie.Need-mul-out-2 Inv-loop μ-loop
-mul-out-2 c = search needs
-
-add-out : tie.Need-add-out Inv-loop μ-loop
-add-out c = search needs
-
 slice-write-out-2 : tie.Need-slice-write-out-2 Inv-loop μ-loop
-slice-write-out-2 c = lt-length-set (c .before .before .before .before .loop .out) (2 * c .before .before .before .before .loop .i) (c .before .digit .result) (omega arith)
-
-add-i : tie.Need-add-i Inv-loop μ-loop
-add-i c = search needs
-
-loop-less : tie.Need-loop-less Inv-loop μ-loop
-loop-less c = search needs
+slice-write-out-2 c =
+    let at-loop = c .before .before .before .before in
+    lt-length-set (at-loop .loop .out) (2 * at-loop .loop .i) (c .before .digit .result) (omega arith)
 
 loop-again : tie.Need-loop-again Inv-loop μ-loop
 loop-again c =
-    let l = c .before .before .before .before .loop in
-    let x = c .before .before .before .before .before .before .before .args in
+    let at-loop = c .before .before .before .before in
+    let start = at-loop .before .before .before in
+    let l = at-loop .loop in
+    let x = start .args in
     let s = x .s .now in
     let h : l .i < length s = omega arith in
     let z : 2 * (l .i + 1) ≡ 2 * l .i + 1 + 1 = omega arith in
     let n = length-encoded s in (
       search needs,
       search needs,
-      rw (z, l .inv .2, written-more (x .out .now) (encoded s) (2 * l .i) (c .before .digit .result) (omega arith) (omega arith) (c .before .digit .ensures ∙ sym (encoded-high s (l .i) h)))
+      rw (
+        z,
+        l .inv .2,
+        written-more (x .out .now) (encoded s) (2 * l .i) (c .before .digit .result) (omega arith) (omega arith)
+            (c .before .digit .ensures ∙ sym (encoded-high s (l .i) h)),
+      )
           (written-more (x .out .now) (encoded s) (2 * l .i + 1) (c .digit2 .result) (omega arith) (omega arith) (c .digit2 .ensures ∙ sym (encoded-low s (l .i) h))),
     )
-
-mul-result : tie.Need-mul-result Inv-loop μ-loop
-mul-result c = search needs
-
-same-length : tie.Need-same-length Inv-loop μ-loop
-same-length c = search needs
 
 returns : tie.Need-returns Inv-loop μ-loop
 returns c =
@@ -84,17 +63,17 @@ encode-spec =
     Inv-loop
     μ-loop
     loop-holds
-    shared-slice-read-b
+    (λ c. search needs)
     digit-requires
-    mul-out
-    slice-write-out
-    digit-requires-2
-    mul-out-2
-    add-out
+    (λ c. search needs)
+    (λ c. search needs)
+    (λ c κs. search needs)
+    (λ c. search needs)
+    (λ c. search needs)
     slice-write-out-2
-    add-i
-    loop-less
+    (λ c. search needs)
+    (λ c. search needs)
     loop-again
-    mul-result
-    same-length
+    (λ c. search needs)
+    (λ c. search needs)
     returns)

@@ -24,30 +24,22 @@ returns c = rw (ne-eqb _ _ (c .if1 .taken))
 loop-holds : tie.Need-loop-holds Inv-loop μ-loop
 loop-holds c = (search needs, c .if1 .left, refl)
 
-shared-slice-read-is-digit : tie.Need-shared-slice-read-is-digit Inv-loop μ-loop
-shared-slice-read-is-digit c = search needs
-
-is-digit-requires : tie.Need-is-digit-requires Inv-loop μ-loop
-is-digit-requires c κs = search needs
-
 returns-2 : tie.Need-returns-2 Inv-loop μ-loop
 unfolding isHex
 returns-2 c =
-    let l = c .before .before .before .before .loop in
-    let s = c .before .before .before .before .before .before .before .args .s .now in
-    rw (eq-eqb _ _ (l .inv .1)) (sym (l .inv .2 ∙ all-stops isHexDigit s (l .i) (omega arith) (sym (c .before .is-digit .ensures) ∙ not-true _ (c .if2 .taken))))
-
-add-i : tie.Need-add-i Inv-loop μ-loop
-add-i c = search needs
-
-loop-less : tie.Need-loop-less Inv-loop μ-loop
-loop-less c = search needs
+    let at-loop = c .before .before .before .before in
+    let start = at-loop .before .before .before in
+    let l = at-loop .loop in
+    let s = start .args .s .now in
+    rw (eq-eqb _ _ (l .inv .1)) (sym (l .inv .2 ∙ all-stops isHexDigit s (l .i) (omega arith) (sym (c .before .is-hex-digit .ensures) ∙ not-true _ (c .if2 .taken))))
 
 loop-again : tie.Need-loop-again Inv-loop μ-loop
 loop-again c =
-    let l = c .before .before .before .before .loop in
-    let s = c .before .before .before .before .before .before .before .args .s .now in
-    (search needs, l .inv .1, l .inv .2 ∙ all-more isHexDigit s (l .i) (omega arith) (sym (c .before .is-digit .ensures) ∙ not-false _ (c .if2 .left)))
+    let at-loop = c .before .before .before .before in
+    let start = at-loop .before .before .before in
+    let l = at-loop .loop in
+    let s = start .args .s .now in
+    (search needs, l .inv .1, l .inv .2 ∙ all-more isHexDigit s (l .i) (omega arith) (sym (c .before .is-hex-digit .ensures) ∙ not-false _ (c .if2 .left)))
 
 returns-3 : tie.Need-returns-3 Inv-loop μ-loop
 unfolding isHex
@@ -63,10 +55,10 @@ is-hex-spec =
     μ-loop
     returns
     loop-holds
-    shared-slice-read-is-digit
-    is-digit-requires
+    (λ c. search needs)
+    (λ c κs. search needs)
     returns-2
-    add-i
-    loop-less
+    (λ c. search needs)
+    (λ c. search needs)
     loop-again
     returns-3)

@@ -13,38 +13,15 @@ Inv-loop s text₀ from₀ text from = Unit {0}
 abbrev μ-loop : tie.MeasureT-loop
 μ-loop s text₀ from₀ text from = length s - from
 
-loop-holds : tie.Need-loop-holds Inv-loop μ-loop
-loop-holds c = search needs
-
-find-requires : tie.Need-find-requires Inv-loop μ-loop
-find-requires c κs = search needs
-
-sub-decoded : tie.Need-sub-decoded Inv-loop μ-loop
-sub-decoded c = search needs
-
-part-decoded-start : tie.Need-part-decoded-start Inv-loop μ-loop
-part-decoded-start c = search needs
-
 part-decoded-end : tie.Need-part-decoded-end Inv-loop μ-loop
 part-decoded-end c = omega (arith, c .find .ensures, found-within 10 (c .before .before .before .before .args .s .now) (c .before .before .loop .from) (search needs))
 
-decoded-requires : tie.Need-decoded-requires Inv-loop μ-loop
-decoded-requires c κs = search needs
-
-answer-requires : tie.Need-answer-requires Inv-loop μ-loop
-answer-requires c κs = search needs
-
 add-from : tie.Need-add-from Inv-loop μ-loop
-add-from c = omega (arith, c .before .before .before .before .before .find .ensures, found-within 10 (c .before .before .before .before .before .before .before .before .before .args .s .now) (c .before .before .before .before .before .before .before .loop .from) (search needs))
-
-loop-less : tie.Need-loop-less Inv-loop μ-loop
-loop-less c = search needs
-
-loop-again : tie.Need-loop-again Inv-loop μ-loop
-loop-again c = search needs
-
-returns : tie.Need-returns Inv-loop μ-loop
-returns c = search needs
+add-from c =
+    let at-find = c .before .before .before .before .before in
+    let at-loop = at-find .before .before in
+    let start = at-loop .before .before in
+    omega (arith, at-find .find .ensures, found-within 10 (start .args .s .now) (at-loop .loop .from) (search needs))
 
 pub lines-spec : {M : Type 1} → statement M
 lines-spec =
@@ -52,14 +29,14 @@ lines-spec =
     (tie.spec
     Inv-loop
     μ-loop
-    loop-holds
-    find-requires
-    sub-decoded
-    part-decoded-start
+    (λ c. search needs)
+    (λ c κs. search needs)
+    (λ c. search needs)
+    (λ c. search needs)
     part-decoded-end
-    decoded-requires
-    answer-requires
+    (λ c κs. search needs)
+    (λ c κs. search needs)
     add-from
-    loop-less
-    loop-again
-    returns)
+    (λ c. search needs)
+    (λ c. search needs)
+    (λ c. search needs))

@@ -1,5 +1,5 @@
 -- An open line that is not empty is answered, and an empty one is not. Assumes nothing.
-use Rattle.keep.proofs.WorkLaws.{take-splice}
+use Rattle.octets.proofs.Chain.{take-splice}
 use Rattle.keep.proofs.last.Statement.{statement}
 use Rattle.keep.proofs.last.Tie as tie
 use Rattle.keep.specs.Log.{lineDone}

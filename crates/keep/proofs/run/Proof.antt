@@ -6,7 +6,7 @@ use Rattle.keep.proofs.run.Tie as tie
 use Rattle.keep.specs.Log.{lineDone}
 use Rattle.lines.proofs.TurnLaws.{begins, never}
 use Rattle.lines.proofs.WholeRun.{further}
-use Rattle.lines.specs.Running.{Reached}
+use Rattle.lines.specs.inner.Running.{Reached}
 use Rattle.table.specs.Blank.{blankOf}
 use Rattle.table.specs.WellFormed.{wellFormed}
 use borrow.Author.Needs.{needs}

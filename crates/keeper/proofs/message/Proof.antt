@@ -6,21 +6,12 @@ use borrow.Author.Needs.{needs}
 use borrow.Author.Tests.{not-true, not-false}
 use mathlib.Core.Path.{refl, sym, _∙_}
 
-well-formed-requires : tie.Need-well-formed-requires
-well-formed-requires c κs = search needs
-
-same-length : tie.Need-same-length
-same-length c = search needs
-
 returns : tie.Need-returns
 unfolding onMessage
 returns c = rw (sym (c .before .well-formed .ensures) ∙ not-true _ (c .if1 .taken)) (refl, refl)
 
 message-step-requires : tie.Need-message-step-requires
 message-step-requires c κs = sym (c .before .before .well-formed .ensures) ∙ not-false _ (c .before .if1 .left)
-
-same-length-2 : tie.Need-same-length-2
-same-length-2 c = search needs
 
 returns-2 : tie.Need-returns-2
 returns-2 c = (c .before .before .message-step .ensures .0, c .before .before .message-step .ensures .1)
@@ -29,9 +20,9 @@ pub message-spec : {M : Type 1} → statement M
 message-spec =
     tie.close
     (tie.spec
-    well-formed-requires
-    same-length
+    (λ c κs. search needs)
+    (λ c. search needs)
     returns
     message-step-requires
-    same-length-2
+    (λ c. search needs)
     returns-2)

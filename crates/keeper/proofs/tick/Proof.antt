@@ -6,12 +6,6 @@ use borrow.Author.Needs.{needs}
 use borrow.Author.Tests.{not-true, not-false}
 use mathlib.Core.Path.{refl, sym, _∙_}
 
-well-formed-requires : tie.Need-well-formed-requires
-well-formed-requires c κs = search needs
-
-same-length : tie.Need-same-length
-same-length c = search needs
-
 returns : tie.Need-returns
 unfolding onTick
 returns c = rw (sym (c .before .well-formed .ensures) ∙ not-true _ (c .if1 .taken)) (refl, refl)
@@ -19,13 +13,10 @@ returns c = rw (sym (c .before .well-formed .ensures) ∙ not-true _ (c .if1 .ta
 tick-step-requires : tie.Need-tick-step-requires
 tick-step-requires c κs = sym (c .before .before .well-formed .ensures) ∙ not-false _ (c .before .if1 .left)
 
-same-length-2 : tie.Need-same-length-2
-same-length-2 c = search needs
-
 returns-2 : tie.Need-returns-2
 returns-2 c = (c .before .before .tick-step .ensures .0, c .before .before .tick-step .ensures .1)
 
 pub tick-spec : {M : Type 1} → statement M
 tick-spec =
     tie.close
-    (tie.spec well-formed-requires same-length returns tick-step-requires same-length-2 returns-2)
+    (tie.spec (λ c κs. search needs) (λ c. search needs) returns tick-step-requires (λ c. search needs) returns-2)

@@ -5,14 +5,8 @@ use Rattle.net119.specs.Flat.{flatReading}
 use borrow.Author.Needs.{needs}
 use mathlib.Core.Path.{ap, _∙_}
 
-read-requires : tie.Need-read-requires
-read-requires c κs = search needs
-
-flat-reading-requires : tie.Need-flat-reading-requires
-flat-reading-requires c κs = search needs
-
 returns : tie.Need-returns
 returns c = c .flat-reading .ensures ∙ ap flatReading (c .before .read .ensures)
 
 pub net119-read-spec : {M : Type 1} → statement M
-net119-read-spec = tie.close (tie.spec read-requires flat-reading-requires returns)
+net119-read-spec = tie.close (tie.spec (λ c κs. search needs) (λ c κs. search needs) returns)

@@ -5,17 +5,8 @@ use Rattle.net119.specs.Flat.{flatWritten}
 use borrow.Author.Needs.{needs}
 use mathlib.Core.Path.{ap, _∙_}
 
-reply-requires : tie.Need-reply-requires
-reply-requires c κs = search needs
-
-flat-written-requires : tie.Need-flat-written-requires
-flat-written-requires c κs = search needs
-
-same-length : tie.Need-same-length
-same-length c = search needs
-
 returns : tie.Need-returns
 returns c = (c .flat-written .ensures ∙ ap flatWritten (c .before .before .before .reply .ensures .answer), c .before .before .before .reply .ensures .output)
 
 pub net119-reply-spec : {M : Type 1} → statement M
-net119-reply-spec = tie.close (tie.spec reply-requires flat-written-requires same-length returns)
+net119-reply-spec = tie.close (tie.spec (λ c κs. search needs) (λ c κs. search needs) (λ c. search needs) returns)

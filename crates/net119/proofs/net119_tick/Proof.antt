@@ -5,17 +5,8 @@ use Rattle.net119.specs.Flat.{flatAnswer}
 use borrow.Author.Needs.{needs}
 use mathlib.Core.Path.{ap, _∙_}
 
-tick-requires : tie.Need-tick-requires
-tick-requires c κs = search needs
-
-flat-answer-requires : tie.Need-flat-answer-requires
-flat-answer-requires c κs = search needs
-
-same-length : tie.Need-same-length
-same-length c = search needs
-
 returns : tie.Need-returns
 returns c = (c .flat-answer .ensures ∙ ap flatAnswer (c .before .before .before .tick .ensures .0), c .before .before .before .tick .ensures .1)
 
 pub net119-tick-spec : {M : Type 1} → statement M
-net119-tick-spec = tie.close (tie.spec tick-requires flat-answer-requires same-length returns)
+net119-tick-spec = tie.close (tie.spec (λ c κs. search needs) (λ c κs. search needs) (λ c. search needs) returns)

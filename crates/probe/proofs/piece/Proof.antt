@@ -1,8 +1,8 @@
 -- Each answer of the splitter by its law. Assumes nothing.
-use Rattle.lines.proofs.Cutting.{held-says, here-says, pending-says, short}
-use Rattle.lines.specs.Input.{part}
+use Rattle.lines.proofs.Cutting.{buffered-says, here-says, pending-says, short}
+use Rattle.lines.specs.inner.Splitting.{restOfLine}
 use Rattle.probe.proofs.CommandLaws.{answer-fits}
-use Rattle.probe.proofs.PieceLaws.{held-told, here-told, kept-on}
+use Rattle.probe.proofs.PieceLaws.{buffered-told, here-told, kept-on}
 use Rattle.probe.proofs.piece.Statement.{statement}
 use Rattle.probe.proofs.piece.Tie as tie
 use Rattle.probe.specs.Commands.{lineDone}
@@ -65,8 +65,10 @@ answer-kept-requires c κs =
     let e = at-m .m .given .0 .1 .0 in
     let n = at-m .before .before .next-line in
     let q = sym (n .ensures .0) ∙ at-m .m .given .1 in
-    let p = held-says (x .line .now) (x .len) (x .s .now) (x .from) m e q in
-    (c .before .before .before .before .before .before .before .before .before .before .before .before .pre .0, omega (arith, p .0, short (length (x .line .now)) (take (x .len) (x .line .now) ++ part (x .s .now) (x .from))))
+    let p = buffered-says (x .line .now) (x .len) (x .s .now) (x .from) m e q in (
+      c .before .before .before .before .before .before .before .before .before .before .before .before .pre .0,
+      omega (arith, p .0, short (length (x .line .now)) (take (x .len) (x .line .now) ++ restOfLine (x .s .now) (x .from))),
+    )
 
 told-requires-2 : tie.Need-told-requires-2
 told-requires-2 c κs =
@@ -105,11 +107,11 @@ returns-2 c =
     let e = at-m .m .given .0 .1 .0 in
     let n = at-m .before .before .next-line in
     let q = sym (n .ensures .0) ∙ at-m .m .given .1 in
-    let p = held-says (x .line .now) (x .len) (x .s .now) (x .from) m e q in
+    let p = buffered-says (x .line .now) (x .len) (x .s .now) (x .from) m e q in
     let a = c .before .before .before .answer-kept .ensures in
     let r = c .told2 .ensures in
     let l : length (x .line .now) ≡ 170001 = search needs in (
-      held-told (take (x .size) (x .held .now)) (x .line .now) l (x .len) (x .s .now) (x .from) m e (x .out .now) _ _ q (n .ensures .1) a
+      buffered-told (take (x .size) (x .held .now)) (x .line .now) l (x .len) (x .s .now) (x .from) m e (x .out .now) _ _ q (n .ensures .1) a
           (record { table = r .0; none-kept = r .1; next = r .2; handed = r .4 }),
       omega (arith, r .0, a .small),
       omega (arith, r .1),
@@ -122,14 +124,15 @@ returns-2 c =
 
 returns-3 : tie.Need-returns-3
 returns-3 c =
-    let x = c .before .before .before .before .before .before .args in
+    let start = c .before .before .before .before .before .before in
+    let x = start .args in
     let m = c .before .m2 .given .0 .0 in
     let n = c .before .before .before .next-line in
     let q = sym (n .ensures .0) ∙ c .before .m2 .given .1 in
     let p = pending-says (x .line .now) (x .len) (x .s .now) (x .from) m q in
     let l : length (x .line .now) ≡ 170001 = search needs in
-    let k = short (length (x .line .now)) (take (x .len) (x .line .now) ++ part (x .s .now) (x .from)) in
-    let given = c .before .before .before .before .before .before .pre in (
+    let k = short (length (x .line .now)) (take (x .len) (x .line .now) ++ restOfLine (x .s .now) (x .from)) in
+    let given = start .pre in (
       kept-on (take (x .size) (x .held .now)) (x .line .now) l (x .len) (x .s .now) (x .from) m _ q (n .ensures .1),
       given .0,
       omega (arith, p .0),

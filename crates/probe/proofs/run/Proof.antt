@@ -2,7 +2,7 @@
 use Prim.Native.Nat.{_≤_}
 use Rattle.lines.proofs.TurnLaws.{begins, never}
 use Rattle.lines.proofs.WholeRun.{further}
-use Rattle.lines.specs.Running.{Reached}
+use Rattle.lines.specs.inner.Running.{Reached}
 use Rattle.probe.proofs.run.Statement.{statement}
 use Rattle.probe.proofs.run.Tie as tie
 use Rattle.probe.specs.Commands.{lineDone}

@@ -5,12 +5,6 @@ use Rattle.utf8.proofs.ascii_run.Tie as tie
 use borrow.Author.Needs.{needs}
 use native.Mathlib.Omega.{arith}
 
-sub-if1 : tie.Need-sub-if1
-sub-if1 c = search needs
-
-is-ascii-32-requires : tie.Need-is-ascii-32-requires
-is-ascii-32-requires c κs = search needs
-
 returns : tie.Need-returns
 returns c = (search needs, (search needs, c .before .is-ascii-32 .ensures (c .if2 .taken)))
 
@@ -21,4 +15,4 @@ returns-3 : tie.Need-returns-3
 returns-3 c = let x = c .before .before in (search needs, (omega (arith, x .pre .0), ascii-one (x .args .s .now) (x .args .at) (x .pre .1)))
 
 pub ascii-run-spec : {M : Type 1} → statement M
-ascii-run-spec = tie.close (tie.spec sub-if1 is-ascii-32-requires returns returns-2 returns-3)
+ascii-run-spec = tie.close (tie.spec (λ c. search needs) (λ c κs. search needs) returns returns-2 returns-3)

@@ -18,18 +18,6 @@ abbrev μ-loop : tie.MeasureT-loop
 loop-holds : tie.Need-loop-holds Inv-loop μ-loop
 loop-holds c = (search needs, refl)
 
-shared-slice-read-if1 : tie.Need-shared-slice-read-if1 Inv-loop μ-loop
-shared-slice-read-if1 c = search needs
-
-ascii-run-requires : tie.Need-ascii-run-requires Inv-loop μ-loop
-ascii-run-requires c κs = search needs
-
-add-i : tie.Need-add-i Inv-loop μ-loop
-add-i c = search needs
-
-loop-less : tie.Need-loop-less Inv-loop μ-loop
-loop-less c = search needs
-
 loop-again : tie.Need-loop-again Inv-loop μ-loop
 loop-again c =
     let l = c .before .before .before .before in
@@ -37,9 +25,6 @@ loop-again c =
     let s = x .s .now in
     let i = l .loop .i in
     (search needs, l .loop .inv .1 ∙ ascii-run s i (c .ascii-run .result) (c .ascii-run .ensures .1 .0) (c .ascii-run .ensures .1 .1))
-
-sequence-requires : tie.Need-sequence-requires Inv-loop μ-loop
-sequence-requires c κs = search needs
 
 returns : tie.Need-returns Inv-loop μ-loop
 returns c =
@@ -97,12 +82,12 @@ check-spec =
     Inv-loop
     μ-loop
     loop-holds
-    shared-slice-read-if1
-    ascii-run-requires
-    add-i
-    loop-less
+    (λ c. search needs)
+    (λ c κs. search needs)
+    (λ c. search needs)
+    (λ c. search needs)
     loop-again
-    sequence-requires
+    (λ c κs. search needs)
     returns
     add-i-2
     loop-less-2

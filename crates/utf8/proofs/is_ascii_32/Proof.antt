@@ -17,23 +17,9 @@ abbrev μ-loop : tie.MeasureT-loop
 loop-holds : tie.Need-loop-holds Inv-loop μ-loop
 loop-holds c = (search needs, λ j h. absurd (omega (arith, h)))
 
-add-larger : tie.Need-add-larger Inv-loop μ-loop
-add-larger c = search needs
-
-shared-slice-read-larger : tie.Need-shared-slice-read-larger Inv-loop μ-loop
-shared-slice-read-larger c = search needs
-
-larger-requires : tie.Need-larger-requires Inv-loop μ-loop
-larger-requires c κs = search needs
-
-add-k : tie.Need-add-k Inv-loop μ-loop
-add-k c = search needs
-
-loop-less : tie.Need-loop-less Inv-loop μ-loop
-loop-less c = search needs
-
 loop-again : tie.Need-loop-again Inv-loop μ-loop
-loop-again c = let l = c .before .before .before in let x = l .before .before .args in (search needs, below-more (x .s .now) (x .at) (l .loop .k) (l .loop .m) (c .larger .result) (l .loop .inv .1) (c .larger .ensures .0) (c .larger .ensures .1))
+loop-again c = let l = c .before .before .before in let x = l .before .before .args in
+    (search needs, below-more (x .s .now) (x .at) (l .loop .k) (l .loop .m) (c .larger .result) (l .loop .inv .1) (c .larger .ensures .0) (c .larger .ensures .1))
 
 returns : tie.Need-returns Inv-loop μ-loop
 returns c = λ h. let q = ltb-true (c .before .loop .m) 128 h in record { each = λ j g. omega (arith, c .before .loop .inv .1 j (omega arith)) }
@@ -45,10 +31,10 @@ is-ascii-32-spec =
     Inv-loop
     μ-loop
     loop-holds
-    add-larger
-    shared-slice-read-larger
-    larger-requires
-    add-k
-    loop-less
+    (λ c. search needs)
+    (λ c. search needs)
+    (λ c κs. search needs)
+    (λ c. search needs)
+    (λ c. search needs)
     loop-again
     returns)

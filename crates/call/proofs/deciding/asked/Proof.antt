@@ -5,35 +5,27 @@ use borrow.Author.Needs.{needs}
 use borrow.Author.Tests.{lt-ltb, le-ltb, not-true, not-false}
 use mathlib.Core.Path.{sym}
 
-waiting-requires : tie.Need-waiting-requires
-waiting-requires c κs = search needs
-
-refused-requires : tie.Need-refused-requires
-refused-requires c κs = search needs
-
 returns : tie.Need-returns
 returns c = rw (sym (c .before .before .waiting .ensures), not-true (c .before .before .before .args .agrees) (c .before .if1 .taken)) (c .refused .ensures)
 
-refused-requires-2 : tie.Need-refused-requires-2
-refused-requires-2 c κs = search needs
-
 returns-2 : tie.Need-returns-2
-returns-2 c = rw (sym (c .before .before .before .before .waiting .ensures), not-false (c .before .before .before .before .before .args .agrees) (c .before .before .before .if1 .left), lt-ltb _ _ (c .before .if2 .taken)) (c .refused2 .ensures)
-
-request-requires : tie.Need-request-requires
-request-requires c κs = search needs
+returns-2 c =
+    let at-waiting = c .before .before .before .before in
+    let start = at-waiting .before in
+    rw (sym (at-waiting .waiting .ensures), not-false (start .args .agrees) (c .before .before .before .if1 .left), lt-ltb _ _ (c .before .if2 .taken)) (c .refused2 .ensures)
 
 returns-3 : tie.Need-returns-3
-returns-3 c = rw (not-false (c .before .before .before .before .before .args .agrees) (c .before .before .before .if1 .left), le-ltb _ _ (c .before .if2 .left)) (c .request .ensures)
+returns-3 c = rw (not-false (c .before .before .before .before .before .args .agrees) (c .before .before .before .if1 .left), le-ltb _ _ (c .before .if2 .left))
+    (c .request .ensures)
 
 pub asked-spec : {M : Type 1} → statement M
 asked-spec =
     tie.close
     (tie.spec
-    waiting-requires
-    refused-requires
+    (λ c κs. search needs)
+    (λ c κs. search needs)
     returns
-    refused-requires-2
+    (λ c κs. search needs)
     returns-2
-    request-requires
+    (λ c κs. search needs)
     returns-3)

@@ -4,20 +4,11 @@ use Rattle.call.proofs.deciding.replied.Tie as tie
 use borrow.Author.Needs.{needs}
 use borrow.Author.Tests.{lt-ltb, le-ltb, not-true, not-false}
 
-refused-requires : tie.Need-refused-requires
-refused-requires c κs = search needs
-
 returns : tie.Need-returns
 returns c = rw (not-true (c .before .before .args .agrees) (c .before .if1 .taken)) (c .refused .ensures)
 
-refused-requires-2 : tie.Need-refused-requires-2
-refused-requires-2 c κs = search needs
-
 returns-2 : tie.Need-returns-2
 returns-2 c = rw (not-false (c .before .before .before .before .args .agrees) (c .before .before .before .if1 .left), lt-ltb _ _ (c .before .if2 .taken)) (c .refused2 .ensures)
-
-response-requires : tie.Need-response-requires
-response-requires c κs = search needs
 
 returns-3 : tie.Need-returns-3
 returns-3 c = rw (not-false (c .before .before .before .before .args .agrees) (c .before .before .before .if1 .left), le-ltb _ _ (c .before .if2 .left)) (c .response .ensures)
@@ -25,4 +16,4 @@ returns-3 c = rw (not-false (c .before .before .before .before .args .agrees) (c
 pub replied-spec : {M : Type 1} → statement M
 replied-spec =
     tie.close
-    (tie.spec refused-requires returns refused-requires-2 returns-2 response-requires returns-3)
+    (tie.spec (λ c κs. search needs) returns (λ c κs. search needs) returns-2 (λ c κs. search needs) returns-3)

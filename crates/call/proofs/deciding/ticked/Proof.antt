@@ -4,17 +4,11 @@ use Rattle.call.proofs.deciding.ticked.Tie as tie
 use borrow.Author.Needs.{needs}
 use borrow.Author.Tests.{lt-ltb, le-ltb}
 
-refused-requires : tie.Need-refused-requires
-refused-requires c κs = search needs
-
 returns : tie.Need-returns
 returns c = rw (lt-ltb _ _ (c .before .if1 .taken)) (c .refused .ensures)
-
-tick-in-requires : tie.Need-tick-in-requires
-tick-in-requires c κs = search needs
 
 returns-2 : tie.Need-returns-2
 returns-2 c = rw (le-ltb _ _ (c .before .if1 .left)) (c .tick-in .ensures)
 
 pub ticked-spec : {M : Type 1} → statement M
-ticked-spec = tie.close (tie.spec refused-requires returns tick-in-requires returns-2)
+ticked-spec = tie.close (tie.spec (λ c κs. search needs) returns (λ c κs. search needs) returns-2)

@@ -3,11 +3,8 @@ use Rattle.call.proofs.records.entered.Statement.{statement}
 use Rattle.call.proofs.records.entered.Tie as tie
 use borrow.Author.Needs.{needs}
 
-chat-at-requires : tie.Need-chat-at-requires
-chat-at-requires c κs = search needs
-
 returns : tie.Need-returns
 returns c = cc
 
 pub entered-spec : {M : Type 1} → statement M
-entered-spec = tie.close (tie.spec chat-at-requires returns)
+entered-spec = tie.close (tie.spec (λ c κs. search needs) returns)

@@ -3,11 +3,8 @@ use Rattle.call.proofs.records.goes.Statement.{statement}
 use Rattle.call.proofs.records.goes.Tie as tie
 use borrow.Author.Needs.{needs}
 
-entered-requires : tie.Need-entered-requires
-entered-requires c κs = search needs
-
 returns : tie.Need-returns
 returns c = cc
 
 pub goes-spec : {M : Type 1} → statement M
-goes-spec = tie.close (tie.spec entered-requires returns)
+goes-spec = tie.close (tie.spec (λ c κs. search needs) returns)

@@ -3,11 +3,8 @@ use Rattle.call.proofs.records.stays.Statement.{statement}
 use Rattle.call.proofs.records.stays.Tie as tie
 use borrow.Author.Needs.{needs}
 
-heard-requires : tie.Need-heard-requires
-heard-requires c κs = search needs
-
 returns : tie.Need-returns
 returns c = cc
 
 pub stays-spec : {M : Type 1} → statement M
-stays-spec = tie.close (tie.spec heard-requires returns)
+stays-spec = tie.close (tie.spec (λ c κs. search needs) returns)

@@ -1,21 +1,9 @@
 -- `call::requests::bye` meets its contract. Each arm puts in the constructor or the test that led there, and takes what its callee ensures. Assumes nothing.
 use Rattle.call.proofs.requests.bye.Statement.{statement}
 use Rattle.call.proofs.requests.bye.Tie as tie
-use Rattle.call.specs.Rule.{bye}
+use Rattle.call.specs.Requests.{bye}
 use borrow.Author.Needs.{needs}
 use mathlib.Core.Path.{sym, _∙_}
-
-admit-requires : tie.Need-admit-requires
-admit-requires c κs = search needs
-
-enum-known-o : tie.Need-enum-known-o
-enum-known-o c = search needs
-
-enum-known-d : tie.Need-enum-known-d
-enum-known-d c = search needs
-
-goes-requires : tie.Need-goes-requires
-goes-requires c κs = search needs
 
 returns : tie.Need-returns
 unfolding bye
@@ -27,4 +15,4 @@ returns-2 c = rw (sym (c .before .before .before .before .admit .ensures) ∙ c 
 
 pub bye-spec : {M : Type 1} → statement M
 bye-spec =
-    tie.close (tie.spec admit-requires enum-known-o enum-known-d goes-requires returns returns-2)
+    tie.close (tie.spec (λ c κs. search needs) (λ c. search needs) (λ c. search needs) (λ c κs. search needs) returns returns-2)

@@ -1,15 +1,9 @@
 -- `call::requests::cancel` meets its contract. Each arm puts in the constructor or the test that led there, and takes what its callee ensures. Assumes nothing.
 use Rattle.call.proofs.requests.cancel.Statement.{statement}
 use Rattle.call.proofs.requests.cancel.Tie as tie
-use Rattle.call.specs.Rule.{cancel}
+use Rattle.call.specs.Requests.{cancel}
 use borrow.Author.Needs.{needs}
 use borrow.Author.Tests.{eq-eqb, ne-eqb}
-
-cancel-in-requires : tie.Need-cancel-in-requires
-cancel-in-requires c κs = search needs
-
-refused-requires : tie.Need-refused-requires
-refused-requires c κs = search needs
 
 returns : tie.Need-returns
 unfolding cancel
@@ -20,4 +14,4 @@ unfolding cancel
 returns-2 c = rw (ne-eqb _ _ (c .before .if1 .left)) (c .refused .ensures)
 
 pub cancel-spec : {M : Type 1} → statement M
-cancel-spec = tie.close (tie.spec cancel-in-requires refused-requires returns returns-2)
+cancel-spec = tie.close (tie.spec (λ c κs. search needs) (λ c κs. search needs) returns returns-2)

@@ -1,15 +1,9 @@
 -- `call::requests::invite` meets its contract. Each arm puts in the constructor or the test that led there, and takes what its callee ensures. Assumes nothing.
 use Rattle.call.proofs.requests.invite.Statement.{statement}
 use Rattle.call.proofs.requests.invite.Tie as tie
-use Rattle.call.specs.Rule.{invite}
+use Rattle.call.specs.Requests.{invite}
 use borrow.Author.Needs.{needs}
 use borrow.Author.Tests.{eq-eqb, ne-eqb}
-
-unchanged-requires : tie.Need-unchanged-requires
-unchanged-requires c κs = search needs
-
-refused-requires : tie.Need-refused-requires
-refused-requires c κs = search needs
 
 returns : tie.Need-returns
 unfolding invite
@@ -20,4 +14,4 @@ unfolding invite
 returns-2 c = rw (ne-eqb _ _ (c .before .if1 .left)) (c .refused .ensures)
 
 pub invite-spec : {M : Type 1} → statement M
-invite-spec = tie.close (tie.spec unchanged-requires refused-requires returns returns-2)
+invite-spec = tie.close (tie.spec (λ c κs. search needs) (λ c κs. search needs) returns returns-2)

@@ -3,12 +3,6 @@ use Rattle.call.proofs.requests.numbered.Statement.{statement}
 use Rattle.call.proofs.requests.numbered.Tie as tie
 use borrow.Author.Needs.{needs}
 
-enum-told : tie.Need-enum-told
-enum-told c = search needs
-
-enum-told-2 : tie.Need-enum-told-2
-enum-told-2 c = search needs
-
 returns : tie.Need-returns
 returns c = cc
 
@@ -16,4 +10,4 @@ returns-2 : tie.Need-returns-2
 returns-2 c = cc
 
 pub numbered-spec : {M : Type 1} → statement M
-numbered-spec = tie.close (tie.spec enum-told enum-told-2 returns returns-2)
+numbered-spec = tie.close (tie.spec (λ c. search needs) (λ c. search needs) returns returns-2)

@@ -2,27 +2,13 @@
 use Rattle.call.proofs.Admission.{chosen, declined}
 use Rattle.call.proofs.requests.refer.Statement.{statement}
 use Rattle.call.proofs.requests.refer.Tie as tie
-use Rattle.call.specs.Rule.{refer, refused, stays}
-use Rattle.call.specs.declared.answers.Reason.the-variants.{NotSecure}
-use Rattle.call.specs.declared.answers.Waiting.the-variants.{Requester}
-use Rattle.call.specs.declared.answers.Word.the-variants.{Pass}
+use Rattle.call.specs.Outcomes.{refused, stays}
+use Rattle.call.specs.Requests.{refer}
+use Rattle.answers.specs.declared.Reason.the-variants.{NotSecure}
+use Rattle.answers.specs.declared.Waiting.the-variants.{Requester}
+use Rattle.answers.specs.declared.Word.the-variants.{Pass}
 use borrow.Author.Needs.{needs}
 use mathlib.Core.Path.{sym, _∙_}
-
-admit-requires : tie.Need-admit-requires
-admit-requires c κs = search needs
-
-enum-known-o : tie.Need-enum-known-o
-enum-known-o c = search needs
-
-enum-known-d : tie.Need-enum-known-d
-enum-known-d c = search needs
-
-stays-requires : tie.Need-stays-requires
-stays-requires c κs = search needs
-
-refused-requires : tie.Need-refused-requires
-refused-requires c κs = search needs
 
 returns : tie.Need-returns
 unfolding refer
@@ -48,11 +34,11 @@ pub refer-spec : {M : Type 1} → statement M
 refer-spec =
     tie.close
     (tie.spec
-    admit-requires
-    enum-known-o
-    enum-known-d
-    stays-requires
-    refused-requires
+    (λ c κs. search needs)
+    (λ c. search needs)
+    (λ c. search needs)
+    (λ c κs. search needs)
+    (λ c κs. search needs)
     returns
     returns-2
     returns-3)

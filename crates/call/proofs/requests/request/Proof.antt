@@ -1,56 +1,8 @@
 -- `call::requests::request` meets its contract. Each arm puts in the constructor or the test that led there, and takes what its callee ensures. Assumes nothing.
 use Rattle.call.proofs.requests.request.Statement.{statement}
 use Rattle.call.proofs.requests.request.Tie as tie
-use Rattle.call.specs.Rule.{request}
+use Rattle.call.specs.Requests.{request}
 use borrow.Author.Needs.{needs}
-
-enum-told : tie.Need-enum-told
-enum-told c = search needs
-
-invite-requires : tie.Need-invite-requires
-invite-requires c κs = search needs
-
-enum-told-2 : tie.Need-enum-told-2
-enum-told-2 c = search needs
-
-bye-requires : tie.Need-bye-requires
-bye-requires c κs = search needs
-
-enum-told-3 : tie.Need-enum-told-3
-enum-told-3 c = search needs
-
-cancel-requires : tie.Need-cancel-requires
-cancel-requires c κs = search needs
-
-enum-told-4 : tie.Need-enum-told-4
-enum-told-4 c = search needs
-
-ack-requires : tie.Need-ack-requires
-ack-requires c κs = search needs
-
-enum-told-5 : tie.Need-enum-told-5
-enum-told-5 c = search needs
-
-message-requires : tie.Need-message-requires
-message-requires c κs = search needs
-
-enum-told-6 : tie.Need-enum-told-6
-enum-told-6 c = search needs
-
-callback-in-requires : tie.Need-callback-in-requires
-callback-in-requires c κs = search needs
-
-enum-told-7 : tie.Need-enum-told-7
-enum-told-7 c = search needs
-
-refer-requires : tie.Need-refer-requires
-refer-requires c κs = search needs
-
-enum-told-8 : tie.Need-enum-told-8
-enum-told-8 c = search needs
-
-notify-requires : tie.Need-notify-requires
-notify-requires c κs = search needs
 
 returns : tie.Need-returns
 unfolding request
@@ -88,22 +40,22 @@ pub request-spec : {M : Type 1} → statement M
 request-spec =
     tie.close
     (tie.spec
-    enum-told
-    invite-requires
-    enum-told-2
-    bye-requires
-    enum-told-3
-    cancel-requires
-    enum-told-4
-    ack-requires
-    enum-told-5
-    message-requires
-    enum-told-6
-    callback-in-requires
-    enum-told-7
-    refer-requires
-    enum-told-8
-    notify-requires
+    (λ c. search needs)
+    (λ c κs. search needs)
+    (λ c. search needs)
+    (λ c κs. search needs)
+    (λ c. search needs)
+    (λ c κs. search needs)
+    (λ c. search needs)
+    (λ c κs. search needs)
+    (λ c. search needs)
+    (λ c κs. search needs)
+    (λ c. search needs)
+    (λ c κs. search needs)
+    (λ c. search needs)
+    (λ c κs. search needs)
+    (λ c. search needs)
+    (λ c κs. search needs)
     returns
     returns-2
     returns-3

@@ -4,45 +4,6 @@ use Rattle.call.proofs.responses.progress.Tie as tie
 use borrow.Author.Needs.{needs}
 use borrow.Author.Tests.{eq-eqb, ne-eqb}
 
-enum-told : tie.Need-enum-told
-enum-told c = search needs
-
-goes-requires : tie.Need-goes-requires
-goes-requires c κs = search needs
-
-stays-requires : tie.Need-stays-requires
-stays-requires c κs = search needs
-
-enum-told-2 : tie.Need-enum-told-2
-enum-told-2 c = search needs
-
-stays-requires-2 : tie.Need-stays-requires-2
-stays-requires-2 c κs = search needs
-
-enum-told-3 : tie.Need-enum-told-3
-enum-told-3 c = search needs
-
-not-now-requires : tie.Need-not-now-requires
-not-now-requires c κs = search needs
-
-enum-told-4 : tie.Need-enum-told-4
-enum-told-4 c = search needs
-
-not-now-requires-2 : tie.Need-not-now-requires-2
-not-now-requires-2 c κs = search needs
-
-enum-told-5 : tie.Need-enum-told-5
-enum-told-5 c = search needs
-
-not-now-requires-3 : tie.Need-not-now-requires-3
-not-now-requires-3 c κs = search needs
-
-enum-told-6 : tie.Need-enum-told-6
-enum-told-6 c = search needs
-
-stays-requires-3 : tie.Need-stays-requires-3
-stays-requires-3 c κs = search needs
-
 returns : tie.Need-returns
 returns c = rw (c .before .before .enum-told .given .1, eq-eqb _ _ (c .before .if1 .taken)) (c .goes .ensures)
 
@@ -68,19 +29,19 @@ pub progress-spec : {M : Type 1} → statement M
 progress-spec =
     tie.close
     (tie.spec
-    enum-told
-    goes-requires
-    stays-requires
-    enum-told-2
-    stays-requires-2
-    enum-told-3
-    not-now-requires
-    enum-told-4
-    not-now-requires-2
-    enum-told-5
-    not-now-requires-3
-    enum-told-6
-    stays-requires-3
+    (λ c. search needs)
+    (λ c κs. search needs)
+    (λ c κs. search needs)
+    (λ c. search needs)
+    (λ c κs. search needs)
+    (λ c. search needs)
+    (λ c κs. search needs)
+    (λ c. search needs)
+    (λ c κs. search needs)
+    (λ c. search needs)
+    (λ c κs. search needs)
+    (λ c. search needs)
+    (λ c κs. search needs)
     returns
     returns-2
     returns-3

@@ -1,56 +1,8 @@
 -- `call::responses::response` meets its contract. Each arm puts in the constructor or the test that led there, and takes what its callee ensures. Assumes nothing.
 use Rattle.call.proofs.responses.response.Statement.{statement}
 use Rattle.call.proofs.responses.response.Tie as tie
-use Rattle.call.specs.Rule.{response}
+use Rattle.call.specs.Responses.{response}
 use borrow.Author.Needs.{needs}
-
-enum-told : tie.Need-enum-told
-enum-told c = search needs
-
-to-invite-requires : tie.Need-to-invite-requires
-to-invite-requires c κs = search needs
-
-enum-told-2 : tie.Need-enum-told-2
-enum-told-2 c = search needs
-
-to-within-requires : tie.Need-to-within-requires
-to-within-requires c κs = search needs
-
-enum-told-3 : tie.Need-enum-told-3
-enum-told-3 c = search needs
-
-to-inviting-requires : tie.Need-to-inviting-requires
-to-inviting-requires c κs = search needs
-
-enum-told-4 : tie.Need-enum-told-4
-enum-told-4 c = search needs
-
-to-inviting-requires-2 : tie.Need-to-inviting-requires-2
-to-inviting-requires-2 c κs = search needs
-
-enum-told-5 : tie.Need-enum-told-5
-enum-told-5 c = search needs
-
-to-within-requires-2 : tie.Need-to-within-requires-2
-to-within-requires-2 c κs = search needs
-
-enum-told-6 : tie.Need-enum-told-6
-enum-told-6 c = search needs
-
-to-callback-requires : tie.Need-to-callback-requires
-to-callback-requires c κs = search needs
-
-enum-told-7 : tie.Need-enum-told-7
-enum-told-7 c = search needs
-
-to-within-requires-3 : tie.Need-to-within-requires-3
-to-within-requires-3 c κs = search needs
-
-enum-told-8 : tie.Need-enum-told-8
-enum-told-8 c = search needs
-
-to-within-requires-4 : tie.Need-to-within-requires-4
-to-within-requires-4 c κs = search needs
 
 returns : tie.Need-returns
 unfolding response
@@ -88,22 +40,22 @@ pub response-spec : {M : Type 1} → statement M
 response-spec =
     tie.close
     (tie.spec
-    enum-told
-    to-invite-requires
-    enum-told-2
-    to-within-requires
-    enum-told-3
-    to-inviting-requires
-    enum-told-4
-    to-inviting-requires-2
-    enum-told-5
-    to-within-requires-2
-    enum-told-6
-    to-callback-requires
-    enum-told-7
-    to-within-requires-3
-    enum-told-8
-    to-within-requires-4
+    (λ c. search needs)
+    (λ c κs. search needs)
+    (λ c. search needs)
+    (λ c κs. search needs)
+    (λ c. search needs)
+    (λ c κs. search needs)
+    (λ c. search needs)
+    (λ c κs. search needs)
+    (λ c. search needs)
+    (λ c κs. search needs)
+    (λ c. search needs)
+    (λ c κs. search needs)
+    (λ c. search needs)
+    (λ c κs. search needs)
+    (λ c. search needs)
+    (λ c κs. search needs)
     returns
     returns-2
     returns-3

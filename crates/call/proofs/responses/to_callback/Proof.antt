@@ -3,42 +3,6 @@ use Rattle.call.proofs.responses.to_callback.Statement.{statement}
 use Rattle.call.proofs.responses.to_callback.Tie as tie
 use borrow.Author.Needs.{needs}
 
-enum-told : tie.Need-enum-told
-enum-told c = search needs
-
-not-now-requires : tie.Need-not-now-requires
-not-now-requires c κs = search needs
-
-enum-told-2 : tie.Need-enum-told-2
-enum-told-2 c = search needs
-
-not-now-requires-2 : tie.Need-not-now-requires-2
-not-now-requires-2 c κs = search needs
-
-enum-told-3 : tie.Need-enum-told-3
-enum-told-3 c = search needs
-
-not-now-requires-3 : tie.Need-not-now-requires-3
-not-now-requires-3 c κs = search needs
-
-enum-told-4 : tie.Need-enum-told-4
-enum-told-4 c = search needs
-
-not-now-requires-4 : tie.Need-not-now-requires-4
-not-now-requires-4 c κs = search needs
-
-enum-told-5 : tie.Need-enum-told-5
-enum-told-5 c = search needs
-
-stays-requires : tie.Need-stays-requires
-stays-requires c κs = search needs
-
-enum-told-6 : tie.Need-enum-told-6
-enum-told-6 c = search needs
-
-not-now-requires-5 : tie.Need-not-now-requires-5
-not-now-requires-5 c κs = search needs
-
 returns : tie.Need-returns
 returns c = rw (c .before .enum-told .given .1) (c .not-now .ensures)
 
@@ -61,18 +25,18 @@ pub to-callback-spec : {M : Type 1} → statement M
 to-callback-spec =
     tie.close
     (tie.spec
-    enum-told
-    not-now-requires
-    enum-told-2
-    not-now-requires-2
-    enum-told-3
-    not-now-requires-3
-    enum-told-4
-    not-now-requires-4
-    enum-told-5
-    stays-requires
-    enum-told-6
-    not-now-requires-5
+    (λ c. search needs)
+    (λ c κs. search needs)
+    (λ c. search needs)
+    (λ c κs. search needs)
+    (λ c. search needs)
+    (λ c κs. search needs)
+    (λ c. search needs)
+    (λ c κs. search needs)
+    (λ c. search needs)
+    (λ c κs. search needs)
+    (λ c. search needs)
+    (λ c κs. search needs)
     returns
     returns-2
     returns-3

@@ -4,15 +4,6 @@ use Rattle.call.proofs.ticks.expires.Tie as tie
 use borrow.Author.Needs.{needs}
 use borrow.Author.Tests.{le-leb, lt-leb}
 
-since-requires : tie.Need-since-requires
-since-requires c κs = search needs
-
-goes-requires : tie.Need-goes-requires
-goes-requires c κs = search needs
-
-unchanged-requires : tie.Need-unchanged-requires
-unchanged-requires c κs = search needs
-
 returns : tie.Need-returns
 returns c = rw (le-leb _ _ (rw (c .before .before .since .ensures) at (c .before .if1 .taken))) (c .goes .ensures)
 
@@ -21,4 +12,4 @@ returns-2 c = rw (lt-leb _ _ (rw (c .before .before .since .ensures) at (c .befo
 
 pub expires-spec : {M : Type 1} → statement M
 expires-spec =
-    tie.close (tie.spec since-requires goes-requires unchanged-requires returns returns-2)
+    tie.close (tie.spec (λ c κs. search needs) (λ c κs. search needs) (λ c κs. search needs) returns returns-2)

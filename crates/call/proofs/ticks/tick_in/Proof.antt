@@ -4,48 +4,6 @@ use Rattle.call.proofs.ticks.tick_in.Tie as tie
 use borrow.Author.Needs.{needs}
 use borrow.Author.Tests.{lt-ltb, le-ltb}
 
-enum-told : tie.Need-enum-told
-enum-told c = search needs
-
-expires-requires : tie.Need-expires-requires
-expires-requires c κs = search needs
-
-enum-told-2 : tie.Need-enum-told-2
-enum-told-2 c = search needs
-
-expires-requires-2 : tie.Need-expires-requires-2
-expires-requires-2 c κs = search needs
-
-enum-told-3 : tie.Need-enum-told-3
-enum-told-3 c = search needs
-
-expires-requires-3 : tie.Need-expires-requires-3
-expires-requires-3 c κs = search needs
-
-enum-told-4 : tie.Need-enum-told-4
-enum-told-4 c = search needs
-
-expires-requires-4 : tie.Need-expires-requires-4
-expires-requires-4 c κs = search needs
-
-enum-told-5 : tie.Need-enum-told-5
-enum-told-5 c = search needs
-
-since-requires : tie.Need-since-requires
-since-requires c κs = search needs
-
-freed-requires : tie.Need-freed-requires
-freed-requires c κs = search needs
-
-unchanged-requires : tie.Need-unchanged-requires
-unchanged-requires c κs = search needs
-
-enum-told-6 : tie.Need-enum-told-6
-enum-told-6 c = search needs
-
-expires-requires-5 : tie.Need-expires-requires-5
-expires-requires-5 c κs = search needs
-
 returns : tie.Need-returns
 returns c = rw (c .before .enum-told .given .1) (c .expires .ensures)
 
@@ -71,20 +29,20 @@ pub tick-in-spec : {M : Type 1} → statement M
 tick-in-spec =
     tie.close
     (tie.spec
-    enum-told
-    expires-requires
-    enum-told-2
-    expires-requires-2
-    enum-told-3
-    expires-requires-3
-    enum-told-4
-    expires-requires-4
-    enum-told-5
-    since-requires
-    freed-requires
-    unchanged-requires
-    enum-told-6
-    expires-requires-5
+    (λ c. search needs)
+    (λ c κs. search needs)
+    (λ c. search needs)
+    (λ c κs. search needs)
+    (λ c. search needs)
+    (λ c κs. search needs)
+    (λ c. search needs)
+    (λ c κs. search needs)
+    (λ c. search needs)
+    (λ c κs. search needs)
+    (λ c κs. search needs)
+    (λ c κs. search needs)
+    (λ c. search needs)
+    (λ c κs. search needs)
     returns
     returns-2
     returns-3

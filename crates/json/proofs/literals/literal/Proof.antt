@@ -3,7 +3,7 @@ use mathlib.Core.Path.{_≡_, refl, _∙_}
 use Prim.Native.Nat.{_-_, _≤_}
 use borrow.Author.Needs.{needs}
 use lib.ListN.{length, drop}
-use Rattle.json.specs.Machine.{Stack, due, from}
+use Rattle.json.specs.inner.Machine.{Stack, due, from}
 use Rattle.json.proofs.LeafLaws.{word-hit, word-miss, word-short, word-done}
 use Rattle.json.proofs.literals.literal.Statement.{statement}
 use Rattle.json.proofs.literals.literal.Tie as tie
@@ -27,39 +27,28 @@ returns c =
           ∙ word-short _ (c .before .before .before .args .w .now) _ (c .before .before .loop .j) k (search needs) (search needs) (search needs);
     }
 
-shared-slice-read-if2 : tie.Need-shared-slice-read-if2 Inv-loop μ-loop
-shared-slice-read-if2 c = search needs
-
-shared-slice-read-if2-2 : tie.Need-shared-slice-read-if2-2 Inv-loop μ-loop
-shared-slice-read-if2-2 c = search needs
-
-add-i : tie.Need-add-i Inv-loop μ-loop
-add-i c = search needs
-
-add-j : tie.Need-add-j Inv-loop μ-loop
-add-j c = search needs
-
-loop-less : tie.Need-loop-less Inv-loop μ-loop
-loop-less c = search needs
-
 loop-again : tie.Need-loop-again Inv-loop μ-loop
-loop-again c = (
-  search needs,
-  search needs,
-  search needs,
-  λ k.
-      c .before .before .before .before .before .loop .inv .3 k
-      ∙ word-hit _ (c .before .before .before .before .before .before .args .w .now) _ (c .before .before .before .before .before .loop .j) k (search needs) (search needs) (c .if2 .taken),
-)
+loop-again c =
+    let at-loop = c .before .before .before .before .before in
+    let start = at-loop .before in (
+      search needs,
+      search needs,
+      search needs,
+      λ k.
+          at-loop .loop .inv .3 k
+          ∙ word-hit _ (start .args .w .now) _ (at-loop .loop .j) k (search needs) (search needs) (c .if2 .taken),
+    )
 
 returns-2 : tie.Need-returns-2 Inv-loop μ-loop
 returns-2 c =
+    let at-loop = c .before .before .before .before .before in
+    let start = at-loop .before in
     record {
       low = search needs;
       high = search needs;
       same = λ _ k.
-          c .before .before .before .before .before .loop .inv .3 k
-          ∙ word-miss _ (c .before .before .before .before .before .before .args .w .now) _ (c .before .before .before .before .before .loop .j) k (search needs) (search needs) (c .if2 .left);
+          at-loop .loop .inv .3 k
+          ∙ word-miss _ (start .args .w .now) _ (at-loop .loop .j) k (search needs) (search needs) (c .if2 .left);
     }
 
 returns-3 : tie.Need-returns-3 Inv-loop μ-loop
@@ -80,11 +69,11 @@ literal-spec =
     μ-loop
     loop-holds
     returns
-    shared-slice-read-if2
-    shared-slice-read-if2-2
-    add-i
-    add-j
-    loop-less
+    (λ c. search needs)
+    (λ c. search needs)
+    (λ c. search needs)
+    (λ c. search needs)
+    (λ c. search needs)
     loop-again
     returns-2
     returns-3)

@@ -2,7 +2,7 @@
 use mathlib.Core.Path.{_∙_}
 use native.Mathlib.Omega.{arith}
 use borrow.Author.Needs.{needs}
-use Rattle.json.specs.Machine.{label, after, exp, power, live}
+use Rattle.json.specs.inner.Machine.{label, after, exp, power, live}
 use Rattle.json.proofs.MoveLaws.{moves, as-good}
 use Rattle.json.proofs.StepLaws.{expo-e, expo-E, expo-rest}
 use Rattle.json.proofs.numbers.exponent.Statement.{statement}
@@ -10,15 +10,6 @@ use Rattle.json.proofs.numbers.exponent.Tie as tie
 
 returns : tie.Need-returns
 returns c = record { low = search needs; high = search needs; same = λ m k o f. as-good _ _ m after k (search needs) o (λ h. absurd (omega arith)) }
-
-shared-slice-read-b : tie.Need-shared-slice-read-b
-shared-slice-read-b c = search needs
-
-add-power : tie.Need-add-power
-add-power c = search needs
-
-power-requires : tie.Need-power-requires
-power-requires c κs = search needs
 
 returns-2 : tie.Need-returns-2
 returns-2 c =
@@ -29,12 +20,6 @@ returns-2 c =
           moves _ _ m k (live exp k) (search needs) (f (search needs) ∙ expo-e k _ (c .before .if2 .taken))
           ∙ c .power .ensures .same label k;
     }
-
-add-power-2 : tie.Need-add-power-2
-add-power-2 c = search needs
-
-power-requires-2 : tie.Need-power-requires-2
-power-requires-2 c κs = search needs
 
 returns-3 : tie.Need-returns-3
 returns-3 c =
@@ -60,11 +45,11 @@ exponent-spec =
     tie.close
     (tie.spec
     returns
-    shared-slice-read-b
-    add-power
-    power-requires
+    (λ c. search needs)
+    (λ c. search needs)
+    (λ c κs. search needs)
     returns-2
-    add-power-2
-    power-requires-2
+    (λ c. search needs)
+    (λ c κs. search needs)
     returns-3
     returns-4)

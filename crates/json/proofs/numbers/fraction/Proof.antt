@@ -2,7 +2,7 @@
 use mathlib.Core.Path.{refl, sym, _∙_}
 use native.Mathlib.Omega.{arith}
 use borrow.Author.Needs.{needs}
-use Rattle.json.specs.Machine.{after, dot, frac, live, dead}
+use Rattle.json.specs.inner.Machine.{after, dot, frac, live, dead}
 use Rattle.json.proofs.MoveLaws.{moves, short, as-good}
 use Rattle.json.proofs.StepLaws.{point-dot, point-rest, dot-digit, dot-miss, frac-digit, frac-rest}
 use Rattle.json.proofs.numbers.fraction.Statement.{statement}
@@ -10,12 +10,6 @@ use Rattle.json.proofs.numbers.fraction.Tie as tie
 
 returns : tie.Need-returns
 returns c = record { low = search needs; high = search needs; same = λ m k o f. as-good _ _ m after k (search needs) o (λ h. absurd (omega arith)) }
-
-shared-slice-read-if2 : tie.Need-shared-slice-read-if2
-shared-slice-read-if2 c = search needs
-
-add-j : tie.Need-add-j
-add-j c = search needs
 
 returns-2 : tie.Need-returns-2
 returns-2 c =
@@ -26,21 +20,6 @@ returns-2 c =
           moves _ _ m k (live dot k) (search needs) (f (search needs) ∙ point-dot k _ (c .before .if2 .taken))
           ∙ short _ _ dot k (search needs) (search needs) refl;
     }
-
-shared-slice-read-is-digit : tie.Need-shared-slice-read-is-digit
-shared-slice-read-is-digit c = search needs
-
-is-digit-requires : tie.Need-is-digit-requires
-is-digit-requires c κs = search needs
-
-add-past-digits : tie.Need-add-past-digits
-add-past-digits c = search needs
-
-past-digits-requires : tie.Need-past-digits-requires
-past-digits-requires c κs = search needs
-
-exponent-requires : tie.Need-exponent-requires
-exponent-requires c κs = search needs
 
 returns-3 : tie.Need-returns-3
 returns-3 c =
@@ -64,9 +43,6 @@ returns-4 c =
           ∙ moves _ _ dot k dead (search needs) (dot-miss k _ (sym (c .before .is-digit .ensures) ∙ c .if4 .left));
     }
 
-exponent-requires-2 : tie.Need-exponent-requires-2
-exponent-requires-2 c κs = search needs
-
 returns-5 : tie.Need-returns-5
 returns-5 c =
     record {
@@ -80,15 +56,15 @@ fraction-spec =
     tie.close
     (tie.spec
     returns
-    shared-slice-read-if2
-    add-j
+    (λ c. search needs)
+    (λ c. search needs)
     returns-2
-    shared-slice-read-is-digit
-    is-digit-requires
-    add-past-digits
-    past-digits-requires
-    exponent-requires
+    (λ c. search needs)
+    (λ c κs. search needs)
+    (λ c. search needs)
+    (λ c κs. search needs)
+    (λ c κs. search needs)
     returns-3
     returns-4
-    exponent-requires-2
+    (λ c κs. search needs)
     returns-5)

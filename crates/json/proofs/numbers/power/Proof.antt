@@ -1,7 +1,7 @@
 -- An exponent from behind its e: one law of the machine for each byte on the way to each exit. Assumes nothing.
 use mathlib.Core.Path.{refl, sym, _∙_}
 use borrow.Author.Needs.{needs}
-use Rattle.json.specs.Machine.{exp, sign, power, live, dead}
+use Rattle.json.specs.inner.Machine.{exp, sign, power, live, dead}
 use Rattle.json.proofs.MoveLaws.{moves, short}
 use Rattle.json.proofs.StepLaws.{exp-digit, exp-sign, exp-miss, sign-digit, sign-miss}
 use Rattle.json.proofs.LeafLaws.{power-run}
@@ -10,18 +10,6 @@ use Rattle.json.proofs.numbers.power.Tie as tie
 
 returns : tie.Need-returns
 returns c = record { low = search needs; high = search needs; same = λ _ k. short _ _ exp k (search needs) (search needs) refl }
-
-shared-slice-read-b : tie.Need-shared-slice-read-b
-shared-slice-read-b c = search needs
-
-is-digit-requires : tie.Need-is-digit-requires
-is-digit-requires c κs = search needs
-
-add-past-digits : tie.Need-add-past-digits
-add-past-digits c = search needs
-
-past-digits-requires : tie.Need-past-digits-requires
-past-digits-requires c κs = search needs
 
 returns-2 : tie.Need-returns-2
 returns-2 c =
@@ -33,52 +21,46 @@ returns-2 c =
           ∙ power-run _ _ _ k (c .past-digits .ensures);
     }
 
-is-sign-requires : tie.Need-is-sign-requires
-is-sign-requires c κs = search needs
-
-add-j : tie.Need-add-j
-add-j c = search needs
-
 returns-3 : tie.Need-returns-3
 returns-3 c =
     record {
       low = search needs;
       high = search needs;
       same = λ _ k.
-          moves _ _ exp k (live sign k) (search needs) (exp-sign k _ (sym (c .before .before .before .before .is-digit .ensures) ∙ c .before .before .before .if2 .left) (sym (c .before .before .is-sign .ensures) ∙ c .before .if3 .taken))
+          moves _ _ exp k (live sign k) (search needs)
+          (exp-sign k _ (sym (c .before .before .before .before .is-digit .ensures) ∙ c .before .before .before .if2 .left)
+          (sym (c .before .before .is-sign .ensures) ∙ c .before .if3 .taken))
           ∙ short _ _ sign k (search needs) (search needs) refl;
     }
 
-shared-slice-read-is-digit : tie.Need-shared-slice-read-is-digit
-shared-slice-read-is-digit c = search needs
-
-is-digit-requires-2 : tie.Need-is-digit-requires-2
-is-digit-requires-2 c κs = search needs
-
-add-past-digits-2 : tie.Need-add-past-digits-2
-add-past-digits-2 c = search needs
-
-past-digits-requires-2 : tie.Need-past-digits-requires-2
-past-digits-requires-2 c κs = search needs
-
 returns-4 : tie.Need-returns-4
 returns-4 c =
+    let at-if3 = c .before .before .before .before .before in
+    let at-is-sign = at-if3 .before in
+    let at-if2 = at-is-sign .before in
+    let at-is-digit = at-if2 .before in
     record {
       low = search needs;
       high = search needs;
       same = λ _ k.
-          moves _ _ exp k (live sign k) (search needs) (exp-sign k _ (sym (c .before .before .before .before .before .before .before .before .is-digit .ensures) ∙ c .before .before .before .before .before .before .before .if2 .left) (sym (c .before .before .before .before .before .before .is-sign .ensures) ∙ c .before .before .before .before .before .if3 .taken))
+          moves _ _ exp k (live sign k) (search needs)
+          (exp-sign k _ (sym (at-is-digit .is-digit .ensures) ∙ at-if2 .if2 .left) (sym (at-is-sign .is-sign .ensures) ∙ at-if3 .if3 .taken))
           ∙ moves _ _ sign k (live power k) (search needs) (sign-digit k _ (sym (c .before .before .is-digit2 .ensures) ∙ c .before .if5 .taken))
           ∙ power-run _ _ _ k (c .past-digits2 .ensures);
     }
 
 returns-5 : tie.Need-returns-5
 returns-5 c =
+    let at-if3 = c .before .before .before .before in
+    let at-is-sign = at-if3 .before in
+    let at-if2 = at-is-sign .before in
+    let at-is-digit = at-if2 .before in
     record {
       low = search needs;
       high = search needs;
       same = λ _ k.
-          moves _ _ exp k (live sign k) (search needs) (exp-sign k _ (sym (c .before .before .before .before .before .before .before .is-digit .ensures) ∙ c .before .before .before .before .before .before .if2 .left) (sym (c .before .before .before .before .before .is-sign .ensures) ∙ c .before .before .before .before .if3 .taken))
+          moves _ _ exp k (live sign k) (search needs)
+          (exp-sign k _ (sym (at-is-digit .is-digit .ensures) ∙ at-if2 .if2 .left) (sym (at-is-sign .is-sign .ensures) ∙ at-if3 .if3 .taken))
           ∙ moves _ _ sign k dead (search needs) (sign-miss k _ (sym (c .before .is-digit2 .ensures) ∙ c .if5 .left));
     }
 
@@ -88,7 +70,8 @@ returns-6 c =
       low = search needs;
       high = search needs;
       same = λ _ k.
-          moves _ _ exp k dead (search needs) (exp-miss k _ (sym (c .before .before .before .is-digit .ensures) ∙ c .before .before .if2 .left) (sym (c .before .is-sign .ensures) ∙ c .if3 .left));
+          moves _ _ exp k dead (search needs)
+          (exp-miss k _ (sym (c .before .before .before .is-digit .ensures) ∙ c .before .before .if2 .left) (sym (c .before .is-sign .ensures) ∙ c .if3 .left));
     }
 
 pub power-spec : {M : Type 1} → statement M
@@ -96,18 +79,18 @@ power-spec =
     tie.close
     (tie.spec
     returns
-    shared-slice-read-b
-    is-digit-requires
-    add-past-digits
-    past-digits-requires
+    (λ c. search needs)
+    (λ c κs. search needs)
+    (λ c. search needs)
+    (λ c κs. search needs)
     returns-2
-    is-sign-requires
-    add-j
+    (λ c κs. search needs)
+    (λ c. search needs)
     returns-3
-    shared-slice-read-is-digit
-    is-digit-requires-2
-    add-past-digits-2
-    past-digits-requires-2
+    (λ c. search needs)
+    (λ c κs. search needs)
+    (λ c. search needs)
+    (λ c κs. search needs)
     returns-4
     returns-5
     returns-6)

@@ -2,7 +2,7 @@
 use mathlib.Core.Path.{refl, sym, _∙_}
 use native.Mathlib.Omega.{arith}
 use borrow.Author.Needs.{needs}
-use Rattle.json.specs.Machine.{minus, nought, int, live, dead}
+use Rattle.json.specs.inner.Machine.{minus, nought, int, live, dead}
 use Rattle.json.proofs.MoveLaws.{moves, short}
 use Rattle.json.proofs.StepLaws.{int-digit, int-rest, nought-rest, minus-zero, minus-digit, minus-miss}
 use Rattle.json.proofs.numbers.unsigned.Statement.{statement}
@@ -10,15 +10,6 @@ use Rattle.json.proofs.numbers.unsigned.Tie as tie
 
 returns : tie.Need-returns
 returns c = record { low = search needs; high = search needs; same = λ _ k. short _ _ minus k (search needs) (search needs) refl }
-
-shared-slice-read-b : tie.Need-shared-slice-read-b
-shared-slice-read-b c = search needs
-
-add-fraction : tie.Need-add-fraction
-add-fraction c = search needs
-
-fraction-requires : tie.Need-fraction-requires
-fraction-requires c κs = search needs
 
 returns-2 : tie.Need-returns-2
 returns-2 c =
@@ -30,25 +21,14 @@ returns-2 c =
           ∙ c .fraction .ensures .same nought k refl (λ h. nought-rest k _);
     }
 
-is-digit-requires : tie.Need-is-digit-requires
-is-digit-requires c κs = search needs
-
-add-past-digits : tie.Need-add-past-digits
-add-past-digits c = search needs
-
-past-digits-requires : tie.Need-past-digits-requires
-past-digits-requires c κs = search needs
-
-fraction-requires-2 : tie.Need-fraction-requires-2
-fraction-requires-2 c κs = search needs
-
 returns-3 : tie.Need-returns-3
 returns-3 c =
     record {
       low = omega (arith, c .fraction2 .ensures .low);
       high = c .fraction2 .ensures .high;
       same = λ _ k.
-          moves _ _ minus k (live int k) (search needs) (minus-digit k _ (c .before .before .before .before .if2 .left) (sym (c .before .before .before .is-digit .ensures) ∙ c .before .before .if3 .taken))
+          moves _ _ minus k (live int k) (search needs)
+          (minus-digit k _ (c .before .before .before .before .if2 .left) (sym (c .before .before .before .is-digit .ensures) ∙ c .before .before .if3 .taken))
           ∙ c .before .past-digits .ensures .same int k (int-digit k)
           ∙ c .fraction2 .ensures .same int k refl (λ h. int-rest k _ (c .before .past-digits .ensures .stop h));
     }
@@ -67,13 +47,13 @@ unsigned-spec =
     tie.close
     (tie.spec
     returns
-    shared-slice-read-b
-    add-fraction
-    fraction-requires
+    (λ c. search needs)
+    (λ c. search needs)
+    (λ c κs. search needs)
     returns-2
-    is-digit-requires
-    add-past-digits
-    past-digits-requires
-    fraction-requires-2
+    (λ c κs. search needs)
+    (λ c. search needs)
+    (λ c κs. search needs)
+    (λ c κs. search needs)
     returns-3
     returns-4)

@@ -1,39 +1,19 @@
 -- One law for each way out; what the readers answer is the machine's answer. Assumes nothing.
-use Rattle.json.proofs.PassLaws.{no-string-reached, string-reached, string-some, no-value-reached, value-reached, value-some, no-name, no-colon, no-value, not-followed, a-member}
+use Rattle.json.proofs.PassLaws.{no-string-reached, string-reached, string-some, no-value-reached, value-reached, value-some, no-name, no-colon}
+use Rattle.json.proofs.PassLaws.{no-value, not-followed, a-member}
 use Rattle.json.proofs.TurnLaws.{inside}
 use Rattle.json.proofs.passing.pass_member.Statement.{statement}
 use Rattle.json.proofs.passing.pass_member.Tie as tie
-use Rattle.json.specs.Passing.{isNext}
+use Rattle.json.specs.inner.Passing.{isNext}
 use borrow.Author.Needs.{needs}
 use mathlib.Core.Path.{refl, sym, ap, _∙_}
 use native.Mathlib.Omega.{arith}
-
-add-string : tie.Need-add-string
-add-string c = search needs
-
-string-requires : tie.Need-string-requires
-string-requires c κs = search needs
-
-enum-known-n : tie.Need-enum-known-n
-enum-known-n c = search needs
-
-nothing-requires : tie.Need-nothing-requires
-nothing-requires c κs = search needs
 
 returns : tie.Need-returns
 returns c =
     let st = c .before .before in
     let x = st .before .before in
     c .nothing .ensures ∙ no-name (x .args .left) (x .args .s .now) (x .args .q) (no-string-reached (x .pre .0) (x .pre .1) (st .string .ensures) (c .before .match .keys2)) refl
-
-skip-requires : tie.Need-skip-requires
-skip-requires c κs = search needs
-
-byte-requires : tie.Need-byte-requires
-byte-requires c κs = search needs
-
-nothing-requires-2 : tie.Need-nothing-requires-2
-nothing-requires-2 c κs = search needs
 
 returns-2 : tie.Need-returns-2
 returns-2 c =
@@ -47,19 +27,12 @@ returns-2 c =
     c .nothing2 .ensures ∙ no-colon (x .args .left) (x .args .s .now) (x .args .q) e named (sk .skip .ensures .is) (λ z. c .before .if1 .taken (by .byte .ensures ∙ z))
 
 add-skip : tie.Need-add-skip
-add-skip c = let st = c .before .before .before .before .before .before in let x = st .before .before .args in omega (arith, inside (x .s .now) (c .before .before .skip .result) 57 (sym (c .before .byte .ensures) ∙ c .if1 .left))
-
-skip-requires-2 : tie.Need-skip-requires-2
-skip-requires-2 c κs = search needs
+add-skip c = let st = c .before .before .before .before .before .before in let x = st .before .before .args in
+    omega (arith, inside (x .s .now) (c .before .before .skip .result) 57 (sym (c .before .byte .ensures) ∙ c .if1 .left))
 
 value-requires : tie.Need-value-requires
-value-requires c κs = let by = c .before .before in let st = by .before .before .before .before .before in let x = st .before .before .args in let h = inside (x .s .now) (by .before .skip .result) 57 (sym (by .byte .ensures) ∙ c .before .if1 .left) in c .skip2 .ensures .inner (omega arith)
-
-enum-known-r : tie.Need-enum-known-r
-enum-known-r c = search needs
-
-nothing-requires-3 : tie.Need-nothing-requires-3
-nothing-requires-3 c κs = search needs
+value-requires c κs = let by = c .before .before in let st = by .before .before .before .before .before in let x = st .before .before .args in
+    let h = inside (x .s .now) (by .before .skip .result) 57 (sym (by .byte .ensures) ∙ c .before .if1 .left) in c .skip2 .ensures .inner (omega arith)
 
 returns-3 : tie.Need-returns-3
 returns-3 c =
@@ -75,15 +48,6 @@ returns-3 c =
     let colon = sym (by .byte .ensures) ∙ s2 .before .if1 .left in
     c .nothing3 .ensures ∙ no-value (x .args .left) (x .args .s .now) (x .args .q) e named (sk .skip .ensures .is) colon (s2 .skip2 .ensures .is)
     (no-value-reached (va .value .ensures) (c .before .match2 .keys2)) refl
-
-skip-requires-3 : tie.Need-skip-requires-3
-skip-requires-3 c κs = search needs
-
-byte-requires-2 : tie.Need-byte-requires-2
-byte-requires-2 c κs = search needs
-
-is-next-requires : tie.Need-is-next-requires
-is-next-requires c κs = search needs
 
 returns-4 : tie.Need-returns-4
 returns-4 c =
@@ -105,9 +69,6 @@ returns-4 c =
     let some = value-some (va .value .ensures) (omega (arith, s2 .skip2 .ensures .low)) (r .r .given .1) in
     let follow = ap isNext (sym (b2 .byte2 .ensures)) ∙ sym (nx .is-next .ensures) in
     a-member (x .args .left) (x .args .s .now) (x .args .q) e named (sk .skip .ensures .is) colon (s2 .skip2 .ensures .is) w some (s3 .skip3 .ensures .is) (follow ∙ c .if2 .taken)
-
-nothing-requires-4 : tie.Need-nothing-requires-4
-nothing-requires-4 c κs = search needs
 
 returns-5 : tie.Need-returns-5
 returns-5 c =
@@ -135,24 +96,24 @@ pub pass-member-spec : {M : Type 1} → statement M
 pass-member-spec =
     tie.close
     (tie.spec
-    add-string
-    string-requires
-    enum-known-n
-    nothing-requires
+    (λ c. search needs)
+    (λ c κs. search needs)
+    (λ c. search needs)
+    (λ c κs. search needs)
     returns
-    skip-requires
-    byte-requires
-    nothing-requires-2
+    (λ c κs. search needs)
+    (λ c κs. search needs)
+    (λ c κs. search needs)
     returns-2
     add-skip
-    skip-requires-2
+    (λ c κs. search needs)
     value-requires
-    enum-known-r
-    nothing-requires-3
+    (λ c. search needs)
+    (λ c κs. search needs)
     returns-3
-    skip-requires-3
-    byte-requires-2
-    is-next-requires
+    (λ c κs. search needs)
+    (λ c κs. search needs)
+    (λ c κs. search needs)
     returns-4
-    nothing-requires-4
+    (λ c κs. search needs)
     returns-5)

@@ -4,15 +4,6 @@ use Rattle.json.proofs.passing.pass_string.Statement.{statement}
 use Rattle.json.proofs.passing.pass_string.Tie as tie
 use borrow.Author.Needs.{needs}
 
-add-string : tie.Need-add-string
-add-string c = search needs
-
-string-requires : tie.Need-string-requires
-string-requires c κs = search needs
-
-enum-known-r : tie.Need-enum-known-r
-enum-known-r c = search needs
-
 returns : tie.Need-returns
 returns c = let st = c .before in let x = st .before .before in no-string-reached (x .pre .0) (x .pre .1) (st .string .ensures) (c .match .keys2)
 
@@ -20,4 +11,4 @@ returns-2 : tie.Need-returns-2
 returns-2 c = let r = c .before in let st = r .before .before in let x = st .before .before in string-reached (x .pre .0) (x .pre .1) (st .string .ensures) (r .r .given .1)
 
 pub pass-string-spec : {M : Type 1} → statement M
-pass-string-spec = tie.close (tie.spec add-string string-requires enum-known-r returns returns-2)
+pass-string-spec = tie.close (tie.spec (λ c. search needs) (λ c κs. search needs) (λ c. search needs) returns returns-2)

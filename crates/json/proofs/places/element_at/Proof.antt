@@ -5,14 +5,8 @@ use Rattle.json.proofs.places.element_at.Statement.{statement}
 use Rattle.json.proofs.places.element_at.Tie as tie
 use borrow.Author.Needs.{needs}
 
-behind-requires : tie.Need-behind-requires
-behind-requires c κs = search needs
-
-skip-requires : tie.Need-skip-requires
-skip-requires c κs = search needs
-
 returns : tie.Need-returns
 returns c = let b = c .before .behind .ensures in record { ends = b; goes = laws.follows-found refl b (c .skip .ensures) }
 
 pub element-at-spec : {M : Type 1} → statement M
-element-at-spec = tie.close (tie.spec behind-requires skip-requires returns)
+element-at-spec = tie.close (tie.spec (λ c κs. search needs) (λ c κs. search needs) returns)

@@ -4,12 +4,9 @@ use Rattle.json.proofs.places.is_shut.Statement.{statement}
 use Rattle.json.proofs.places.is_shut.Tie as tie
 use borrow.Author.Needs.{needs}
 
-or-requires : tie.Need-or-requires
-or-requires c κs = search needs
-
 returns : tie.Need-returns
 unfolding isShut
 returns c = cc
 
 pub is-shut-spec : {M : Type 1} → statement M
-is-shut-spec = tie.close (tie.spec or-requires returns)
+is-shut-spec = tie.close (tie.spec (λ c κs. search needs) returns)

@@ -5,26 +5,8 @@ use Rattle.json.proofs.places.name_part.Statement.{statement}
 use Rattle.json.proofs.places.name_part.Tie as tie
 use borrow.Author.Needs.{needs}
 
-sub-result : tie.Need-sub-result
-sub-result c = search needs
-
-part-result-start : tie.Need-part-result-start
-part-result-start c = search needs
-
-part-result-end : tie.Need-part-result-end
-part-result-end c = search needs
-
 returns : tie.Need-returns
 returns c = let l = c .before .before .before .args in sym (laws.raw-outside (l .s .now) (l .q) (c .before .if1 .taken))
-
-closing-requires : tie.Need-closing-requires
-closing-requires c κs = search needs
-
-add-part : tie.Need-add-part
-add-part c = search needs
-
-part-requires : tie.Need-part-requires
-part-requires c κs = search needs
 
 returns-2 : tie.Need-returns-2
 returns-2 c = let l = c .before .before .before .before .args in c .part .ensures ∙ laws.raw-is (l .s .now) (l .q) (c .before .closing .ensures)
@@ -33,11 +15,11 @@ pub name-part-spec : {M : Type 1} → statement M
 name-part-spec =
     tie.close
     (tie.spec
-    sub-result
-    part-result-start
-    part-result-end
+    (λ c. search needs)
+    (λ c. search needs)
+    (λ c. search needs)
     returns
-    closing-requires
-    add-part
-    part-requires
+    (λ c κs. search needs)
+    (λ c. search needs)
+    (λ c κs. search needs)
     returns-2)

@@ -18,68 +18,72 @@ abbrev μ-loop : tie.MeasureT-loop
 loop-holds : tie.Need-loop-holds Inv-loop μ-loop
 loop-holds c = (omega arith, omega arith, omega arith, omega arith, refl)
 
-shared-slice-read-b : tie.Need-shared-slice-read-b Inv-loop μ-loop
-shared-slice-read-b c = search needs
-
-add-string-end : tie.Need-add-string-end Inv-loop μ-loop
-add-string-end c = search needs
-
-string-end-requires : tie.Need-string-end-requires Inv-loop μ-loop
-string-end-requires c κs = search needs
-
-loop-less : tie.Need-loop-less Inv-loop μ-loop
-loop-less c = search needs
-
 loop-again : tie.Need-loop-again Inv-loop μ-loop
-loop-again c = let l = c .before .before .before .before in (omega arith, omega arith, omega arith, omega arith, l .loop .inv .4 ∙ laws.nest-string (l .before .before .args .s .now) (l .loop .i) (l .loop .n) (omega arith) (omega arith) (c .before .if1 .taken) (c .string-end .ensures .0))
-
-is-open-requires : tie.Need-is-open-requires Inv-loop μ-loop
-is-open-requires c κs = search needs
-
-add-n : tie.Need-add-n Inv-loop μ-loop
-add-n c = search needs
-
-add-i : tie.Need-add-i Inv-loop μ-loop
-add-i c = search needs
-
-loop-less-2 : tie.Need-loop-less-2 Inv-loop μ-loop
-loop-less-2 c = search needs
+loop-again c = let l = c .before .before .before .before in (
+  omega arith,
+  omega arith,
+  omega arith,
+  omega arith,
+  l .loop .inv .4
+      ∙ laws.nest-string (l .before .before .args .s .now) (l .loop .i) (l .loop .n) (omega arith) (omega arith) (c .before .if1 .taken) (c .string-end .ensures .0),
+)
 
 loop-again-2 : tie.Need-loop-again-2 Inv-loop μ-loop
-loop-again-2 c = let l = c .before .before .before .before .before in (omega arith, omega arith, omega arith, omega arith, l .loop .inv .4 ∙ laws.nest-opens (l .before .before .args .s .now) (l .loop .i) (l .loop .n) (omega arith) (omega arith) (sym (c .before .is-open .ensures) ∙ c .if2 .taken) (c .before .before .if1 .left))
-
-is-shut-requires : tie.Need-is-shut-requires Inv-loop μ-loop
-is-shut-requires c κs = search needs
-
-add-result : tie.Need-add-result Inv-loop μ-loop
-add-result c = search needs
+loop-again-2 c = let l = c .before .before .before .before .before in (
+  omega arith,
+  omega arith,
+  omega arith,
+  omega arith,
+  l .loop .inv .4
+      ∙ laws.nest-opens (l .before .before .args .s .now) (l .loop .i) (l .loop .n) (omega arith) (omega arith) (sym (c .before .is-open .ensures) ∙ c .if2 .taken)
+      (c .before .before .if1 .left),
+)
 
 returns : tie.Need-returns Inv-loop μ-loop
-returns c = let l = c .before .before .before .before .before .before .before .before in (sym (l .loop .inv .4 ∙ laws.nest-closes (l .before .before .args .s .now) (l .loop .i) (l .loop .n) (omega arith) (omega arith) (c .if4 .taken) (sym (c .before .before .before .before .is-open .ensures) ∙ c .before .before .before .if2 .left) (sym (c .before .before .is-shut .ensures) ∙ c .before .if3 .taken) (c .before .before .before .before .before .if1 .left)), omega arith, omega arith)
-
-sub-n : tie.Need-sub-n Inv-loop μ-loop
-sub-n c = search needs
-
-add-i-2 : tie.Need-add-i-2 Inv-loop μ-loop
-add-i-2 c = search needs
-
-loop-less-3 : tie.Need-loop-less-3 Inv-loop μ-loop
-loop-less-3 c = search needs
+returns c =
+    let at-is-open = c .before .before .before .before in
+    let at-if1 = at-is-open .before in
+    let at-loop = at-if1 .before .before .before in
+    let l = at-loop in (
+      sym (l .loop .inv .4
+          ∙ laws.nest-closes (l .before .before .args .s .now) (l .loop .i) (l .loop .n) (omega arith) (omega arith) (c .if4 .taken)
+          (sym (at-is-open .is-open .ensures) ∙ c .before .before .before .if2 .left) (sym (c .before .before .is-shut .ensures) ∙ c .before .if3 .taken) (at-if1 .if1 .left)),
+      omega arith,
+      omega arith,
+    )
 
 loop-again-3 : tie.Need-loop-again-3 Inv-loop μ-loop
-loop-again-3 c = let l = c .before .before .before .before .before .before .before .before in let z : l .loop .n ≡ 1 → ⊥ = c .if4 .left in (omega arith, omega arith, omega arith, omega arith, l .loop .inv .4 ∙ laws.nest-shuts (l .before .before .args .s .now) (l .loop .i) (l .loop .n) (omega arith) (omega arith) (sym (c .before .before .before .before .is-open .ensures) ∙ c .before .before .before .if2 .left) (sym (c .before .before .is-shut .ensures) ∙ c .before .if3 .taken) (c .before .before .before .before .before .if1 .left))
-
-add-i-3 : tie.Need-add-i-3 Inv-loop μ-loop
-add-i-3 c = search needs
-
-loop-less-4 : tie.Need-loop-less-4 Inv-loop μ-loop
-loop-less-4 c = search needs
+loop-again-3 c =
+    let at-is-open = c .before .before .before .before in
+    let at-if1 = at-is-open .before in
+    let at-loop = at-if1 .before .before .before in
+    let l = at-loop in let z : l .loop .n ≡ 1 → ⊥ = c .if4 .left in (
+      omega arith,
+      omega arith,
+      omega arith,
+      omega arith,
+      l .loop .inv .4
+          ∙ laws.nest-shuts (l .before .before .args .s .now) (l .loop .i) (l .loop .n) (omega arith) (omega arith)
+          (sym (at-is-open .is-open .ensures) ∙ c .before .before .before .if2 .left) (sym (c .before .before .is-shut .ensures) ∙ c .before .if3 .taken) (at-if1 .if1 .left),
+    )
 
 loop-again-4 : tie.Need-loop-again-4 Inv-loop μ-loop
-loop-again-4 c = let l = c .before .before .before .before .before .before .before in (omega arith, omega arith, omega arith, omega arith, l .loop .inv .4 ∙ laws.nest-more (l .before .before .args .s .now) (l .loop .i) (l .loop .n) (omega arith) (omega arith) (sym (c .before .before .before .is-open .ensures) ∙ c .before .before .if2 .left) (sym (c .before .is-shut .ensures) ∙ c .if3 .left) (c .before .before .before .before .if1 .left))
+loop-again-4 c =
+    let at-if1 = c .before .before .before .before in
+    let at-loop = at-if1 .before .before .before in
+    let l = at-loop in (
+      omega arith,
+      omega arith,
+      omega arith,
+      omega arith,
+      l .loop .inv .4
+          ∙ laws.nest-more (l .before .before .args .s .now) (l .loop .i) (l .loop .n) (omega arith) (omega arith)
+          (sym (c .before .before .before .is-open .ensures) ∙ c .before .before .if2 .left) (sym (c .before .is-shut .ensures) ∙ c .if3 .left) (at-if1 .if1 .left),
+    )
 
 returns-2 : tie.Need-returns-2 Inv-loop μ-loop
-returns-2 c = let l = c .before in (sym (l .loop .inv .4 ∙ laws.left-end (l .before .before .args .s .now) (l .loop .i) outside (l .loop .n) (omega arith)), omega arith, omega arith)
+returns-2 c = let l = c .before in
+    (sym (l .loop .inv .4 ∙ laws.left-end (l .before .before .args .s .now) (l .loop .i) outside (l .loop .n) (omega arith)), omega arith, omega arith)
 
 pub nest-end-spec : {M : Type 1} → statement M
 nest-end-spec =
@@ -88,24 +92,24 @@ nest-end-spec =
     Inv-loop
     μ-loop
     loop-holds
-    shared-slice-read-b
-    add-string-end
-    string-end-requires
-    loop-less
+    (λ c. search needs)
+    (λ c. search needs)
+    (λ c κs. search needs)
+    (λ c. search needs)
     loop-again
-    is-open-requires
-    add-n
-    add-i
-    loop-less-2
+    (λ c κs. search needs)
+    (λ c. search needs)
+    (λ c. search needs)
+    (λ c. search needs)
     loop-again-2
-    is-shut-requires
-    add-result
+    (λ c κs. search needs)
+    (λ c. search needs)
     returns
-    sub-n
-    add-i-2
-    loop-less-3
+    (λ c. search needs)
+    (λ c. search needs)
+    (λ c. search needs)
     loop-again-3
-    add-i-3
-    loop-less-4
+    (λ c. search needs)
+    (λ c. search needs)
     loop-again-4
     returns-2)

@@ -6,50 +6,14 @@ use Rattle.json.proofs.places.part.Statement.{statement}
 use Rattle.json.proofs.places.part.Tie as tie
 use borrow.Author.Needs.{needs}
 
-sub-result : tie.Need-sub-result
-sub-result c = search needs
-
-part-result-start : tie.Need-part-result-start
-part-result-start c = search needs
-
-part-result-end : tie.Need-part-result-end
-part-result-end c = search needs
-
 returns : tie.Need-returns
 returns c = let l = c .before .before .args in sym (laws.part-none (l .s .now) (l .a) (l .e) (c .before .if1 .taken))
-
-sub-result-2 : tie.Need-sub-result-2
-sub-result-2 c = search needs
-
-part-result-start-2 : tie.Need-part-result-start-2
-part-result-start-2 c = search needs
-
-part-result-end-2 : tie.Need-part-result-end-2
-part-result-end-2 c = search needs
 
 returns-2 : tie.Need-returns-2
 returns-2 c = let l = c .before .before .before .args in sym (laws.part-past (l .s .now) (l .a) (l .e) (c .before .if2 .taken))
 
-sub-result-3 : tie.Need-sub-result-3
-sub-result-3 c = search needs
-
-part-result-start-3 : tie.Need-part-result-start-3
-part-result-start-3 c = search needs
-
-part-result-end-3 : tie.Need-part-result-end-3
-part-result-end-3 c = search needs
-
 returns-3 : tie.Need-returns-3
 returns-3 c = let l = c .before .before .before .before .args in sym (laws.part-rest (l .s .now) (l .a) (l .e) (omega arith))
-
-sub-result-4 : tie.Need-sub-result-4
-sub-result-4 c = search needs
-
-part-result-start-4 : tie.Need-part-result-start-4
-part-result-start-4 c = search needs
-
-part-result-end-4 : tie.Need-part-result-end-4
-part-result-end-4 c = search needs
 
 returns-4 : tie.Need-returns-4
 returns-4 c = let l = c .before .before .before .before .args in sym (laws.part-is (l .s .now) (l .a) (l .e))
@@ -58,19 +22,19 @@ pub part-spec : {M : Type 1} → statement M
 part-spec =
     tie.close
     (tie.spec
-    sub-result
-    part-result-start
-    part-result-end
+    (λ c. search needs)
+    (λ c. search needs)
+    (λ c. search needs)
     returns
-    sub-result-2
-    part-result-start-2
-    part-result-end-2
+    (λ c. search needs)
+    (λ c. search needs)
+    (λ c. search needs)
     returns-2
-    sub-result-3
-    part-result-start-3
-    part-result-end-3
+    (λ c. search needs)
+    (λ c. search needs)
+    (λ c. search needs)
     returns-3
-    sub-result-4
-    part-result-start-4
-    part-result-end-4
+    (λ c. search needs)
+    (λ c. search needs)
+    (λ c. search needs)
     returns-4)

@@ -5,17 +5,9 @@ use Rattle.json.proofs.places.past_colon.Statement.{statement}
 use Rattle.json.proofs.places.past_colon.Tie as tie
 use borrow.Author.Needs.{needs}
 
-skip-requires : tie.Need-skip-requires
-skip-requires c κs = search needs
-
-next-requires : tie.Need-next-requires
-next-requires c κs = search needs
-
-skip-requires-2 : tie.Need-skip-requires-2
-skip-requires-2 c κs = search needs
-
 returns : tie.Need-returns
-returns c = let s = c .before .before .before .before .args .s .now in laws.found-then (past s) (laws.found-then (next s) (c .before .before .skip .ensures) (c .before .next .ensures)) (c .skip2 .ensures)
+returns c = let s = c .before .before .before .before .args .s .now in
+    laws.found-then (past s) (laws.found-then (next s) (c .before .before .skip .ensures) (c .before .next .ensures)) (c .skip2 .ensures)
 
 pub past-colon-spec : {M : Type 1} → statement M
-past-colon-spec = tie.close (tie.spec skip-requires next-requires skip-requires-2 returns)
+past-colon-spec = tie.close (tie.spec (λ c κs. search needs) (λ c κs. search needs) (λ c κs. search needs) returns)

@@ -18,23 +18,16 @@ abbrev μ-loop : tie.MeasureT-loop
 loop-holds : tie.Need-loop-holds Inv-loop μ-loop
 loop-holds c = (omega arith, omega arith, refl)
 
-shared-slice-read-is-mark : tie.Need-shared-slice-read-is-mark Inv-loop μ-loop
-shared-slice-read-is-mark c = search needs
-
-is-mark-requires : tie.Need-is-mark-requires Inv-loop μ-loop
-is-mark-requires c κs = search needs
-
 returns : tie.Need-returns Inv-loop μ-loop
-returns c = let l = c .before .before .before .before in (sym (l .loop .inv .2 ∙ laws.plain-stops (l .before .before .args .s .now) (l .loop .i) (omega arith) (sym (c .before .is-mark .ensures) ∙ c .if1 .taken)), omega arith, omega arith)
-
-add-i : tie.Need-add-i Inv-loop μ-loop
-add-i c = search needs
-
-loop-less : tie.Need-loop-less Inv-loop μ-loop
-loop-less c = search needs
+returns c = let l = c .before .before .before .before in (
+  sym (l .loop .inv .2 ∙ laws.plain-stops (l .before .before .args .s .now) (l .loop .i) (omega arith) (sym (c .before .is-mark .ensures) ∙ c .if1 .taken)),
+  omega arith,
+  omega arith,
+)
 
 loop-again : tie.Need-loop-again Inv-loop μ-loop
-loop-again c = let l = c .before .before .before .before in (omega arith, omega arith, l .loop .inv .2 ∙ laws.plain-more (l .before .before .args .s .now) (l .loop .i) (omega arith) (sym (c .before .is-mark .ensures) ∙ c .if1 .left))
+loop-again c = let l = c .before .before .before .before in
+    (omega arith, omega arith, l .loop .inv .2 ∙ laws.plain-more (l .before .before .args .s .now) (l .loop .i) (omega arith) (sym (c .before .is-mark .ensures) ∙ c .if1 .left))
 
 returns-2 : tie.Need-returns-2 Inv-loop μ-loop
 returns-2 c = let l = c .before in (sym (l .loop .inv .2 ∙ laws.plain-ends (l .before .before .args .s .now) (l .loop .i) (omega arith)), omega arith, omega arith)
@@ -46,10 +39,10 @@ plain-end-spec =
     Inv-loop
     μ-loop
     loop-holds
-    shared-slice-read-is-mark
-    is-mark-requires
+    (λ c. search needs)
+    (λ c κs. search needs)
     returns
-    add-i
-    loop-less
+    (λ c. search needs)
+    (λ c. search needs)
     loop-again
     returns-2)

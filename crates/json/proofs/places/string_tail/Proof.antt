@@ -18,38 +18,22 @@ abbrev μ-loop : tie.MeasureT-loop
 loop-holds : tie.Need-loop-holds Inv-loop μ-loop
 loop-holds c = (omega arith, omega arith, refl)
 
-shared-slice-read-b : tie.Need-shared-slice-read-b Inv-loop μ-loop
-shared-slice-read-b c = search needs
-
-add-result : tie.Need-add-result Inv-loop μ-loop
-add-result c = search needs
-
 returns : tie.Need-returns Inv-loop μ-loop
-returns c = let l = c .before .before .before in (sym (l .loop .inv .2 ∙ laws.string-closes (l .before .args .s .now) (l .loop .i) (omega arith) (c .if1 .taken)), omega arith, omega arith)
-
-sub-if3 : tie.Need-sub-if3 Inv-loop μ-loop
-sub-if3 c = search needs
+returns c = let l = c .before .before .before in
+    (sym (l .loop .inv .2 ∙ laws.string-closes (l .before .args .s .now) (l .loop .i) (omega arith) (c .if1 .taken)), omega arith, omega arith)
 
 returns-2 : tie.Need-returns-2 Inv-loop μ-loop
-returns-2 c = let l = c .before .before .before .before .before in let q = l .loop .inv .2 ∙ laws.string-cut (l .before .args .s .now) (l .loop .i) 0 (omega arith) (omega arith) (c .before .if2 .taken) in (omega arith, omega arith, omega arith)
-
-add-i : tie.Need-add-i Inv-loop μ-loop
-add-i c = search needs
-
-loop-less : tie.Need-loop-less Inv-loop μ-loop
-loop-less c = search needs
+returns-2 c = let l = c .before .before .before .before .before in
+    let q = l .loop .inv .2 ∙ laws.string-cut (l .before .args .s .now) (l .loop .i) 0 (omega arith) (omega arith) (c .before .if2 .taken) in
+    (omega arith, omega arith, omega arith)
 
 loop-again : tie.Need-loop-again Inv-loop μ-loop
-loop-again c = let l = c .before .before .before .before .before in (omega arith, omega arith, l .loop .inv .2 ∙ laws.string-escape (l .before .args .s .now) (l .loop .i) 0 (omega arith) (c .before .if2 .taken))
-
-add-i-2 : tie.Need-add-i-2 Inv-loop μ-loop
-add-i-2 c = search needs
-
-loop-less-2 : tie.Need-loop-less-2 Inv-loop μ-loop
-loop-less-2 c = search needs
+loop-again c = let l = c .before .before .before .before .before in
+    (omega arith, omega arith, l .loop .inv .2 ∙ laws.string-escape (l .before .args .s .now) (l .loop .i) 0 (omega arith) (c .before .if2 .taken))
 
 loop-again-2 : tie.Need-loop-again-2 Inv-loop μ-loop
-loop-again-2 c = let l = c .before .before .before .before in (omega arith, omega arith, l .loop .inv .2 ∙ laws.string-more (l .before .args .s .now) (l .loop .i) 0 (omega arith) (c .before .if1 .left) (c .if2 .left))
+loop-again-2 c = let l = c .before .before .before .before in
+    (omega arith, omega arith, l .loop .inv .2 ∙ laws.string-more (l .before .args .s .now) (l .loop .i) 0 (omega arith) (c .before .if1 .left) (c .if2 .left))
 
 returns-3 : tie.Need-returns-3 Inv-loop μ-loop
 returns-3 c = let l = c .before in (sym (l .loop .inv .2 ∙ laws.left-end (l .before .args .s .now) (l .loop .i) quoted 0 (omega arith)), omega arith, omega arith)
@@ -61,15 +45,15 @@ string-tail-spec =
     Inv-loop
     μ-loop
     loop-holds
-    shared-slice-read-b
-    add-result
+    (λ c. search needs)
+    (λ c. search needs)
     returns
-    sub-if3
+    (λ c. search needs)
     returns-2
-    add-i
-    loop-less
+    (λ c. search needs)
+    (λ c. search needs)
     loop-again
-    add-i-2
-    loop-less-2
+    (λ c. search needs)
+    (λ c. search needs)
     loop-again-2
     returns-3)

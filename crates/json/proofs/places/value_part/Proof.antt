@@ -6,14 +6,8 @@ use Rattle.json.proofs.places.value_part.Statement.{statement}
 use Rattle.json.proofs.places.value_part.Tie as tie
 use borrow.Author.Needs.{needs}
 
-behind-requires : tie.Need-behind-requires
-behind-requires c κs = search needs
-
-part-requires : tie.Need-part-requires
-part-requires c κs = search needs
-
 returns : tie.Need-returns
 returns c = let l = c .before .before .before .args in c .part .ensures ∙ ap (part (l .s .now) (l .v)) (c .before .behind .ensures .is)
 
 pub value-part-spec : {M : Type 1} → statement M
-value-part-spec = tie.close (tie.spec behind-requires part-requires returns)
+value-part-spec = tie.close (tie.spec (λ c κs. search needs) (λ c κs. search needs) returns)

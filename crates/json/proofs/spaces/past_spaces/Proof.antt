@@ -1,70 +1,11 @@
--- The loop passes white space: where it stands the machine answers as from the start, in every mode that such bytes leave as it is. Assumes nothing.
-use mathlib.Core.Path.{_≡_, refl, sym, _∙_}
-use mathlib.Core.Bool.{true}
-use Prim.Native.Nat.{ℕ, _-_, _≤_}
-use native.Mathlib.Omega.{arith}
+-- By what `skip` ensures. Assumes nothing.
 use borrow.Author.Needs.{needs}
-use lib.ListN.{length}
-use Rattle.json.specs.Machine.{Stack, Mode, live, isWs, step, from}
-use Rattle.json.proofs.MoveLaws.{moves}
+use Rattle.json.proofs.PassLaws.{spaces-passed}
 use Rattle.json.proofs.spaces.past_spaces.Statement.{statement}
 use Rattle.json.proofs.spaces.past_spaces.Tie as tie
 
-abbrev Inv-loop : tie.InvT-loop
-Inv-loop s at i₀ i = (at ≤ i) × (i ≤ length s) × ((m : Mode) (k : Stack) → ((b : ℕ) → isWs b ≡ true → step m k b ≡ live m k) → from s at m k ≡ from s i m k)
-
-abbrev μ-loop : tie.MeasureT-loop
-μ-loop s at i₀ i = length s - i
-
-loop-holds : tie.Need-loop-holds Inv-loop μ-loop
-loop-holds c = (search needs, search needs, λ m k f. refl)
-
-shared-slice-read-is-space : tie.Need-shared-slice-read-is-space Inv-loop μ-loop
-shared-slice-read-is-space c = search needs
-
-is-space-requires : tie.Need-is-space-requires Inv-loop μ-loop
-is-space-requires c κs = search needs
-
-add-i : tie.Need-add-i Inv-loop μ-loop
-add-i c = search needs
-
-loop-less : tie.Need-loop-less Inv-loop μ-loop
-loop-less c = search needs
-
-loop-again : tie.Need-loop-again Inv-loop μ-loop
-loop-again c = (
-  search needs,
-  search needs,
-  λ m k f.
-      c .before .before .before .before .loop .inv .2 m k f
-      ∙ moves _ _ m k (live m k) (search needs) (f _ (sym (c .before .is-space .ensures) ∙ c .if1 .taken)),
-)
-
-returns : tie.Need-returns Inv-loop μ-loop
-returns c =
-    record {
-      low = search needs;
-      high = search needs;
-      stop = λ h.
-          sym (c .before .is-space .ensures)
-          ∙ c .if1 .left;
-      same = c .before .before .before .before .loop .inv .2;
-    }
-
-returns-2 : tie.Need-returns-2 Inv-loop μ-loop
-returns-2 c = record { low = search needs; high = search needs; stop = λ h. absurd (omega arith); same = c .before .loop .inv .2 }
+returns : tie.Need-returns
+returns c = spaces-passed (c .skip .ensures) (search needs)
 
 pub past-spaces-spec : {M : Type 1} → statement M
-past-spaces-spec =
-    tie.close
-    (tie.spec
-    Inv-loop
-    μ-loop
-    loop-holds
-    shared-slice-read-is-space
-    is-space-requires
-    add-i
-    loop-less
-    loop-again
-    returns
-    returns-2)
+past-spaces-spec = tie.close (tie.spec (λ c κs. search needs) returns)

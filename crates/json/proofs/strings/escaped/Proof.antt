@@ -2,7 +2,7 @@
 use mathlib.Core.Path.{refl, sym, _∙_}
 use native.Mathlib.Omega.{arith}
 use borrow.Author.Needs.{needs}
-use Rattle.json.specs.Machine.{str, esc, live, dead, hexes}
+use Rattle.json.specs.inner.Machine.{str, esc, live, dead, hexes}
 use Rattle.json.proofs.MoveLaws.{moves, short}
 use Rattle.json.proofs.StepLaws.{esc-hit, esc-u, esc-miss}
 use Rattle.json.proofs.strings.escaped.Statement.{statement}
@@ -10,15 +10,6 @@ use Rattle.json.proofs.strings.escaped.Tie as tie
 
 returns : tie.Need-returns
 returns c = record { low = search needs; high = search needs; same = λ w k. short _ _ (esc w) k (search needs) (search needs) refl }
-
-shared-slice-read-b : tie.Need-shared-slice-read-b
-shared-slice-read-b c = search needs
-
-is-escaped-requires : tie.Need-is-escaped-requires
-is-escaped-requires c κs = search needs
-
-add-t9 : tie.Need-add-t9
-add-t9 c = search needs
 
 returns-2 : tie.Need-returns-2
 returns-2 c =
@@ -28,12 +19,6 @@ returns-2 c =
       same = λ w k.
           moves _ _ (esc w) k (live (str w) k) (search needs) (esc-hit w k _ (sym (c .before .is-escaped .ensures) ∙ c .if2 .taken));
     }
-
-add-four-hex : tie.Need-add-four-hex
-add-four-hex c = search needs
-
-four-hex-requires : tie.Need-four-hex-requires
-four-hex-requires c κs = search needs
 
 returns-3 : tie.Need-returns-3
 returns-3 c =
@@ -59,11 +44,11 @@ escaped-spec =
     tie.close
     (tie.spec
     returns
-    shared-slice-read-b
-    is-escaped-requires
-    add-t9
+    (λ c. search needs)
+    (λ c κs. search needs)
+    (λ c. search needs)
     returns-2
-    add-four-hex
-    four-hex-requires
+    (λ c. search needs)
+    (λ c κs. search needs)
     returns-3
     returns-4)

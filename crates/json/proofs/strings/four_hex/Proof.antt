@@ -3,7 +3,7 @@ use mathlib.Core.Path.{_≡_, refl, sym, _∙_}
 use Prim.Native.Nat.{_≤_}
 use borrow.Author.Needs.{needs}
 use lib.ListN.{length}
-use Rattle.json.specs.Machine.{Stack, Role, hexes, from}
+use Rattle.json.specs.inner.Machine.{Stack, Role, hexes, from}
 use Rattle.json.proofs.LeafLaws.{hex-hit, hex-miss, hex-short, hex-done}
 use Rattle.json.proofs.strings.four_hex.Statement.{statement}
 use Rattle.json.proofs.strings.four_hex.Tie as tie
@@ -27,21 +27,6 @@ returns c =
           ∙ hex-short _ _ _ w k (search needs) (search needs) (search needs);
     }
 
-shared-slice-read-is-hex : tie.Need-shared-slice-read-is-hex Inv-loop μ-loop
-shared-slice-read-is-hex c = search needs
-
-is-hex-requires : tie.Need-is-hex-requires Inv-loop μ-loop
-is-hex-requires c κs = search needs
-
-add-i : tie.Need-add-i Inv-loop μ-loop
-add-i c = search needs
-
-sub-n : tie.Need-sub-n Inv-loop μ-loop
-sub-n c = search needs
-
-loop-less : tie.Need-loop-less Inv-loop μ-loop
-loop-less c = search needs
-
 loop-again : tie.Need-loop-again Inv-loop μ-loop
 loop-again c = (
   search needs,
@@ -49,7 +34,7 @@ loop-again c = (
   search needs,
   λ w k.
       c .before .before .before .before .before .loop .inv .3 w k
-      ∙ hex-hit _ _ _ w k (search needs) (search needs) (sym (c .before .is-hex .ensures) ∙ c .if2 .taken),
+      ∙ hex-hit _ _ _ w k (search needs) (search needs) (sym (c .before .is-hex-digit .ensures) ∙ c .if2 .taken),
 )
 
 returns-2 : tie.Need-returns-2 Inv-loop μ-loop
@@ -59,7 +44,7 @@ returns-2 c =
       high = search needs;
       same = λ w k.
           c .before .before .before .before .before .loop .inv .3 w k
-          ∙ hex-miss _ _ _ w k (search needs) (search needs) (sym (c .before .is-hex .ensures) ∙ c .if2 .left);
+          ∙ hex-miss _ _ _ w k (search needs) (search needs) (sym (c .before .is-hex-digit .ensures) ∙ c .if2 .left);
     }
 
 returns-3 : tie.Need-returns-3 Inv-loop μ-loop
@@ -73,11 +58,11 @@ four-hex-spec =
     μ-loop
     loop-holds
     returns
-    shared-slice-read-is-hex
-    is-hex-requires
-    add-i
-    sub-n
-    loop-less
+    (λ c. search needs)
+    (λ c κs. search needs)
+    (λ c. search needs)
+    (λ c. search needs)
+    (λ c. search needs)
     loop-again
     returns-2
     returns-3)

@@ -1,6 +1,6 @@
 -- By its test. Assumes nothing.
 use borrow.Author.Tests.{lt-ltb, le-ltb}
-use Rattle.json.specs.Runs.{least}
+use Rattle.json.specs.inner.Runs.{least}
 use Rattle.json.proofs.strings.least_of.Statement.{statement}
 use Rattle.json.proofs.strings.least_of.Tie as tie
 

@@ -5,7 +5,7 @@ use Prim.Native.Nat.{ℕ, _-_, _≤_}
 use native.Mathlib.Omega.{arith}
 use borrow.Author.Needs.{needs}
 use lib.ListN.{length}
-use Rattle.json.specs.Machine.{Stack, plain, Mode, live, isPlain, step, from}
+use Rattle.json.specs.inner.Machine.{Stack, plain, Mode, live, isPlain, step, from}
 use Rattle.json.proofs.MoveLaws.{moves, run}
 use Rattle.json.proofs.strings.past_plain.Statement.{statement}
 use Rattle.json.proofs.strings.past_plain.Tie as tie
@@ -24,12 +24,6 @@ abbrev μ-loop2 : tie.MeasureT-loop2
 
 loop-holds : tie.Need-loop-holds Inv-loop μ-loop Inv-loop2 μ-loop2
 loop-holds c = (search needs, search needs, λ m k f. refl)
-
-sub-loop : tie.Need-sub-loop Inv-loop μ-loop Inv-loop2 μ-loop2
-sub-loop c = search needs
-
-plain-of-32-requires : tie.Need-plain-of-32-requires Inv-loop μ-loop Inv-loop2 μ-loop2
-plain-of-32-requires c κs = search needs
 
 cast-n : tie.Need-cast-n Inv-loop μ-loop Inv-loop2 μ-loop2
 cast-n c = omega (arith, c .plain-of-32 .ensures .few)
@@ -63,18 +57,6 @@ loop-again c = (
 loop2-holds : tie.Need-loop2-holds Inv-loop μ-loop Inv-loop2 μ-loop2
 loop2-holds c = c .before .loop .inv
 
-shared-slice-read-is-plain : tie.Need-shared-slice-read-is-plain Inv-loop μ-loop Inv-loop2 μ-loop2
-shared-slice-read-is-plain c = search needs
-
-is-plain-requires : tie.Need-is-plain-requires Inv-loop μ-loop Inv-loop2 μ-loop2
-is-plain-requires c κs = search needs
-
-add-i-2 : tie.Need-add-i-2 Inv-loop μ-loop Inv-loop2 μ-loop2
-add-i-2 c = search needs
-
-loop2-less : tie.Need-loop2-less Inv-loop μ-loop Inv-loop2 μ-loop2
-loop2-less c = search needs
-
 loop2-again : tie.Need-loop2-again Inv-loop μ-loop Inv-loop2 μ-loop2
 loop2-again c = (
   search needs,
@@ -107,18 +89,18 @@ past-plain-spec =
     Inv-loop2
     μ-loop2
     loop-holds
-    sub-loop
-    plain-of-32-requires
+    (λ c. search needs)
+    (λ c κs. search needs)
     cast-n
     add-i
     returns
     loop-less
     loop-again
     loop2-holds
-    shared-slice-read-is-plain
-    is-plain-requires
-    add-i-2
-    loop2-less
+    (λ c. search needs)
+    (λ c κs. search needs)
+    (λ c. search needs)
+    (λ c. search needs)
     loop2-again
     returns-2
     returns-3)

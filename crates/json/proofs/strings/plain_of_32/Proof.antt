@@ -14,27 +14,6 @@ abbrev μ-loop : tie.MeasureT-loop
 loop-holds : tie.Need-loop-holds Inv-loop μ-loop
 loop-holds c = (search needs, seen-none _ _)
 
-add-rank-of : tie.Need-add-rank-of Inv-loop μ-loop
-add-rank-of c = search needs
-
-shared-slice-read-rank-of : tie.Need-shared-slice-read-rank-of Inv-loop μ-loop
-shared-slice-read-rank-of c = search needs
-
-cast-rank-of : tie.Need-cast-rank-of Inv-loop μ-loop
-cast-rank-of c = search needs
-
-rank-of-requires : tie.Need-rank-of-requires Inv-loop μ-loop
-rank-of-requires c κs = search needs
-
-least-of-requires : tie.Need-least-of-requires Inv-loop μ-loop
-least-of-requires c κs = search needs
-
-add-k : tie.Need-add-k Inv-loop μ-loop
-add-k c = search needs
-
-loop-less : tie.Need-loop-less Inv-loop μ-loop
-loop-less c = search needs
-
 loop-again : tie.Need-loop-again Inv-loop μ-loop
 loop-again c = (
   search needs,
@@ -51,12 +30,12 @@ plain-of-32-spec =
     Inv-loop
     μ-loop
     loop-holds
-    add-rank-of
-    shared-slice-read-rank-of
-    cast-rank-of
-    rank-of-requires
-    least-of-requires
-    add-k
-    loop-less
+    (λ c. search needs)
+    (λ c. search needs)
+    (λ c. search needs)
+    (λ c κs. search needs)
+    (λ c κs. search needs)
+    (λ c. search needs)
+    (λ c. search needs)
     loop-again
     returns)

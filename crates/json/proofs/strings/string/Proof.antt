@@ -4,7 +4,7 @@ use Prim.Native.Nat.{_-_, _≤_}
 use native.Mathlib.Omega.{arith}
 use borrow.Author.Needs.{needs}
 use lib.ListN.{length}
-use Rattle.json.specs.Machine.{Stack, Role, str, esc, live, dead, closed, from}
+use Rattle.json.specs.inner.Machine.{Stack, Role, str, esc, live, dead, closed, from}
 use Rattle.json.proofs.MoveLaws.{moves, short, leaf-is, stuck}
 use Rattle.json.proofs.StepLaws.{str-quote, str-back, str-ctl, str-plain, not-plain}
 use Rattle.json.proofs.strings.string.Statement.{statement}
@@ -19,9 +19,6 @@ abbrev μ-loop : tie.MeasureT-loop
 loop-holds : tie.Need-loop-holds Inv-loop μ-loop
 loop-holds c = (search needs, search needs, λ w k. refl)
 
-past-plain-requires : tie.Need-past-plain-requires Inv-loop μ-loop
-past-plain-requires c κs = search needs
-
 returns : tie.Need-returns Inv-loop μ-loop
 returns c =
     record {
@@ -32,12 +29,6 @@ returns c =
           ∙ c .before .past-plain .ensures .same (str w) k (str-plain w k)
           ∙ short _ _ (str w) k (search needs) (search needs) refl;
     }
-
-shared-slice-read-b : tie.Need-shared-slice-read-b Inv-loop μ-loop
-shared-slice-read-b c = search needs
-
-add-t12 : tie.Need-add-t12 Inv-loop μ-loop
-add-t12 c = search needs
 
 returns-2 : tie.Need-returns-2 Inv-loop μ-loop
 returns-2 c =
@@ -52,32 +43,28 @@ returns-2 c =
 
 returns-3 : tie.Need-returns-3 Inv-loop μ-loop
 returns-3 c =
+    let at-past-plain = c .before .before .before .before in
+    let at-loop = at-past-plain .before in
     record {
       low = search needs;
       high = search needs;
       same = λ w k.
-          c .before .before .before .before .before .loop .inv .2 w k
-          ∙ c .before .before .before .before .past-plain .ensures .same (str w) k (str-plain w k)
-          ∙ moves _ _ (str w) k dead (search needs) (str-ctl w k _ (c .before .if2 .left) (c .if3 .taken) (not-plain _ (c .before .before .before .before .past-plain .ensures .stop (search needs)) (c .before .if2 .left) (c .if3 .taken)));
+          at-loop .loop .inv .2 w k
+          ∙ at-past-plain .past-plain .ensures .same (str w) k (str-plain w k)
+          ∙ moves _ _ (str w) k dead (search needs)
+          (str-ctl w k _ (c .before .if2 .left) (c .if3 .taken) (not-plain _ (at-past-plain .past-plain .ensures .stop (search needs)) (c .before .if2 .left) (c .if3 .taken)));
     }
-
-add-escaped : tie.Need-add-escaped Inv-loop μ-loop
-add-escaped c = search needs
-
-escaped-requires : tie.Need-escaped-requires Inv-loop μ-loop
-escaped-requires c κs = search needs
-
-enum-known-r : tie.Need-enum-known-r Inv-loop μ-loop
-enum-known-r c = search needs
 
 returns-4 : tie.Need-returns-4 Inv-loop μ-loop
 returns-4 c =
+    let at-past-plain = c .before .before .before .before .before .before in
+    let at-loop = at-past-plain .before in
     record {
       low = omega (arith, c .before .escaped .ensures .low);
       high = c .before .escaped .ensures .high;
       same = λ w k.
-          c .before .before .before .before .before .before .before .loop .inv .2 w k
-          ∙ c .before .before .before .before .before .before .past-plain .ensures .same (str w) k (str-plain w k)
+          at-loop .loop .inv .2 w k
+          ∙ at-past-plain .past-plain .ensures .same (str w) k (str-plain w k)
           ∙ moves _ _ (str w) k (live (esc w) k) (search needs) (str-back w k _ (c .before .before .if3 .left))
           ∙ c .before .escaped .ensures .same w k
           ∙ stuck (c .before .escaped .result) _ (str w) (closed w) k k (c .match .keys2);
@@ -88,13 +75,16 @@ loop-less c = let l = leaf-is (c .before .before .before .escaped .ensures) (c .
 
 loop-again : tie.Need-loop-again Inv-loop μ-loop
 loop-again c =
+    let at-if3 = c .before .before .before .before in
+    let at-past-plain = at-if3 .before .before .before .before in
+    let at-loop = at-past-plain .before in
     let l = leaf-is (c .before .before .before .escaped .ensures) (c .before .r .given .1) in (
       omega (arith, l .low),
       l .high,
       λ w k.
-          c .before .before .before .before .before .before .before .before .before .loop .inv .2 w k
-          ∙ c .before .before .before .before .before .before .before .before .past-plain .ensures .same (str w) k (str-plain w k)
-          ∙ moves _ _ (str w) k (live (esc w) k) (search needs) (str-back w k _ (c .before .before .before .before .if3 .left))
+          at-loop .loop .inv .2 w k
+          ∙ at-past-plain .past-plain .ensures .same (str w) k (str-plain w k)
+          ∙ moves _ _ (str w) k (live (esc w) k) (search needs) (str-back w k _ (at-if3 .if3 .left))
           ∙ l .same w k,
     )
 
@@ -105,15 +95,15 @@ string-spec =
     Inv-loop
     μ-loop
     loop-holds
-    past-plain-requires
+    (λ c κs. search needs)
     returns
-    shared-slice-read-b
-    add-t12
+    (λ c. search needs)
+    (λ c. search needs)
     returns-2
     returns-3
-    add-escaped
-    escaped-requires
-    enum-known-r
+    (λ c. search needs)
+    (λ c κs. search needs)
+    (λ c. search needs)
     returns-4
     loop-less
     loop-again)

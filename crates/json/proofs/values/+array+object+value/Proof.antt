@@ -8,9 +8,10 @@ use borrow.Author.Needs.{needs}
 use borrow.Fn.Kinds.{In}
 use borrow.Fn.PlainCycle.{Measures, is, falls, and}
 use lib.ListN.{length}
-use Rattle.json.specs.Machine.{Stack, arr, obj, label, plain, value as val, first, name, name₁, after, str, live, dead, deep, levels, from}
+use Rattle.json.specs.inner.Machine.{Stack, arr, obj, label, plain, value as val, first, name, name₁, after, str, live, dead, deep, levels, from}
 use Rattle.json.proofs.MoveLaws.{moves, short, alike, short-arr, short-obj, leaf-is, nest-is, stuck}
-use Rattle.json.proofs.StepLaws.{ws-value, ws-first, ws-name₁, ws-arr, ws-obj, value-quote, value-arr, value-arr-deep, value-obj, value-obj-deep, first-close, first-value, arr-comma, arr-close, arr-miss, name₁-close, name₁-name, obj-comma, obj-close, obj-miss}
+use Rattle.json.proofs.StepLaws.{ws-value, ws-first, ws-name₁, ws-arr, ws-obj, value-quote, value-arr, value-arr-deep, value-obj, value-obj-deep}
+use Rattle.json.proofs.StepLaws.{first-close, first-value, arr-comma, arr-close, arr-miss, name₁-close, name₁-name, obj-comma, obj-close, obj-miss}
 use Rattle.json.proofs.spaces.past_spaces.Reads as past-spaces-reads
 use Rattle.json.proofs.strings.string.Reads as string-reads
 use Rattle.json.proofs.values.+array+object+value.Lts-array as array-lts
@@ -55,26 +56,34 @@ value-at t = and 1 value-kinds.ps (is 1 value-kinds.ps μ-value t) value.Pre
 abbrev value-below : ℕ → In 1 value-kinds.ps
 value-below t = and 1 value-kinds.ps (falls 1 value-kinds.ps _<_ μ-value t) value.Pre
 
+-- what each counts on of those that it calls
+abbrev array-claims : ℕ → array-lts.Claims
+array-claims t = (past-spaces-reads.Asked, past-spaces-reads.Learnt, value-below t, value.Post)
+
+abbrev object-claims : ℕ → object-lts.Claims
+object-claims t = (past-spaces-reads.Asked, past-spaces-reads.Learnt, label-reads.Asked, label-reads.Learnt, value-below t, value.Post)
+
+abbrev value-claims : ℕ → value-lts.Claims
+value-claims t = (
+  past-spaces-reads.Asked,
+  past-spaces-reads.Learnt,
+  string-reads.Asked,
+  string-reads.Learnt,
+  array-below t,
+  array.Post,
+  object-below t,
+  object.Post,
+  scalar-reads.Asked,
+  scalar-reads.Learnt,
+)
+
 abbrev array-Inv-loop : array-lts.InvT-loop
 array-Inv-loop s at left i p₀ p = (at ≤ p) × (p ≤ length s) × ((k : Stack) → levels (arr k) ≡ left → from s at first (arr k) ≡ from s p val (arr k))
 
 abbrev array-μ-loop : array-lts.MeasureT-loop
 array-μ-loop s at left i p₀ p = length s - p
 
-array-past-spaces-requires : (t : ℕ) → array-lts.Need-past-spaces-requires (
-  past-spaces-reads.Asked,
-  past-spaces-reads.Learnt,
-  value-below t,
-  value.Post,
-) (array-at t) array.Post array-Inv-loop array-μ-loop
-array-past-spaces-requires t c κs = search needs
-
-array-returns : (t : ℕ) → array-lts.Need-returns (
-  past-spaces-reads.Asked,
-  past-spaces-reads.Learnt,
-  value-below t,
-  value.Post,
-) (array-at t) array.Post array-Inv-loop array-μ-loop
+array-returns : (t : ℕ) → array-lts.Need-returns (array-claims t) (array-at t) array.Post array-Inv-loop array-μ-loop
 array-returns t c =
     record {
       low = search needs;
@@ -84,28 +93,7 @@ array-returns t c =
           ∙ short-arr _ _ first k (search needs) (search needs);
     }
 
-array-shared-slice-read-if2 : (t : ℕ) → array-lts.Need-shared-slice-read-if2 (
-  past-spaces-reads.Asked,
-  past-spaces-reads.Learnt,
-  value-below t,
-  value.Post,
-) (array-at t) array.Post array-Inv-loop array-μ-loop
-array-shared-slice-read-if2 t c = search needs
-
-array-add-t14 : (t : ℕ) → array-lts.Need-add-t14 (
-  past-spaces-reads.Asked,
-  past-spaces-reads.Learnt,
-  value-below t,
-  value.Post,
-) (array-at t) array.Post array-Inv-loop array-μ-loop
-array-add-t14 t c = search needs
-
-array-returns-2 : (t : ℕ) → array-lts.Need-returns-2 (
-  past-spaces-reads.Asked,
-  past-spaces-reads.Learnt,
-  value-below t,
-  value.Post,
-) (array-at t) array.Post array-Inv-loop array-μ-loop
+array-returns-2 : (t : ℕ) → array-lts.Need-returns-2 (array-claims t) (array-at t) array.Post array-Inv-loop array-μ-loop
 array-returns-2 t c =
     record {
       low = search needs;
@@ -115,12 +103,7 @@ array-returns-2 t c =
           ∙ moves _ _ first (arr k) (live after k) (search needs) (first-close k _ (c .if2 .taken));
     }
 
-array-loop-holds : (t : ℕ) → array-lts.Need-loop-holds (
-  past-spaces-reads.Asked,
-  past-spaces-reads.Learnt,
-  value-below t,
-  value.Post,
-) (array-at t) array.Post array-Inv-loop array-μ-loop
+array-loop-holds : (t : ℕ) → array-lts.Need-loop-holds (array-claims t) (array-at t) array.Post array-Inv-loop array-μ-loop
 array-loop-holds t c = (
   search needs,
   search needs,
@@ -129,28 +112,10 @@ array-loop-holds t c = (
       ∙ alike _ _ first val (arr k) (search needs) (first-value k _ (c .before .before .before .past-spaces .ensures .stop (search needs)) (c .if2 .left)),
 )
 
-array-value-requires : (t : ℕ) → array-lts.Need-value-requires (
-  past-spaces-reads.Asked,
-  past-spaces-reads.Learnt,
-  value-below t,
-  value.Post,
-) (array-at t) array.Post array-Inv-loop array-μ-loop
+array-value-requires : (t : ℕ) → array-lts.Need-value-requires (array-claims t) (array-at t) array.Post array-Inv-loop array-μ-loop
 array-value-requires t c κs = (omega (arith, c .before .before .before .before .before .before .pre .0), search needs)
 
-array-enum-known-r : (t : ℕ) → array-lts.Need-enum-known-r (
-  past-spaces-reads.Asked,
-  past-spaces-reads.Learnt,
-  value-below t,
-  value.Post,
-) (array-at t) array.Post array-Inv-loop array-μ-loop
-array-enum-known-r t c = search needs
-
-array-returns-3 : (t : ℕ) → array-lts.Need-returns-3 (
-  past-spaces-reads.Asked,
-  past-spaces-reads.Learnt,
-  value-below t,
-  value.Post,
-) (array-at t) array.Post array-Inv-loop array-μ-loop
+array-returns-3 : (t : ℕ) → array-lts.Need-returns-3 (array-claims t) (array-at t) array.Post array-Inv-loop array-μ-loop
 array-returns-3 t c =
     record {
       low = omega (arith, c .before .value .ensures .low);
@@ -161,116 +126,77 @@ array-returns-3 t c =
           ∙ stuck (c .before .value .result) _ after after (arr k) k (c .match .keys2);
     }
 
-array-past-spaces-requires-2 : (t : ℕ) → array-lts.Need-past-spaces-requires-2 (
-  past-spaces-reads.Asked,
-  past-spaces-reads.Learnt,
-  value-below t,
-  value.Post,
-) (array-at t) array.Post array-Inv-loop array-μ-loop
+array-past-spaces-requires-2 : (t : ℕ) → array-lts.Need-past-spaces-requires-2 (array-claims t) (array-at t) array.Post array-Inv-loop array-μ-loop
 array-past-spaces-requires-2 t c κs = let l = nest-is (c .before .before .before .value .ensures) (c .before .r .given .1) in l .high
 
-array-returns-4 : (t : ℕ) → array-lts.Need-returns-4 (
-  past-spaces-reads.Asked,
-  past-spaces-reads.Learnt,
-  value-below t,
-  value.Post,
-) (array-at t) array.Post array-Inv-loop array-μ-loop
+array-returns-4 : (t : ℕ) → array-lts.Need-returns-4 (array-claims t) (array-at t) array.Post array-Inv-loop array-μ-loop
 array-returns-4 t c =
-    let l = nest-is (c .before .before .before .before .before .value .ensures) (c .before .before .before .r .given .1) in
+    let at-value = c .before .before .before .before .before in
+    let at-loop = at-value .before in
+    let l = nest-is (at-value .value .ensures) (c .before .before .before .r .given .1) in
     record {
       low = omega (arith, l .low);
       high = search needs;
       same = λ k e.
-          c .before .before .before .before .before .before .loop .inv .2 k e
+          at-loop .loop .inv .2 k e
           ∙ l .same (arr k) e
           ∙ c .before .past-spaces2 .ensures .same after (arr k) (λ b h. ws-arr b h k)
           ∙ short-arr _ _ after k (search needs) (search needs);
     }
 
-array-shared-slice-read-b : (t : ℕ) → array-lts.Need-shared-slice-read-b (
-  past-spaces-reads.Asked,
-  past-spaces-reads.Learnt,
-  value-below t,
-  value.Post,
-) (array-at t) array.Post array-Inv-loop array-μ-loop
-array-shared-slice-read-b t c = search needs
-
-array-add-t19 : (t : ℕ) → array-lts.Need-add-t19 (
-  past-spaces-reads.Asked,
-  past-spaces-reads.Learnt,
-  value-below t,
-  value.Post,
-) (array-at t) array.Post array-Inv-loop array-μ-loop
-array-add-t19 t c = search needs
-
-array-returns-5 : (t : ℕ) → array-lts.Need-returns-5 (
-  past-spaces-reads.Asked,
-  past-spaces-reads.Learnt,
-  value-below t,
-  value.Post,
-) (array-at t) array.Post array-Inv-loop array-μ-loop
+array-returns-5 : (t : ℕ) → array-lts.Need-returns-5 (array-claims t) (array-at t) array.Post array-Inv-loop array-μ-loop
 array-returns-5 t c =
-    let l = nest-is (c .before .before .before .before .before .before .before .value .ensures) (c .before .before .before .before .before .r .given .1) in
+    let at-r = c .before .before .before .before .before in
+    let at-value = at-r .before .before in
+    let at-loop = at-value .before in
+    let l = nest-is (at-value .value .ensures) (at-r .r .given .1) in
     record {
       low = omega (arith, l .low);
       high = search needs;
       same = λ k e.
-          c .before .before .before .before .before .before .before .before .loop .inv .2 k e
+          at-loop .loop .inv .2 k e
           ∙ l .same (arr k) e
           ∙ c .before .before .before .past-spaces2 .ensures .same after (arr k) (λ b h. ws-arr b h k)
           ∙ moves _ _ after (arr k) (live after k) (search needs) (arr-close k _ (c .if4 .taken));
     }
 
-array-returns-6 : (t : ℕ) → array-lts.Need-returns-6 (
-  past-spaces-reads.Asked,
-  past-spaces-reads.Learnt,
-  value-below t,
-  value.Post,
-) (array-at t) array.Post array-Inv-loop array-μ-loop
+array-returns-6 : (t : ℕ) → array-lts.Need-returns-6 (array-claims t) (array-at t) array.Post array-Inv-loop array-μ-loop
 array-returns-6 t c =
-    let l = nest-is (c .before .before .before .before .before .before .before .before .value .ensures) (c .before .before .before .before .before .before .r .given .1) in
+    let at-past-spaces2 = c .before .before .before .before in
+    let at-r = at-past-spaces2 .before .before in
+    let at-value = at-r .before .before in
+    let at-loop = at-value .before in
+    let l = nest-is (at-value .value .ensures) (at-r .r .given .1) in
     record {
       low = omega (arith, l .low);
       high = search needs;
       same = λ k e.
-          c .before .before .before .before .before .before .before .before .before .loop .inv .2 k e
+          at-loop .loop .inv .2 k e
           ∙ l .same (arr k) e
-          ∙ c .before .before .before .before .past-spaces2 .ensures .same after (arr k) (λ b h. ws-arr b h k)
-          ∙ moves _ _ after (arr k) dead (search needs) (arr-miss k _ (c .before .before .before .before .past-spaces2 .ensures .stop (search needs)) (c .before .if4 .left) (c .if5 .taken));
+          ∙ at-past-spaces2 .past-spaces2 .ensures .same after (arr k) (λ b h. ws-arr b h k)
+          ∙ moves _ _ after (arr k) dead (search needs) (arr-miss k _ (at-past-spaces2 .past-spaces2 .ensures .stop (search needs)) (c .before .if4 .left) (c .if5 .taken));
     }
 
-array-add-p : (t : ℕ) → array-lts.Need-add-p (
-  past-spaces-reads.Asked,
-  past-spaces-reads.Learnt,
-  value-below t,
-  value.Post,
-) (array-at t) array.Post array-Inv-loop array-μ-loop
-array-add-p t c = search needs
-
-array-loop-less : (t : ℕ) → array-lts.Need-loop-less (
-  past-spaces-reads.Asked,
-  past-spaces-reads.Learnt,
-  value-below t,
-  value.Post,
-) (array-at t) array.Post array-Inv-loop array-μ-loop
+array-loop-less : (t : ℕ) → array-lts.Need-loop-less (array-claims t) (array-at t) array.Post array-Inv-loop array-μ-loop
 array-loop-less t c =
-    let l = nest-is (c .before .before .before .before .before .before .before .before .value .ensures) (c .before .before .before .before .before .before .r .given .1) in
+    let at-r = c .before .before .before .before .before .before in
+    let at-value = at-r .before .before in
+    let l = nest-is (at-value .value .ensures) (at-r .r .given .1) in
     omega (arith, l .low)
 
-array-loop-again : (t : ℕ) → array-lts.Need-loop-again (
-  past-spaces-reads.Asked,
-  past-spaces-reads.Learnt,
-  value-below t,
-  value.Post,
-) (array-at t) array.Post array-Inv-loop array-μ-loop
+array-loop-again : (t : ℕ) → array-lts.Need-loop-again (array-claims t) (array-at t) array.Post array-Inv-loop array-μ-loop
 array-loop-again t c =
-    let l = nest-is (c .before .before .before .before .before .before .before .before .value .ensures) (c .before .before .before .before .before .before .r .given .1) in (
+    let at-past-spaces2 = c .before .before .before .before in
+    let at-r = at-past-spaces2 .before .before in
+    let at-value = at-r .before .before in
+    let at-loop = at-value .before in
+    let l = nest-is (at-value .value .ensures) (at-r .r .given .1) in (
       omega (arith, l .low),
       search needs,
       λ k e.
-          c .before .before .before .before .before .before .before .before .before .loop .inv .2 k e
+          at-loop .loop .inv .2 k e
           ∙ l .same (arr k) e
-          ∙ c .before .before .before .before .past-spaces2 .ensures .same after (arr k) (λ b h. ws-arr b h k)
+          ∙ at-past-spaces2 .past-spaces2 .ensures .same after (arr k) (λ b h. ws-arr b h k)
           ∙ moves _ _ after (arr k) (live val (arr k)) (search needs) (arr-comma k _ (c .if5 .left)),
     )
 
@@ -280,24 +206,7 @@ object-Inv-loop s at left i p₀ p = (at ≤ p) × (p ≤ length s) × ((k : Sta
 abbrev object-μ-loop : object-lts.MeasureT-loop
 object-μ-loop s at left i p₀ p = length s - p
 
-object-past-spaces-requires : (t : ℕ) → object-lts.Need-past-spaces-requires (
-  past-spaces-reads.Asked,
-  past-spaces-reads.Learnt,
-  label-reads.Asked,
-  label-reads.Learnt,
-  value-below t,
-  value.Post,
-) (object-at t) object.Post object-Inv-loop object-μ-loop
-object-past-spaces-requires t c κs = search needs
-
-object-returns : (t : ℕ) → object-lts.Need-returns (
-  past-spaces-reads.Asked,
-  past-spaces-reads.Learnt,
-  label-reads.Asked,
-  label-reads.Learnt,
-  value-below t,
-  value.Post,
-) (object-at t) object.Post object-Inv-loop object-μ-loop
+object-returns : (t : ℕ) → object-lts.Need-returns (object-claims t) (object-at t) object.Post object-Inv-loop object-μ-loop
 object-returns t c =
     record {
       low = search needs;
@@ -307,34 +216,7 @@ object-returns t c =
           ∙ short-obj _ _ name₁ k (search needs) (search needs);
     }
 
-object-shared-slice-read-if2 : (t : ℕ) → object-lts.Need-shared-slice-read-if2 (
-  past-spaces-reads.Asked,
-  past-spaces-reads.Learnt,
-  label-reads.Asked,
-  label-reads.Learnt,
-  value-below t,
-  value.Post,
-) (object-at t) object.Post object-Inv-loop object-μ-loop
-object-shared-slice-read-if2 t c = search needs
-
-object-add-t16 : (t : ℕ) → object-lts.Need-add-t16 (
-  past-spaces-reads.Asked,
-  past-spaces-reads.Learnt,
-  label-reads.Asked,
-  label-reads.Learnt,
-  value-below t,
-  value.Post,
-) (object-at t) object.Post object-Inv-loop object-μ-loop
-object-add-t16 t c = search needs
-
-object-returns-2 : (t : ℕ) → object-lts.Need-returns-2 (
-  past-spaces-reads.Asked,
-  past-spaces-reads.Learnt,
-  label-reads.Asked,
-  label-reads.Learnt,
-  value-below t,
-  value.Post,
-) (object-at t) object.Post object-Inv-loop object-μ-loop
+object-returns-2 : (t : ℕ) → object-lts.Need-returns-2 (object-claims t) (object-at t) object.Post object-Inv-loop object-μ-loop
 object-returns-2 t c =
     record {
       low = search needs;
@@ -344,14 +226,7 @@ object-returns-2 t c =
           ∙ moves _ _ name₁ (obj k) (live after k) (search needs) (name₁-close k _ (c .if2 .taken));
     }
 
-object-loop-holds : (t : ℕ) → object-lts.Need-loop-holds (
-  past-spaces-reads.Asked,
-  past-spaces-reads.Learnt,
-  label-reads.Asked,
-  label-reads.Learnt,
-  value-below t,
-  value.Post,
-) (object-at t) object.Post object-Inv-loop object-μ-loop
+object-loop-holds : (t : ℕ) → object-lts.Need-loop-holds (object-claims t) (object-at t) object.Post object-Inv-loop object-μ-loop
 object-loop-holds t c = (
   search needs,
   search needs,
@@ -360,34 +235,7 @@ object-loop-holds t c = (
       ∙ alike _ _ name₁ name (obj k) (search needs) (name₁-name k _ (c .before .before .before .past-spaces .ensures .stop (search needs)) (c .if2 .left)),
 )
 
-object-label-requires : (t : ℕ) → object-lts.Need-label-requires (
-  past-spaces-reads.Asked,
-  past-spaces-reads.Learnt,
-  label-reads.Asked,
-  label-reads.Learnt,
-  value-below t,
-  value.Post,
-) (object-at t) object.Post object-Inv-loop object-μ-loop
-object-label-requires t c κs = search needs
-
-object-enum-known-m : (t : ℕ) → object-lts.Need-enum-known-m (
-  past-spaces-reads.Asked,
-  past-spaces-reads.Learnt,
-  label-reads.Asked,
-  label-reads.Learnt,
-  value-below t,
-  value.Post,
-) (object-at t) object.Post object-Inv-loop object-μ-loop
-object-enum-known-m t c = search needs
-
-object-returns-3 : (t : ℕ) → object-lts.Need-returns-3 (
-  past-spaces-reads.Asked,
-  past-spaces-reads.Learnt,
-  label-reads.Asked,
-  label-reads.Learnt,
-  value-below t,
-  value.Post,
-) (object-at t) object.Post object-Inv-loop object-μ-loop
+object-returns-3 : (t : ℕ) → object-lts.Need-returns-3 (object-claims t) (object-at t) object.Post object-Inv-loop object-μ-loop
 object-returns-3 t c =
     record {
       low = omega (arith, c .before .label .ensures .low);
@@ -398,219 +246,127 @@ object-returns-3 t c =
           ∙ stuck (c .before .label .result) _ val after (obj k) k (c .match .keys2);
     }
 
-object-value-requires : (t : ℕ) → object-lts.Need-value-requires (
-  past-spaces-reads.Asked,
-  past-spaces-reads.Learnt,
-  label-reads.Asked,
-  label-reads.Learnt,
-  value-below t,
-  value.Post,
-) (object-at t) object.Post object-Inv-loop object-μ-loop
+object-value-requires : (t : ℕ) → object-lts.Need-value-requires (object-claims t) (object-at t) object.Post object-Inv-loop object-μ-loop
 object-value-requires t c κs =
     let m = leaf-is (c .before .before .before .label .ensures) (c .before .m .given .1) in (
       omega (arith, c .before .before .before .before .before .before .before .before .before .before .pre .0),
       m .high,
     )
 
-object-enum-known-r : (t : ℕ) → object-lts.Need-enum-known-r (
-  past-spaces-reads.Asked,
-  past-spaces-reads.Learnt,
-  label-reads.Asked,
-  label-reads.Learnt,
-  value-below t,
-  value.Post,
-) (object-at t) object.Post object-Inv-loop object-μ-loop
-object-enum-known-r t c = search needs
-
-object-returns-4 : (t : ℕ) → object-lts.Need-returns-4 (
-  past-spaces-reads.Asked,
-  past-spaces-reads.Learnt,
-  label-reads.Asked,
-  label-reads.Learnt,
-  value-below t,
-  value.Post,
-) (object-at t) object.Post object-Inv-loop object-μ-loop
+object-returns-4 : (t : ℕ) → object-lts.Need-returns-4 (object-claims t) (object-at t) object.Post object-Inv-loop object-μ-loop
 object-returns-4 t c =
-    let m = leaf-is (c .before .before .before .before .before .label .ensures) (c .before .before .before .m .given .1) in
+    let at-label = c .before .before .before .before .before in
+    let at-loop = at-label .before in
+    let m = leaf-is (at-label .label .ensures) (c .before .before .before .m .given .1) in
     record {
       low = omega (arith, m .low, c .before .value .ensures .low);
       high = c .before .value .ensures .high;
       same = λ k e.
-          c .before .before .before .before .before .before .loop .inv .2 k e
+          at-loop .loop .inv .2 k e
           ∙ m .same label (obj k)
           ∙ c .before .value .ensures .same (obj k) e
           ∙ stuck (c .before .value .result) _ after after (obj k) k (c .match2 .keys2);
     }
 
-object-past-spaces-requires-2 : (t : ℕ) → object-lts.Need-past-spaces-requires-2 (
-  past-spaces-reads.Asked,
-  past-spaces-reads.Learnt,
-  label-reads.Asked,
-  label-reads.Learnt,
-  value-below t,
-  value.Post,
-) (object-at t) object.Post object-Inv-loop object-μ-loop
+object-past-spaces-requires-2 : (t : ℕ) → object-lts.Need-past-spaces-requires-2 (object-claims t) (object-at t) object.Post object-Inv-loop object-μ-loop
 object-past-spaces-requires-2 t c κs =
-    let m = leaf-is (c .before .before .before .before .before .before .before .label .ensures) (c .before .before .before .before .before .m .given .1) in
+    let at-m = c .before .before .before .before .before in
+    let at-label = at-m .before .before in
+    let m = leaf-is (at-label .label .ensures) (at-m .m .given .1) in
     let l = nest-is (c .before .before .before .value .ensures) (c .before .r .given .1) in
     l .high
 
-object-returns-5 : (t : ℕ) → object-lts.Need-returns-5 (
-  past-spaces-reads.Asked,
-  past-spaces-reads.Learnt,
-  label-reads.Asked,
-  label-reads.Learnt,
-  value-below t,
-  value.Post,
-) (object-at t) object.Post object-Inv-loop object-μ-loop
+object-returns-5 : (t : ℕ) → object-lts.Need-returns-5 (object-claims t) (object-at t) object.Post object-Inv-loop object-μ-loop
 object-returns-5 t c =
-    let m = leaf-is (c .before .before .before .before .before .before .before .before .before .label .ensures) (c .before .before .before .before .before .before .before .m .given .1) in
-    let l = nest-is (c .before .before .before .before .before .value .ensures) (c .before .before .before .r .given .1) in
+    let at-value = c .before .before .before .before .before in
+    let at-m = at-value .before .before in
+    let at-label = at-m .before .before in
+    let at-loop = at-label .before in
+    let m = leaf-is (at-label .label .ensures) (at-m .m .given .1) in
+    let l = nest-is (at-value .value .ensures) (c .before .before .before .r .given .1) in
     record {
       low = omega (arith, l .low, m .low);
       high = search needs;
       same = λ k e.
-          c .before .before .before .before .before .before .before .before .before .before .loop .inv .2 k e
+          at-loop .loop .inv .2 k e
           ∙ m .same label (obj k)
           ∙ l .same (obj k) e
           ∙ c .before .past-spaces2 .ensures .same after (obj k) (λ b h. ws-obj b h k)
           ∙ short-obj _ _ after k (search needs) (search needs);
     }
 
-object-shared-slice-read-b : (t : ℕ) → object-lts.Need-shared-slice-read-b (
-  past-spaces-reads.Asked,
-  past-spaces-reads.Learnt,
-  label-reads.Asked,
-  label-reads.Learnt,
-  value-below t,
-  value.Post,
-) (object-at t) object.Post object-Inv-loop object-μ-loop
-object-shared-slice-read-b t c = search needs
-
-object-add-t21 : (t : ℕ) → object-lts.Need-add-t21 (
-  past-spaces-reads.Asked,
-  past-spaces-reads.Learnt,
-  label-reads.Asked,
-  label-reads.Learnt,
-  value-below t,
-  value.Post,
-) (object-at t) object.Post object-Inv-loop object-μ-loop
-object-add-t21 t c = search needs
-
-object-returns-6 : (t : ℕ) → object-lts.Need-returns-6 (
-  past-spaces-reads.Asked,
-  past-spaces-reads.Learnt,
-  label-reads.Asked,
-  label-reads.Learnt,
-  value-below t,
-  value.Post,
-) (object-at t) object.Post object-Inv-loop object-μ-loop
+object-returns-6 : (t : ℕ) → object-lts.Need-returns-6 (object-claims t) (object-at t) object.Post object-Inv-loop object-μ-loop
 object-returns-6 t c =
-    let m = leaf-is (c .before .before .before .before .before .before .before .before .before .before .before .label .ensures) (c .before .before .before .before .before .before .before .before .before .m .given .1) in
-    let l = nest-is (c .before .before .before .before .before .before .before .value .ensures) (c .before .before .before .before .before .r .given .1) in
+    let at-r = c .before .before .before .before .before in
+    let at-value = at-r .before .before in
+    let at-m = at-value .before .before in
+    let at-label = at-m .before .before in
+    let at-loop = at-label .before in
+    let m = leaf-is (at-label .label .ensures) (at-m .m .given .1) in
+    let l = nest-is (at-value .value .ensures) (at-r .r .given .1) in
     record {
       low = omega (arith, l .low, m .low);
       high = search needs;
       same = λ k e.
-          c .before .before .before .before .before .before .before .before .before .before .before .before .loop .inv .2 k e
+          at-loop .loop .inv .2 k e
           ∙ m .same label (obj k)
           ∙ l .same (obj k) e
           ∙ c .before .before .before .past-spaces2 .ensures .same after (obj k) (λ b h. ws-obj b h k)
           ∙ moves _ _ after (obj k) (live after k) (search needs) (obj-close k _ (c .if4 .taken));
     }
 
-object-returns-7 : (t : ℕ) → object-lts.Need-returns-7 (
-  past-spaces-reads.Asked,
-  past-spaces-reads.Learnt,
-  label-reads.Asked,
-  label-reads.Learnt,
-  value-below t,
-  value.Post,
-) (object-at t) object.Post object-Inv-loop object-μ-loop
+object-returns-7 : (t : ℕ) → object-lts.Need-returns-7 (object-claims t) (object-at t) object.Post object-Inv-loop object-μ-loop
 object-returns-7 t c =
-    let m = leaf-is (c .before .before .before .before .before .before .before .before .before .before .before .before .label .ensures) (c .before .before .before .before .before .before .before .before .before .before .m .given .1) in
-    let l = nest-is (c .before .before .before .before .before .before .before .before .value .ensures) (c .before .before .before .before .before .before .r .given .1) in
+    let at-past-spaces2 = c .before .before .before .before in
+    let at-r = at-past-spaces2 .before .before in
+    let at-value = at-r .before .before in
+    let at-m = at-value .before .before in
+    let at-label = at-m .before .before in
+    let at-loop = at-label .before in
+    let m = leaf-is (at-label .label .ensures) (at-m .m .given .1) in
+    let l = nest-is (at-value .value .ensures) (at-r .r .given .1) in
     record {
       low = omega (arith, l .low, m .low);
       high = search needs;
       same = λ k e.
-          c .before .before .before .before .before .before .before .before .before .before .before .before .before .loop .inv .2 k e
+          at-loop .loop .inv .2 k e
           ∙ m .same label (obj k)
           ∙ l .same (obj k) e
-          ∙ c .before .before .before .before .past-spaces2 .ensures .same after (obj k) (λ b h. ws-obj b h k)
-          ∙ moves _ _ after (obj k) dead (search needs) (obj-miss k _ (c .before .before .before .before .past-spaces2 .ensures .stop (search needs)) (c .before .if4 .left) (c .if5 .taken));
+          ∙ at-past-spaces2 .past-spaces2 .ensures .same after (obj k) (λ b h. ws-obj b h k)
+          ∙ moves _ _ after (obj k) dead (search needs) (obj-miss k _ (at-past-spaces2 .past-spaces2 .ensures .stop (search needs)) (c .before .if4 .left) (c .if5 .taken));
     }
 
-object-add-p : (t : ℕ) → object-lts.Need-add-p (
-  past-spaces-reads.Asked,
-  past-spaces-reads.Learnt,
-  label-reads.Asked,
-  label-reads.Learnt,
-  value-below t,
-  value.Post,
-) (object-at t) object.Post object-Inv-loop object-μ-loop
-object-add-p t c = search needs
-
-object-loop-less : (t : ℕ) → object-lts.Need-loop-less (
-  past-spaces-reads.Asked,
-  past-spaces-reads.Learnt,
-  label-reads.Asked,
-  label-reads.Learnt,
-  value-below t,
-  value.Post,
-) (object-at t) object.Post object-Inv-loop object-μ-loop
+object-loop-less : (t : ℕ) → object-lts.Need-loop-less (object-claims t) (object-at t) object.Post object-Inv-loop object-μ-loop
 object-loop-less t c =
-    let m = leaf-is (c .before .before .before .before .before .before .before .before .before .before .before .before .label .ensures) (c .before .before .before .before .before .before .before .before .before .before .m .given .1) in
-    let l = nest-is (c .before .before .before .before .before .before .before .before .value .ensures) (c .before .before .before .before .before .before .r .given .1) in
+    let at-r = c .before .before .before .before .before .before in
+    let at-value = at-r .before .before in
+    let at-m = at-value .before .before in
+    let at-label = at-m .before .before in
+    let m = leaf-is (at-label .label .ensures) (at-m .m .given .1) in
+    let l = nest-is (at-value .value .ensures) (at-r .r .given .1) in
     omega (arith, l .low, m .low)
 
-object-loop-again : (t : ℕ) → object-lts.Need-loop-again (
-  past-spaces-reads.Asked,
-  past-spaces-reads.Learnt,
-  label-reads.Asked,
-  label-reads.Learnt,
-  value-below t,
-  value.Post,
-) (object-at t) object.Post object-Inv-loop object-μ-loop
+object-loop-again : (t : ℕ) → object-lts.Need-loop-again (object-claims t) (object-at t) object.Post object-Inv-loop object-μ-loop
 object-loop-again t c =
-    let m = leaf-is (c .before .before .before .before .before .before .before .before .before .before .before .before .label .ensures) (c .before .before .before .before .before .before .before .before .before .before .m .given .1) in
-    let l = nest-is (c .before .before .before .before .before .before .before .before .value .ensures) (c .before .before .before .before .before .before .r .given .1) in (
+    let at-past-spaces2 = c .before .before .before .before in
+    let at-r = at-past-spaces2 .before .before in
+    let at-value = at-r .before .before in
+    let at-m = at-value .before .before in
+    let at-label = at-m .before .before in
+    let at-loop = at-label .before in
+    let m = leaf-is (at-label .label .ensures) (at-m .m .given .1) in
+    let l = nest-is (at-value .value .ensures) (at-r .r .given .1) in (
       omega (arith, l .low, m .low),
       search needs,
       λ k e.
-          c .before .before .before .before .before .before .before .before .before .before .before .before .before .loop .inv .2 k e
+          at-loop .loop .inv .2 k e
           ∙ m .same label (obj k)
           ∙ l .same (obj k) e
-          ∙ c .before .before .before .before .past-spaces2 .ensures .same after (obj k) (λ b h. ws-obj b h k)
+          ∙ at-past-spaces2 .past-spaces2 .ensures .same after (obj k) (λ b h. ws-obj b h k)
           ∙ moves _ _ after (obj k) (live name (obj k)) (search needs) (obj-comma k _ (c .if5 .left)),
     )
 
-value-past-spaces-requires : (t : ℕ) → value-lts.Need-past-spaces-requires (
-  past-spaces-reads.Asked,
-  past-spaces-reads.Learnt,
-  string-reads.Asked,
-  string-reads.Learnt,
-  array-below t,
-  array.Post,
-  object-below t,
-  object.Post,
-  scalar-reads.Asked,
-  scalar-reads.Learnt,
-) (value-at t) value.Post
-value-past-spaces-requires t c κs = search needs
-
-value-returns : (t : ℕ) → value-lts.Need-returns (
-  past-spaces-reads.Asked,
-  past-spaces-reads.Learnt,
-  string-reads.Asked,
-  string-reads.Learnt,
-  array-below t,
-  array.Post,
-  object-below t,
-  object.Post,
-  scalar-reads.Asked,
-  scalar-reads.Learnt,
-) (value-at t) value.Post
+value-returns : (t : ℕ) → value-lts.Need-returns (value-claims t) (value-at t) value.Post
 value-returns t c =
     record {
       low = search needs;
@@ -620,60 +376,7 @@ value-returns t c =
           ∙ short _ _ val k (search needs) (search needs) refl;
     }
 
-value-shared-slice-read-b : (t : ℕ) → value-lts.Need-shared-slice-read-b (
-  past-spaces-reads.Asked,
-  past-spaces-reads.Learnt,
-  string-reads.Asked,
-  string-reads.Learnt,
-  array-below t,
-  array.Post,
-  object-below t,
-  object.Post,
-  scalar-reads.Asked,
-  scalar-reads.Learnt,
-) (value-at t) value.Post
-value-shared-slice-read-b t c = search needs
-
-value-add-string : (t : ℕ) → value-lts.Need-add-string (
-  past-spaces-reads.Asked,
-  past-spaces-reads.Learnt,
-  string-reads.Asked,
-  string-reads.Learnt,
-  array-below t,
-  array.Post,
-  object-below t,
-  object.Post,
-  scalar-reads.Asked,
-  scalar-reads.Learnt,
-) (value-at t) value.Post
-value-add-string t c = search needs
-
-value-string-requires : (t : ℕ) → value-lts.Need-string-requires (
-  past-spaces-reads.Asked,
-  past-spaces-reads.Learnt,
-  string-reads.Asked,
-  string-reads.Learnt,
-  array-below t,
-  array.Post,
-  object-below t,
-  object.Post,
-  scalar-reads.Asked,
-  scalar-reads.Learnt,
-) (value-at t) value.Post
-value-string-requires t c κs = search needs
-
-value-returns-2 : (t : ℕ) → value-lts.Need-returns-2 (
-  past-spaces-reads.Asked,
-  past-spaces-reads.Learnt,
-  string-reads.Asked,
-  string-reads.Learnt,
-  array-below t,
-  array.Post,
-  object-below t,
-  object.Post,
-  scalar-reads.Asked,
-  scalar-reads.Learnt,
-) (value-at t) value.Post
+value-returns-2 : (t : ℕ) → value-lts.Need-returns-2 (value-claims t) (value-at t) value.Post
 value-returns-2 t c =
     record {
       low = omega (arith, c .string .ensures .low);
@@ -684,18 +387,7 @@ value-returns-2 t c =
           ∙ c .string .ensures .same plain k;
     }
 
-value-returns-3 : (t : ℕ) → value-lts.Need-returns-3 (
-  past-spaces-reads.Asked,
-  past-spaces-reads.Learnt,
-  string-reads.Asked,
-  string-reads.Learnt,
-  array-below t,
-  array.Post,
-  object-below t,
-  object.Post,
-  scalar-reads.Asked,
-  scalar-reads.Learnt,
-) (value-at t) value.Post
+value-returns-3 : (t : ℕ) → value-lts.Need-returns-3 (value-claims t) (value-at t) value.Post
 value-returns-3 t c =
     record {
       low = search needs;
@@ -705,60 +397,7 @@ value-returns-3 t c =
           ∙ moves _ _ val k deep (search needs) (value-arr-deep k _ (c .before .if3 .taken) (omega arith));
     }
 
-value-add-array : (t : ℕ) → value-lts.Need-add-array (
-  past-spaces-reads.Asked,
-  past-spaces-reads.Learnt,
-  string-reads.Asked,
-  string-reads.Learnt,
-  array-below t,
-  array.Post,
-  object-below t,
-  object.Post,
-  scalar-reads.Asked,
-  scalar-reads.Learnt,
-) (value-at t) value.Post
-value-add-array t c = search needs
-
-value-sub-array : (t : ℕ) → value-lts.Need-sub-array (
-  past-spaces-reads.Asked,
-  past-spaces-reads.Learnt,
-  string-reads.Asked,
-  string-reads.Learnt,
-  array-below t,
-  array.Post,
-  object-below t,
-  object.Post,
-  scalar-reads.Asked,
-  scalar-reads.Learnt,
-) (value-at t) value.Post
-value-sub-array t c = search needs
-
-value-array-requires : (t : ℕ) → value-lts.Need-array-requires (
-  past-spaces-reads.Asked,
-  past-spaces-reads.Learnt,
-  string-reads.Asked,
-  string-reads.Learnt,
-  array-below t,
-  array.Post,
-  object-below t,
-  object.Post,
-  scalar-reads.Asked,
-  scalar-reads.Learnt,
-) (value-at t) value.Post
-value-array-requires t c κs = search needs
-
-value-returns-4 : (t : ℕ) → value-lts.Need-returns-4 (
-  past-spaces-reads.Asked,
-  past-spaces-reads.Learnt,
-  string-reads.Asked,
-  string-reads.Learnt,
-  array-below t,
-  array.Post,
-  object-below t,
-  object.Post,
-  scalar-reads.Asked,
-  scalar-reads.Learnt,
-) (value-at t) value.Post
+value-returns-4 : (t : ℕ) → value-lts.Need-returns-4 (value-claims t) (value-at t) value.Post
 value-returns-4 t c =
     record {
       low = omega (arith, c .array .ensures .low);
@@ -769,18 +408,7 @@ value-returns-4 t c =
           ∙ c .array .ensures .same k (omega arith);
     }
 
-value-returns-5 : (t : ℕ) → value-lts.Need-returns-5 (
-  past-spaces-reads.Asked,
-  past-spaces-reads.Learnt,
-  string-reads.Asked,
-  string-reads.Learnt,
-  array-below t,
-  array.Post,
-  object-below t,
-  object.Post,
-  scalar-reads.Asked,
-  scalar-reads.Learnt,
-) (value-at t) value.Post
+value-returns-5 : (t : ℕ) → value-lts.Need-returns-5 (value-claims t) (value-at t) value.Post
 value-returns-5 t c =
     record {
       low = search needs;
@@ -790,60 +418,7 @@ value-returns-5 t c =
           ∙ moves _ _ val k deep (search needs) (value-obj-deep k _ (c .before .if5 .taken) (omega arith));
     }
 
-value-add-object : (t : ℕ) → value-lts.Need-add-object (
-  past-spaces-reads.Asked,
-  past-spaces-reads.Learnt,
-  string-reads.Asked,
-  string-reads.Learnt,
-  array-below t,
-  array.Post,
-  object-below t,
-  object.Post,
-  scalar-reads.Asked,
-  scalar-reads.Learnt,
-) (value-at t) value.Post
-value-add-object t c = search needs
-
-value-sub-object : (t : ℕ) → value-lts.Need-sub-object (
-  past-spaces-reads.Asked,
-  past-spaces-reads.Learnt,
-  string-reads.Asked,
-  string-reads.Learnt,
-  array-below t,
-  array.Post,
-  object-below t,
-  object.Post,
-  scalar-reads.Asked,
-  scalar-reads.Learnt,
-) (value-at t) value.Post
-value-sub-object t c = search needs
-
-value-object-requires : (t : ℕ) → value-lts.Need-object-requires (
-  past-spaces-reads.Asked,
-  past-spaces-reads.Learnt,
-  string-reads.Asked,
-  string-reads.Learnt,
-  array-below t,
-  array.Post,
-  object-below t,
-  object.Post,
-  scalar-reads.Asked,
-  scalar-reads.Learnt,
-) (value-at t) value.Post
-value-object-requires t c κs = search needs
-
-value-returns-6 : (t : ℕ) → value-lts.Need-returns-6 (
-  past-spaces-reads.Asked,
-  past-spaces-reads.Learnt,
-  string-reads.Asked,
-  string-reads.Learnt,
-  array-below t,
-  array.Post,
-  object-below t,
-  object.Post,
-  scalar-reads.Asked,
-  scalar-reads.Learnt,
-) (value-at t) value.Post
+value-returns-6 : (t : ℕ) → value-lts.Need-returns-6 (value-claims t) (value-at t) value.Post
 value-returns-6 t c =
     record {
       low = omega (arith, c .object .ensures .low);
@@ -854,18 +429,7 @@ value-returns-6 t c =
           ∙ c .object .ensures .same k (omega arith);
     }
 
-value-scalar-requires : (t : ℕ) → value-lts.Need-scalar-requires (
-  past-spaces-reads.Asked,
-  past-spaces-reads.Learnt,
-  string-reads.Asked,
-  string-reads.Learnt,
-  array-below t,
-  array.Post,
-  object-below t,
-  object.Post,
-  scalar-reads.Asked,
-  scalar-reads.Learnt,
-) (value-at t) value.Post
+value-scalar-requires : (t : ℕ) → value-lts.Need-scalar-requires (value-claims t) (value-at t) value.Post
 value-scalar-requires t c κs =
     record {
       inside = search needs;
@@ -875,18 +439,7 @@ value-scalar-requires t c κs =
       no-object = c .if5 .left;
     }
 
-value-returns-7 : (t : ℕ) → value-lts.Need-returns-7 (
-  past-spaces-reads.Asked,
-  past-spaces-reads.Learnt,
-  string-reads.Asked,
-  string-reads.Learnt,
-  array-below t,
-  array.Post,
-  object-below t,
-  object.Post,
-  scalar-reads.Asked,
-  scalar-reads.Learnt,
-) (value-at t) value.Post
+value-returns-7 : (t : ℕ) → value-lts.Need-returns-7 (value-claims t) (value-at t) value.Post
 value-returns-7 t c =
     record {
       low = omega (arith, c .scalar .ensures .low);
@@ -897,96 +450,70 @@ value-returns-7 t c =
     }
 
 pub +array+object+value-spec : {M : Type 1} → statement M
-+array+object+value-spec = close μ-array μ-object μ-value (λ t. array-lts.spec (
-  past-spaces-reads.Asked,
-  past-spaces-reads.Learnt,
-  value-below t,
-  value.Post,
-)
-    (array-at t)
++array+object+value-spec = close μ-array μ-object μ-value (λ t. array-lts.spec (array-claims t) (array-at t)
     array.Post
     array-Inv-loop
     array-μ-loop
-    (array-past-spaces-requires t)
+    (λ c κs. search needs)
     (array-returns t)
-    (array-shared-slice-read-if2 t)
-    (array-add-t14 t)
+    (λ c. search needs)
+    (λ c. search needs)
     (array-returns-2 t)
     (array-loop-holds t)
     (array-value-requires t)
-    (array-enum-known-r t)
+    (λ c. search needs)
     (array-returns-3 t)
     (array-past-spaces-requires-2 t)
     (array-returns-4 t)
-    (array-shared-slice-read-b t)
-    (array-add-t19 t)
+    (λ c. search needs)
+    (λ c. search needs)
     (array-returns-5 t)
     (array-returns-6 t)
-    (array-add-p t)
+    (λ c. search needs)
     (array-loop-less t)
     (array-loop-again t))
-    (λ t. object-lts.spec (
-      past-spaces-reads.Asked,
-      past-spaces-reads.Learnt,
-      label-reads.Asked,
-      label-reads.Learnt,
-      value-below t,
-      value.Post,
-    )
-    (object-at t)
+    (λ t. object-lts.spec (object-claims t) (object-at t)
     object.Post
     object-Inv-loop
     object-μ-loop
-    (object-past-spaces-requires t)
+    (λ c κs. search needs)
     (object-returns t)
-    (object-shared-slice-read-if2 t)
-    (object-add-t16 t)
+    (λ c. search needs)
+    (λ c. search needs)
     (object-returns-2 t)
     (object-loop-holds t)
-    (object-label-requires t)
-    (object-enum-known-m t)
+    (λ c κs. search needs)
+    (λ c. search needs)
     (object-returns-3 t)
     (object-value-requires t)
-    (object-enum-known-r t)
+    (λ c. search needs)
     (object-returns-4 t)
     (object-past-spaces-requires-2 t)
     (object-returns-5 t)
-    (object-shared-slice-read-b t)
-    (object-add-t21 t)
+    (λ c. search needs)
+    (λ c. search needs)
     (object-returns-6 t)
     (object-returns-7 t)
-    (object-add-p t)
+    (λ c. search needs)
     (object-loop-less t)
     (object-loop-again t))
-    λ t. value-lts.spec (
-      past-spaces-reads.Asked,
-      past-spaces-reads.Learnt,
-      string-reads.Asked,
-      string-reads.Learnt,
-      array-below t,
-      array.Post,
-      object-below t,
-      object.Post,
-      scalar-reads.Asked,
-      scalar-reads.Learnt,
-    )
-    (value-at t)
+    λ t. value-lts.spec (value-claims t) (value-at t)
     value.Post
-    (value-past-spaces-requires t)
+    (λ c κs. search needs)
     (value-returns t)
-    (value-shared-slice-read-b t)
-    (value-add-string t)
-    (value-string-requires t)
+    (λ c. search needs)
+    (λ c. search needs)
+    (λ c κs. search needs)
     (value-returns-2 t)
     (value-returns-3 t)
-    (value-add-array t)
-    (value-sub-array t)
-    (value-array-requires t)
+    (λ c. search needs)
+    (λ c. search needs)
+    (λ c κs. search needs)
     (value-returns-4 t)
     (value-returns-5 t)
-    (value-add-object t)
-    (value-sub-object t)
-    (value-object-requires t)
+    (λ c. search needs)
+    (λ c. search needs)
+    (λ c κs. search needs)
     (value-returns-6 t)
     (value-scalar-requires t)
     (value-returns-7 t)

@@ -3,23 +3,11 @@ use mathlib.Core.Path.{_∙_}
 use mathlib.Core.List.{[], _∷_}
 use native.Mathlib.Omega.{arith}
 use borrow.Author.Needs.{needs}
-use Rattle.json.specs.Machine.{label, value, minus, live, due}
+use Rattle.json.specs.inner.Machine.{label, value, minus, live, due}
 use Rattle.json.proofs.MoveLaws.{moves, alike}
 use Rattle.json.proofs.StepLaws.{value-t, value-f, value-n, value-minus, value-rest}
 use Rattle.json.proofs.values.scalar.Statement.{statement}
 use Rattle.json.proofs.values.scalar.Tie as tie
-
-shared-slice-read-b : tie.Need-shared-slice-read-b
-shared-slice-read-b c = search needs
-
-add-j : tie.Need-add-j
-add-j c = search needs
-
-slice-aggregate-literal : tie.Need-slice-aggregate-literal
-slice-aggregate-literal c = search needs
-
-literal-requires : tie.Need-literal-requires
-literal-requires c κs = search needs
 
 returns : tie.Need-returns
 returns c =
@@ -31,12 +19,6 @@ returns c =
           ∙ c .literal .ensures .same label k;
     }
 
-slice-aggregate-literal-2 : tie.Need-slice-aggregate-literal-2
-slice-aggregate-literal-2 c = search needs
-
-literal-requires-2 : tie.Need-literal-requires-2
-literal-requires-2 c κs = search needs
-
 returns-2 : tie.Need-returns-2
 returns-2 c =
     record {
@@ -46,12 +28,6 @@ returns-2 c =
           moves _ _ value k (live (due (97 ∷ 108 ∷ 115 ∷ 101 ∷ [])) k) (search needs) (value-f k _ (c .before .before .if2 .taken))
           ∙ c .literal2 .ensures .same label k;
     }
-
-slice-aggregate-literal-3 : tie.Need-slice-aggregate-literal-3
-slice-aggregate-literal-3 c = search needs
-
-literal-requires-3 : tie.Need-literal-requires-3
-literal-requires-3 c κs = search needs
 
 returns-3 : tie.Need-returns-3
 returns-3 c =
@@ -63,9 +39,6 @@ returns-3 c =
           ∙ c .literal3 .ensures .same label k;
     }
 
-unsigned-requires : tie.Need-unsigned-requires
-unsigned-requires c κs = search needs
-
 returns-4 : tie.Need-returns-4
 returns-4 c =
     record {
@@ -76,17 +49,18 @@ returns-4 c =
           ∙ c .unsigned .ensures .same label k;
     }
 
-unsigned-requires-2 : tie.Need-unsigned-requires-2
-unsigned-requires-2 c κs = search needs
-
 returns-5 : tie.Need-returns-5
 returns-5 c =
+    let at-if1 = c .before .before .before .before in
+    let start = at-if1 .before .before .before in
     record {
       low = c .unsigned2 .ensures .low;
       high = c .unsigned2 .ensures .high;
       same = λ _ k.
-          let p = c .before .before .before .before .before .before .before .pre in
-          alike _ _ value minus k (p .inside) (value-rest k _ (p .no-space) (p .no-quote) (p .no-array) (p .no-object) (c .before .before .before .before .if1 .left) (c .before .before .before .if2 .left) (c .before .before .if3 .left) (c .before .if4 .left))
+          let p = start .pre in
+          alike _ _ value minus k (p .inside)
+          (value-rest k _ (p .no-space) (p .no-quote) (p .no-array) (p .no-object) (at-if1 .if1 .left) (c .before .before .before .if2 .left) (c .before .before .if3 .left)
+          (c .before .if4 .left))
           ∙ c .unsigned2 .ensures .same label k;
     }
 
@@ -94,18 +68,18 @@ pub scalar-spec : {M : Type 1} → statement M
 scalar-spec =
     tie.close
     (tie.spec
-    shared-slice-read-b
-    add-j
-    slice-aggregate-literal
-    literal-requires
+    (λ c. search needs)
+    (λ c. search needs)
+    (λ c. search needs)
+    (λ c κs. search needs)
     returns
-    slice-aggregate-literal-2
-    literal-requires-2
+    (λ c. search needs)
+    (λ c κs. search needs)
     returns-2
-    slice-aggregate-literal-3
-    literal-requires-3
+    (λ c. search needs)
+    (λ c κs. search needs)
     returns-3
-    unsigned-requires
+    (λ c κs. search needs)
     returns-4
-    unsigned-requires-2
+    (λ c κs. search needs)
     returns-5)

@@ -5,12 +5,9 @@ use Rattle.keeper.specs.Facts.{callOf}
 use borrow.Author.Needs.{needs}
 use native.Mathlib.Omega.{arith}
 
-state-of-requires : tie.Need-state-of-requires
-state-of-requires c κs = search needs
-
 returns : tie.Need-returns
 unfolding callOf
 returns c = (cc, record { caller = omega arith; callee = omega arith; last = omega arith })
 
 pub call-of-spec : {M : Type 1} → statement M
-call-of-spec = tie.close (tie.spec state-of-requires returns)
+call-of-spec = tie.close (tie.spec (λ c κs. search needs) returns)

@@ -5,12 +5,6 @@ use Rattle.keeper.specs.Facts.{eventOf}
 use borrow.Author.Needs.{needs}
 use borrow.Author.Tests.{eq-eqb, ne-eqb}
 
-method-of-requires : tie.Need-method-of-requires
-method-of-requires c κs = search needs
-
-side-of-requires : tie.Need-side-of-requires
-side-of-requires c κs = search needs
-
 returns : tie.Need-returns
 unfolding eventOf
 returns c = rw (eq-eqb _ _ (c .if1 .taken)) cc
@@ -20,4 +14,4 @@ unfolding eventOf
 returns-2 c = rw (ne-eqb _ _ (c .if1 .left)) cc
 
 pub event-of-spec : {M : Type 1} → statement M
-event-of-spec = tie.close (tie.spec method-of-requires side-of-requires returns returns-2)
+event-of-spec = tie.close (tie.spec (λ c κs. search needs) (λ c κs. search needs) returns returns-2)

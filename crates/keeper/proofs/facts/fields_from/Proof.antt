@@ -4,15 +4,9 @@ use Rattle.keeper.proofs.facts.fields_from.Tie as tie
 use Rattle.keeper.specs.Facts.{fieldsFrom}
 use borrow.Author.Needs.{needs}
 
-state-number-requires : tie.Need-state-number-requires
-state-number-requires c κs = search needs
-
-bit-of-requires : tie.Need-bit-of-requires
-bit-of-requires c κs = search needs
-
 returns : tie.Need-returns
 unfolding fieldsFrom
 returns c = cc
 
 pub fields-from-spec : {M : Type 1} → statement M
-fields-from-spec = tie.close (tie.spec state-number-requires bit-of-requires returns)
+fields-from-spec = tie.close (tie.spec (λ c κs. search needs) (λ c κs. search needs) returns)

@@ -6,87 +6,76 @@ use Rattle.table.proofs.LookupLaws.{found}
 use borrow.Author.Needs.{needs}
 use mathlib.Core.Path.{sym, _∙_}
 
-call-id-requires : tie.Need-call-id-requires
-call-id-requires c κs = search needs
-
-find-requires : tie.Need-find-requires
-find-requires c κs = search needs
-
-enum-known-k : tie.Need-enum-known-k
-enum-known-k c = search needs
-
-user-requires : tie.Need-user-requires
-user-requires c κs = search needs
-
-caller-fire-requires : tie.Need-caller-fire-requires
-caller-fire-requires c κs = search needs
-
-callee-fire-requires : tie.Need-callee-fire-requires
-callee-fire-requires c κs = search needs
-
 same-parties-requires : tie.Need-same-parties-requires
-same-parties-requires c κs = found _ _ _ (sym (c .before .before .before .before .before .before .before .find .ensures) ∙ c .before .before .before .before .before .k .given .1) .inside
+same-parties-requires c κs =
+    let at-k = c .before .before .before .before .before in
+    let at-find = at-k .before .before in
+    found _ _ _ (sym (at-find .find .ensures) ∙ at-k .k .given .1) .inside
 
 fields-at-requires : tie.Need-fields-at-requires
-fields-at-requires c κs = found _ _ _ (sym (c .before .before .before .before .before .before .before .before .before .find .ensures) ∙ c .before .before .before .before .before .before .before .k .given .1) .inside
+fields-at-requires c κs =
+    let at-k = c .before .before .before .before .before .before .before in
+    let at-find = at-k .before .before in
+    found _ _ _ (sym (at-find .find .ensures) ∙ at-k .k .given .1) .inside
 
-call-of-requires : tie.Need-call-of-requires
-call-of-requires c κs = search needs
-
-event-of-requires : tie.Need-event-of-requires
-event-of-requires c κs = search needs
-
-decide-requires : tie.Need-decide-requires
-decide-requires c κs = search needs
-
-keep-requires : tie.Need-keep-requires
-keep-requires c κs = found _ _ _ (sym (c .before .before .before .before .before .before .before .before .before .before .before .before .before .before .find .ensures) ∙ c .before .before .before .before .before .before .before .before .before .before .before .before .k .given .1) .inside
-
-enum-told : tie.Need-enum-told
-enum-told c = search needs
-
-event-of-requires-2 : tie.Need-event-of-requires-2
-event-of-requires-2 c κs = search needs
-
-decide-requires-2 : tie.Need-decide-requires-2
-decide-requires-2 c κs = search needs
-
-admit-requires : tie.Need-admit-requires
-admit-requires c κs = search needs
-
-same-length : tie.Need-same-length
-same-length c = search needs
+leave-requires : tie.Need-leave-requires
+leave-requires c κs =
+    let at-k = c .before .before .before .before .before .before .before .before .before .before .before .before in
+    let at-find = at-k .before .before in
+    found _ _ _ (sym (at-find .find .ensures) ∙ at-k .k .given .1) .inside
 
 returns : tie.Need-returns
-returns c = asked-found (c .before .before .before .before .before .before .before .before .before .before .before .before .before .before .before .before .before .before .before .before .before .before .args .t .now) (c .before .before .before .before .before .before .before .before .before .before .before .before .before .before .before .before .before .before .before .before .before .before .args .s .now) (c .before .before .before .before .before .before .before .before .before .before .before .before .before .before .before .before .before .before .before .before .before .before .args .m) (c .before .before .before .before .before .before .before .before .before .before .before .before .before .before .before .before .before .before .before .before .before .before .args .time) (c .before .before .before .before .before .before .before .before .before .before .before .before .before .before .before .before .before .before .before .before .before .before .pre .0) (c .before .before .before .before .before .before .before .before .before .before .before .before .before .before .before .before .before .before .before .before .before .before .pre .1) (c .before .before .before .before .before .before .before .before .before .before .before .before .before .before .before .before .before .before .call-id .ensures) (sym (c .before .before .before .before .before .before .before .before .before .before .before .before .before .before .before .before .before .find .ensures) ∙ c .before .before .before .before .before .before .before .before .before .before .before .before .before .before .before .k .given .1) (c .before .before .before .before .before .before .before .before .before .before .before .before .before .user .ensures) (c .before .before .before .before .before .before .before .before .before .before .before .before .caller-fire .ensures) (c .before .before .before .before .before .before .before .before .before .before .before .callee-fire .ensures) (c .before .before .before .before .before .before .before .before .before .same-parties .ensures) (c .before .before .before .before .before .before .before .fields-at .ensures) (c .before .before .before .before .before .before .call-of .ensures .0) (c .before .before .before .before .before .before .call-of .ensures .1) (c .before .before .before .before .before .event-of .ensures) (c .before .before .before .before .decide .ensures) (c .before .before .keep .ensures) (c .before .before .before .before .before .before .before .before .before .before .before .before .before .before .before .before .before .before .before .before .before .before .fits .time .fits)
-
-same-length-2 : tie.Need-same-length-2
-same-length-2 c = search needs
+returns c =
+    let at-decide = c .before .before .before .before in
+    let at-event-of = at-decide .before in
+    let at-call-of = at-event-of .before in
+    let at-fields-at = at-call-of .before in
+    let at-same-parties = at-fields-at .before .before in
+    let at-callee-fire = at-same-parties .before .before in
+    let at-caller-fire = at-callee-fire .before in
+    let at-user = at-caller-fire .before in
+    let at-k = at-user .before .before in
+    let at-find = at-k .before .before in
+    let at-call-id = at-find .before in
+    let start = at-call-id .before .before .before .before in
+    asked-found (start .args .t .now) (start .args .s .now) (start .args .m) (start .args .time) (start .pre .0) (start .pre .1) (at-call-id .call-id .ensures)
+    (sym (at-find .find .ensures) ∙ at-k .k .given .1) (at-user .user .ensures) (at-caller-fire .caller-fire .ensures) (at-callee-fire .callee-fire .ensures)
+    (at-same-parties .same-parties .ensures) (at-fields-at .fields-at .ensures) (at-call-of .call-of .ensures .0) (at-call-of .call-of .ensures .1)
+    (at-event-of .event-of .ensures) (at-decide .decide .ensures) (c .before .before .leave .ensures) (start .fits .time .fits)
 
 returns-2 : tie.Need-returns-2
-returns-2 c = asked-new (c .before .before .before .before .before .before .before .before .before .before .before .before .before .args .t .now) (c .before .before .before .before .before .before .before .before .before .before .before .before .before .args .s .now) (c .before .before .before .before .before .before .before .before .before .before .before .before .before .args .m) (c .before .before .before .before .before .before .before .before .before .before .before .before .before .args .time) (c .before .before .before .before .before .before .before .before .before .before .before .before .before .pre .0) (c .before .before .before .before .before .before .before .before .before .before .before .before .before .pre .1) (c .before .before .before .before .before .before .before .before .before .call-id .ensures) (sym (c .before .before .before .before .before .before .before .before .find .ensures) ∙ c .before .before .before .before .before .before .enum-told .given .1) (c .before .before .before .before .before .event-of2 .ensures) (c .before .before .before .before .decide2 .ensures) (c .before .before .admit .ensures) (c .before .before .before .before .before .before .before .before .before .before .before .before .before .fits .time .fits)
+returns-2 c =
+    let at-decide2 = c .before .before .before .before in
+    let at-event-of2 = at-decide2 .before in
+    let at-enum-told = at-event-of2 .before in
+    let at-find = at-enum-told .before .before in
+    let at-call-id = at-find .before in
+    let start = at-call-id .before .before .before .before in
+    asked-new (start .args .t .now) (start .args .s .now) (start .args .m) (start .args .time) (start .pre .0) (start .pre .1) (at-call-id .call-id .ensures)
+    (sym (at-find .find .ensures) ∙ at-enum-told .enum-told .given .1) (at-event-of2 .event-of2 .ensures) (at-decide2 .decide2 .ensures) (c .before .before .take .ensures)
+    (start .fits .time .fits)
 
 pub ask-spec : {M : Type 1} → statement M
 ask-spec =
     tie.close
     (tie.spec
-    call-id-requires
-    find-requires
-    enum-known-k
-    user-requires
-    caller-fire-requires
-    callee-fire-requires
+    (λ c κs. search needs)
+    (λ c κs. search needs)
+    (λ c. search needs)
+    (λ c κs. search needs)
+    (λ c κs. search needs)
+    (λ c κs. search needs)
     same-parties-requires
     fields-at-requires
-    call-of-requires
-    event-of-requires
-    decide-requires
-    keep-requires
-    enum-told
-    event-of-requires-2
-    decide-requires-2
-    admit-requires
-    same-length
+    (λ c κs. search needs)
+    (λ c κs. search needs)
+    (λ c κs. search needs)
+    leave-requires
+    (λ c. search needs)
+    (λ c κs. search needs)
+    (λ c κs. search needs)
+    (λ c κs. search needs)
+    (λ c. search needs)
     returns
-    same-length-2
+    (λ c. search needs)
     returns-2)

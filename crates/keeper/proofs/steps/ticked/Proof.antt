@@ -7,55 +7,44 @@ use Rattle.table.proofs.LookupLaws.{found}
 use borrow.Author.Needs.{needs}
 use mathlib.Core.Path.{sym, ap, refl, _∙_}
 
-find-requires : tie.Need-find-requires
-find-requires c κs = search needs
-
-enum-known-k : tie.Need-enum-known-k
-enum-known-k c = search needs
-
 fields-at-requires : tie.Need-fields-at-requires
 fields-at-requires c κs = found _ _ _ (sym (c .before .before .before .before .find .ensures) ∙ c .before .before .k .given .1) .inside
 
-call-of-requires : tie.Need-call-of-requires
-call-of-requires c κs = search needs
-
-decide-requires : tie.Need-decide-requires
-decide-requires c κs = search needs
-
-keep-requires : tie.Need-keep-requires
-keep-requires c κs = found _ _ _ (sym (c .before .before .before .before .before .before .before .before .find .ensures) ∙ c .before .before .before .before .before .before .k .given .1) .inside
-
-enum-told : tie.Need-enum-told
-enum-told c = search needs
-
-decide-requires-2 : tie.Need-decide-requires-2
-decide-requires-2 c κs = search needs
-
-same-length : tie.Need-same-length
-same-length c = search needs
+leave-requires : tie.Need-leave-requires
+leave-requires c κs =
+    let at-k = c .before .before .before .before .before .before in
+    let at-find = at-k .before .before in
+    found _ _ _ (sym (at-find .find .ensures) ∙ at-k .k .given .1) .inside
 
 returns : tie.Need-returns
-returns c = ticked-found (c .before .before .before .before .before .before .before .before .before .before .before .before .before .before .before .args .t .now) (c .before .before .before .before .before .before .before .before .before .before .before .before .before .before .before .args .id .now) (c .before .before .before .before .before .before .before .before .before .before .before .before .before .before .before .args .time) (c .before .before .before .before .before .before .before .before .before .before .before .before .before .before .before .pre) (sym (c .before .before .before .before .before .before .before .before .before .before .before .find .ensures) ∙ c .before .before .before .before .before .before .before .before .before .k .given .1) (c .before .before .before .before .before .before .fields-at .ensures) (c .before .before .before .before .before .call-of .ensures .0) (c .before .before .before .before .before .call-of .ensures .1) (c .before .before .before .before .decide .ensures) (c .before .before .keep .ensures) (c .before .before .before .before .before .before .before .before .before .before .before .before .before .before .before .fits .time .fits)
-
-same-length-2 : tie.Need-same-length-2
-same-length-2 c = search needs
+returns c =
+    let at-decide = c .before .before .before .before in
+    let at-call-of = at-decide .before in
+    let at-fields-at = at-call-of .before in
+    let at-k = at-fields-at .before .before .before in
+    let at-find = at-k .before .before in
+    let start = at-find .before .before .before .before in
+    ticked-found (start .args .t .now) (start .args .id .now) (start .args .time) (start .pre) (sym (at-find .find .ensures) ∙ at-k .k .given .1)
+    (at-fields-at .fields-at .ensures) (at-call-of .call-of .ensures .0) (at-call-of .call-of .ensures .1) (at-decide .decide .ensures) (c .before .before .leave .ensures)
+    (start .fits .time .fits)
 
 returns-2 : tie.Need-returns-2
-returns-2 c = rw (sym (c .before .before .before .find .ensures) ∙ c .before .enum-told .given .1) (ap (λ (o : Outcome). o .answer) (c .decide2 .ensures), refl, c .before .before .before .before .before .before .before .pre)
+returns-2 c = rw (sym (c .before .before .before .find .ensures) ∙ c .before .enum-told .given .1)
+    (ap (λ (o : Outcome). o .answer) (c .decide2 .ensures), refl, c .before .before .before .before .before .before .before .pre)
 
 pub ticked-spec : {M : Type 1} → statement M
 ticked-spec =
     tie.close
     (tie.spec
-    find-requires
-    enum-known-k
+    (λ c κs. search needs)
+    (λ c. search needs)
     fields-at-requires
-    call-of-requires
-    decide-requires
-    keep-requires
-    enum-told
-    decide-requires-2
-    same-length
+    (λ c κs. search needs)
+    (λ c κs. search needs)
+    leave-requires
+    (λ c. search needs)
+    (λ c κs. search needs)
+    (λ c. search needs)
     returns
-    same-length-2
+    (λ c. search needs)
     returns-2)

@@ -12,17 +12,8 @@ use mathlib.Core.List.{[], _∷_, _++_}
 use mathlib.Core.Path.{_≡_, refl, ap, _∙_}
 use native.Mathlib.Omega.{arith}
 
-slice-aggregate-put : tie.Need-slice-aggregate-put
-slice-aggregate-put c = search needs
-
-put-requires : tie.Need-put-requires
-put-requires c κs = search needs
-
 put-decimal-requires : tie.Need-put-decimal-requires
 put-decimal-requires c κs = omega (arith, shown-length (c .before .before .before .before .args .number) (omega arith))
-
-slice-aggregate-put-2 : tie.Need-slice-aggregate-put-2
-slice-aggregate-put-2 c = search needs
 
 put-requires-2 : tie.Need-put-requires-2
 put-requires-2 c κs = omega (arith, shown-length (c .before .before .before .before .before .before .before .args .number) (omega arith))
@@ -30,7 +21,8 @@ put-requires-2 c κs = omega (arith, shown-length (c .before .before .before .be
 returns : tie.Need-returns
 returns c =
     let x = c .before .before .before .before .before .before .before .before .args in
-    let w = more (10 ∷ []) (more (shown (x .number)) (more (ascii " refused ") (start (x .out .now)) (c .before .before .before .before .before .put .ensures)) (c .before .before .before .put-decimal .ensures)) (c .put2 .ensures) in
+    let w = more (10 ∷ []) (more (shown (x .number)) (more (ascii " refused ") (start (x .out .now)) (c .before .before .before .before .before .put .ensures))
+    (c .before .before .before .put-decimal .ensures)) (c .put2 .ensures) in
     let e : ((([] ++ ascii " refused ") ++ shown (x .number)) ++ (10 ∷ [])) ≡ 32 ∷ ((ascii "refused " ++ shown (x .number)) ++ (10 ∷ [])) = refl in
     (w .place ∙ ap length e, w .is ∙ ap (written (x .out .now)) e, omega (arith, shown-length (x .number) (omega arith)))
 
@@ -38,9 +30,9 @@ pub put-refused-spec : {M : Type 1} → statement M
 put-refused-spec =
     tie.close
     (tie.spec
-    slice-aggregate-put
-    put-requires
+    (λ c. search needs)
+    (λ c κs. search needs)
     put-decimal-requires
-    slice-aggregate-put-2
+    (λ c. search needs)
     put-requires-2
     returns)

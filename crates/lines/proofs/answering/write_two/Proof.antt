@@ -16,52 +16,39 @@ returns c =
     let x = c .before .before .before .before .args in
     not-wrote (x .out .now) (x .at) (x .a .now ++ x .b .now) (rw length-append (omega arith))
 
-sub-if2 : tie.Need-sub-if2
-sub-if2 c = search needs
-
 returns-2 : tie.Need-returns-2
 returns-2 c =
     let x = c .before .before .before .before .before .args in
     not-wrote (x .out .now) (x .at) (x .a .now ++ x .b .now) (rw length-append (omega arith))
-
-add-behind : tie.Need-add-behind
-add-behind c = search needs
-
-sub-if3 : tie.Need-sub-if3
-sub-if3 c = search needs
 
 returns-3 : tie.Need-returns-3
 returns-3 c =
     let x = c .before .before .before .before .before .before .args in
     not-wrote (x .out .now) (x .at) (x .a .now ++ x .b .now) (rw length-append (omega arith))
 
-put-requires : tie.Need-put-requires
-put-requires c κs = search needs
-
-put-requires-2 : tie.Need-put-requires-2
-put-requires-2 c κs = search needs
-
-same-length : tie.Need-same-length
-same-length c = search needs
-
 returns-4 : tie.Need-returns-4
 returns-4 c =
-    let x = c .before .before .before .before .before .before .before .before .before .before .before .before .before .before .args in
+    let at-put = c .before .before .before .before .before .before in
+    let start = at-put .before .before .before .before .before .before .before .before in
+    let x = start .args in
     let f : x .at + length (x .a .now ++ x .b .now) ≤ length (x .out .now) = rw length-append (omega arith) in
-    let w = wrote (x .out .now) (x .at) (x .a .now ++ x .b .now) f in
-    (ap End (c .before .before .put2 .ensures .0 ∙ rw length-append (omega arith)) ∙ w .0, c .before .before .put2 .ensures .1 ∙ rw (c .before .before .before .before .before .before .put .ensures .1) (splice-two (x .out .now) (x .at) (x .a .now) (x .b .now) (omega arith)) ∙ w .1)
+    let w = wrote (x .out .now) (x .at) (x .a .now ++ x .b .now) f in (
+      ap End (c .before .before .put2 .ensures .0 ∙ rw length-append (omega arith)) ∙ w .0,
+      c .before .before .put2 .ensures .1
+          ∙ rw (at-put .put .ensures .1) (splice-two (x .out .now) (x .at) (x .a .now) (x .b .now) (omega arith)) ∙ w .1,
+    )
 
 pub write-two-spec : {M : Type 1} → statement M
 write-two-spec =
     tie.close
     (tie.spec
     returns
-    sub-if2
+    (λ c. search needs)
     returns-2
-    add-behind
-    sub-if3
+    (λ c. search needs)
+    (λ c. search needs)
     returns-3
-    put-requires
-    put-requires-2
-    same-length
+    (λ c κs. search needs)
+    (λ c κs. search needs)
+    (λ c. search needs)
     returns-4)

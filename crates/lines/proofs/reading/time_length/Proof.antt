@@ -8,38 +8,20 @@ use lib.Seq.{take-all}
 use mathlib.Core.Path.{_≡_, ap}
 use native.Mathlib.Omega.{arith}
 
-find-requires : tie.Need-find-requires
-find-requires c κs = search needs
-
-sub-find : tie.Need-sub-find
-sub-find c = search needs
-
-part-find-start : tie.Need-part-find-start
-part-find-start c = search needs
-
-part-find-end : tie.Need-part-find-end
-part-find-end c = search needs
-
-find-requires-2 : tie.Need-find-requires-2
-find-requires-2 c κs = search needs
-
 returns : tie.Need-returns
 returns c =
     let s = c .before .before .before .args .s .now in
     let e : before 32 (take 21 s) ≡ before 32 s = ap (before 32) (take-all 21 s (omega arith)) in
     omega arith
 
-returns-2 : tie.Need-returns-2
-returns-2 c = search needs
-
 pub time-length-spec : {M : Type 1} → statement M
 time-length-spec =
     tie.close
     (tie.spec
-    find-requires
-    sub-find
-    part-find-start
-    part-find-end
-    find-requires-2
+    (λ c κs. search needs)
+    (λ c. search needs)
+    (λ c. search needs)
+    (λ c. search needs)
+    (λ c κs. search needs)
     returns
-    returns-2)
+    (λ c. search needs))

@@ -2,7 +2,7 @@
 use Prim.Native.Nat.{_-_, _≤_}
 use Rattle.lines.proofs.splitting.line_end.Statement.{statement}
 use Rattle.lines.proofs.splitting.line_end.Tie as tie
-use Rattle.lines.specs.Input.{lineEnd}
+use Rattle.lines.specs.inner.Splitting.{lineEnd}
 use borrow.Author.Needs.{needs}
 use lib.ListN.{length}
 use mathlib.Core.Path.{_≡_, refl, sym, _∙_}
@@ -16,29 +16,11 @@ abbrev μ-loop : tie.MeasureT-loop
 loop-holds : tie.Need-loop-holds Inv-loop μ-loop
 loop-holds c = (search needs, refl)
 
-sub-loop : tie.Need-sub-loop Inv-loop μ-loop
-sub-loop c = search needs
-
-feed-in-32-requires : tie.Need-feed-in-32-requires Inv-loop μ-loop
-feed-in-32-requires c κs = search needs
-
-find-requires : tie.Need-find-requires Inv-loop μ-loop
-find-requires c κs = search needs
-
 returns : tie.Need-returns Inv-loop μ-loop
 returns c = c .find .ensures ∙ sym (c .before .before .before .before .loop .inv .1)
 
-add-i : tie.Need-add-i Inv-loop μ-loop
-add-i c = search needs
-
-loop-less : tie.Need-loop-less Inv-loop μ-loop
-loop-less c = search needs
-
 loop-again : tie.Need-loop-again Inv-loop μ-loop
 loop-again c = (search needs, c .before .before .before .loop .inv .1 ∙ c .before .feed-in-32 .ensures (c .if1 .left))
-
-find-requires-2 : tie.Need-find-requires-2 Inv-loop μ-loop
-find-requires-2 c κs = search needs
 
 returns-2 : tie.Need-returns-2 Inv-loop μ-loop
 returns-2 c = c .find2 .ensures ∙ sym (c .before .before .loop .inv .1)
@@ -50,12 +32,12 @@ line-end-spec =
     Inv-loop
     μ-loop
     loop-holds
-    sub-loop
-    feed-in-32-requires
-    find-requires
+    (λ c. search needs)
+    (λ c κs. search needs)
+    (λ c κs. search needs)
     returns
-    add-i
-    loop-less
+    (λ c. search needs)
+    (λ c. search needs)
     loop-again
-    find-requires-2
+    (λ c κs. search needs)
     returns-2)

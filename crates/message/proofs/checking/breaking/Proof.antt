@@ -1,48 +1,54 @@
--- `message::checking::breaking` meets its contract. The loop keeps that the lowest is among the numbers left. Assumes nothing.
+-- `message::checking::breaking` meets its contract. The loop keeps that row 9 is what it says from here on. Assumes nothing.
 use Prim.Native.Nat.{_-_, _≤_}
-use Rattle.message.proofs.CheckLaws.{found, higher, none-found}
+use Rattle.message.proofs.CheckLaws.{field-fault, field-kept, over, passes, stops}
 use Rattle.message.proofs.checking.breaking.Statement.{statement}
 use Rattle.message.proofs.checking.breaking.Tie as tie
-use Rattle.message.specs.Checks.{breaks, lowest}
+use Rattle.message.specs.inner.Facts.{nineFrom}
 use borrow.Author.Needs.{needs}
-use mathlib.Core.Path.{_≡_, refl, sym, _∙_}
+use mathlib.Core.Path.{_≡_, sym, _∙_}
 use native.Mathlib.Omega.{arith}
 
 abbrev Inv-loop : tie.InvT-loop
-Inv-loop s run k at end via n₀ n = (1 ≤ n) × ((n ≤ 27) × (lowest (breaks s run k at) 1 26 ≡ lowest (breaks s run k at) n (27 - n)))
+Inv-loop s run k at end n₀ n = (4 ≤ n) × ((n ≤ 27) × (nineFrom s run k at 1 ≡ nineFrom s run k at n))
 
 abbrev μ-loop : tie.MeasureT-loop
-μ-loop s run k at end via n₀ n = 27 - n
+μ-loop s run k at end n₀ n = 27 - n
 
 loop-holds : tie.Need-loop-holds Inv-loop μ-loop
-loop-holds c = (search needs, (search needs, refl))
+loop-holds c = (search needs, (search needs, c .before .pre .1 .1 .1))
 
-is-broken-requires : tie.Need-is-broken-requires Inv-loop μ-loop
-is-broken-requires c κs = search needs
+place-in-requires : tie.Need-place-in-requires Inv-loop μ-loop
+place-in-requires c κs =
+    let at-judge-field = c .before .before .before .before in
+    let at-loop = at-judge-field .before .before in
+    let start = at-loop .before .before in
+    let x = start .args in field-fault (x .s .now) (x .run) (x .k) (x .at .now) (at-loop .loop .n) (sym (c .before .before .j .given .1) ∙ at-judge-field .judge-field .ensures) .0
 
 returns : tie.Need-returns Inv-loop μ-loop
 returns c =
-    let l = c .before .before .before in
-    let x = l .before .before .args in
-    (sym (l .loop .inv .1 .1 ∙ found (breaks (x .s .now) (x .run) (x .k) (x .at .now)) (l .loop .n) (omega arith) (sym (c .before .is-broken .ensures) ∙ c .if1 .taken)), omega arith)
-
-add-n : tie.Need-add-n Inv-loop μ-loop
-add-n c = search needs
-
-loop-less : tie.Need-loop-less Inv-loop μ-loop
-loop-less c = search needs
+    let at-judge-field = c .before .before .before .before .before in
+    let at-loop = at-judge-field .before .before in
+    let start = at-loop .before .before in
+    let x = start .args in let l = at-loop .loop in
+    let f = field-fault (x .s .now) (x .run) (x .k) (x .at .now) (l .n) (sym (c .before .before .before .j .given .1) ∙ at-judge-field .judge-field .ensures) in
+    sym (l .inv .1 .1 ∙ stops (x .s .now) (x .run) (x .k) (x .at .now) (l .n) (omega arith) (omega arith) (f .0) (c .place-in .ensures) (f .1))
 
 loop-again : tie.Need-loop-again Inv-loop μ-loop
 loop-again c =
-    let l = c .before .before .before in
-    let x = l .before .before .args in
-    (search needs, (search needs, l .loop .inv .1 .1 ∙ higher (breaks (x .s .now) (x .run) (x .k) (x .at .now)) (l .loop .n) (omega arith) (sym (c .before .is-broken .ensures) ∙ c .if1 .left)))
+    let at-loop = c .before .before .before .before in
+    let start = at-loop .before .before in
+    let x = start .args in let l = at-loop .loop in (
+      search needs,
+      (
+        search needs,
+        l .inv .1 .1
+            ∙ passes (x .s .now) (x .run) (x .k) (x .at .now) (l .n) (omega arith)
+            (field-kept (x .s .now) (x .run) (x .k) (x .at .now) (l .n) (sym (c .enum-told .given .1) ∙ c .before .before .judge-field .ensures)),
+      ),
+    )
 
 returns-2 : tie.Need-returns-2 Inv-loop μ-loop
-returns-2 c =
-    let l = c .before in
-    let x = l .before .before .args in
-    (sym (l .loop .inv .1 .1 ∙ none-found (breaks (x .s .now) (x .run) (x .k) (x .at .now)) (l .loop .n) (omega arith)), omega arith)
+returns-2 c = let x = c .before .before .before .args in let l = c .before .loop in sym (l .inv .1 .1 ∙ over (x .s .now) (x .run) (x .k) (x .at .now) (l .n) (omega arith))
 
 pub breaking-spec : {M : Type 1} → statement M
 breaking-spec =
@@ -51,9 +57,14 @@ breaking-spec =
     Inv-loop
     μ-loop
     loop-holds
-    is-broken-requires
+    (λ c κs. search needs)
+    (λ c. search needs)
+    (λ c. search needs)
+    (λ c. search needs)
+    place-in-requires
     returns
-    add-n
-    loop-less
+    (λ c. search needs)
+    (λ c. search needs)
+    (λ c. search needs)
     loop-again
     returns-2)

@@ -4,21 +4,12 @@ use Rattle.message.proofs.checking.is_lacking.Statement.{statement}
 use Rattle.message.proofs.checking.is_lacking.Tie as tie
 use borrow.Author.Needs.{needs}
 
-mul-if1 : tie.Need-mul-if1
-mul-if1 c = search needs
-
-element-copy-out-if1 : tie.Need-element-copy-out-if1
-element-copy-out-if1 c = search needs
-
 returns : tie.Need-returns
 returns c = let x = c .before .before .args in not-lacking (x .run) (x .k) (x .at .now) (x .n) (c .if1 .taken)
-
-asks-requires : tie.Need-asks-requires
-asks-requires c κs = search needs
 
 returns-2 : tie.Need-returns-2
 returns-2 c = let x = c .before .before .before .args in lacking-if (x .run) (x .k) (x .at .now) (x .n) (c .asks .ensures) (c .before .if1 .left)
 
 pub is-lacking-spec : {M : Type 1} → statement M
 is-lacking-spec =
-    tie.close (tie.spec mul-if1 element-copy-out-if1 returns asks-requires returns-2)
+    tie.close (tie.spec (λ c. search needs) (λ c. search needs) returns (λ c κs. search needs) returns-2)

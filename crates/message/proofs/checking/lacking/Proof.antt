@@ -17,26 +17,23 @@ abbrev μ-loop : tie.MeasureT-loop
 loop-holds : tie.Need-loop-holds Inv-loop μ-loop
 loop-holds c = (search needs, (search needs, refl))
 
-is-lacking-requires : tie.Need-is-lacking-requires Inv-loop μ-loop
-is-lacking-requires c κs = search needs
-
 returns : tie.Need-returns Inv-loop μ-loop
 returns c =
     let l = c .before .before .before in
     let x = l .before .args in
     (sym (l .loop .inv .1 .1 ∙ found (lacks (x .run) (x .k) (x .at .now)) (l .loop .n) (omega arith) (sym (c .before .is-lacking .ensures) ∙ c .if1 .taken)), omega arith)
 
-add-n : tie.Need-add-n Inv-loop μ-loop
-add-n c = search needs
-
-loop-less : tie.Need-loop-less Inv-loop μ-loop
-loop-less c = search needs
-
 loop-again : tie.Need-loop-again Inv-loop μ-loop
 loop-again c =
     let l = c .before .before .before in
-    let x = l .before .args in
-    (search needs, (search needs, l .loop .inv .1 .1 ∙ higher (lacks (x .run) (x .k) (x .at .now)) (l .loop .n) (omega arith) (sym (c .before .is-lacking .ensures) ∙ c .if1 .left)))
+    let x = l .before .args in (
+      search needs,
+      (
+        search needs,
+        l .loop .inv .1 .1
+            ∙ higher (lacks (x .run) (x .k) (x .at .now)) (l .loop .n) (omega arith) (sym (c .before .is-lacking .ensures) ∙ c .if1 .left),
+      ),
+    )
 
 returns-2 : tie.Need-returns-2 Inv-loop μ-loop
 returns-2 c =
@@ -51,9 +48,9 @@ lacking-spec =
     Inv-loop
     μ-loop
     loop-holds
-    is-lacking-requires
+    (λ c κs. search needs)
     returns
-    add-n
-    loop-less
+    (λ c. search needs)
+    (λ c. search needs)
     loop-again
     returns-2)

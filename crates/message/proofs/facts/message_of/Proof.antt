@@ -1,90 +1,64 @@
 -- `message::facts::message_of` meets its contract. By its definition and what the callees ensure. Assumes nothing.
+use Rattle.fields.proofs.TrailLaws.{fits}
 use Rattle.message.proofs.FactLaws.{message-is}
-use Rattle.message.proofs.RouteLaws.{fits}
-use Rattle.message.proofs.TextLaws.{held}
+use Rattle.message.proofs.PartyLaws.{held}
 use Rattle.message.proofs.facts.message_of.Statement.{statement}
 use Rattle.message.proofs.facts.message_of.Tie as tie
-use Rattle.message.specs.Message.{Held}
+use Rattle.message.specs.inner.Facts.{Placed}
 use Rattle.rules.specs.declared.addresses.Address.{Address}
 use borrow.Author.Needs.{needs}
 use lib.ListN.{getD}
 use mathlib.Core.Path.{sym, subst}
 
-side-of-requires : tie.Need-side-of-requires
-side-of-requires c κs = search needs
-
-element-copy-out-secure-of : tie.Need-element-copy-out-secure-of
-element-copy-out-secure-of c = search needs
-
-element-copy-out-secure-of-2 : tie.Need-element-copy-out-secure-of-2
-element-copy-out-secure-of-2 c = search needs
-
 secure-of-requires : tie.Need-secure-of-requires
-secure-of-requires c κs = c .before .before .before .before .pre .1 .0 .ends 17
-
-element-copy-out-text-span : tie.Need-element-copy-out-text-span
-element-copy-out-text-span c = search needs
-
-element-copy-out-text-span-2 : tie.Need-element-copy-out-text-span-2
-element-copy-out-text-span-2 c = search needs
+secure-of-requires c κs = c .before .before .before .before .before .pre .1 .ends 17
 
 text-span-requires : tie.Need-text-span-requires
-text-span-requires c κs = c .before .before .before .before .before .before .before .pre .1 .0 .ends 5
-
-element-copy-out-sorted : tie.Need-element-copy-out-sorted
-element-copy-out-sorted c = search needs
-
-element-copy-out-sorted-2 : tie.Need-element-copy-out-sorted-2
-element-copy-out-sorted-2 c = search needs
+text-span-requires c κs = c .before .before .before .before .before .before .before .before .pre .1 .ends 5
 
 sorted-requires : tie.Need-sorted-requires
-sorted-requires c κs = let x = c .before .before .before .before .before .before .before .before .before .before in (subst (λ (a : Address). Held (getD (x .args .at .now) 3 0) a) (sym (x .pre .0 .sent)) (held (x .args .s .now) (getD (x .args .at .now) 3 0) (search needs)), subst (λ (a : Address). Held (getD (x .args .at .now) 2 0) a) (sym (x .pre .0 .meant)) (held (x .args .s .now) (getD (x .args .at .now) 2 0) (search needs)))
-
-element-copy-out-moved : tie.Need-element-copy-out-moved
-element-copy-out-moved c = search needs
+sorted-requires c κs =
+    let start = c .before .before .before .before .before .before .before .before .before .before .before in
+    let t = start .args .at .now in let s = start .args .s .now in (
+      subst (λ (a : Address). Placed (getD t 3 0) a) (sym (start .pre .0 .sent)) (held s (getD t 3 0) (search needs)),
+      subst (λ (a : Address). Placed (getD t 2 0) a) (sym (start .pre .0 .meant)) (held s (getD t 2 0) (search needs)),
+    )
 
 moved-requires : tie.Need-moved-requires
-moved-requires c κs = let x = c .before .before .before .before .before .before .before .before .before .before .before .before .before .before .before in fits (x .args .s .now) (getD (x .args .at .now) 6 0) (search needs) (x .pre .1 .1)
-
-element-copy-out-t25 : tie.Need-element-copy-out-t25
-element-copy-out-t25 c = search needs
-
-element-copy-out-t22 : tie.Need-element-copy-out-t22
-element-copy-out-t22 c = search needs
-
-element-copy-out-t42 : tie.Need-element-copy-out-t42
-element-copy-out-t42 c = search needs
-
-element-copy-out-t45 : tie.Need-element-copy-out-t45
-element-copy-out-t45 c = search needs
-
-element-copy-out-t48 : tie.Need-element-copy-out-t48
-element-copy-out-t48 c = search needs
+moved-requires c κs =
+    let start = c .before .before .before .before .before .before .before .before .before .before .before .before .before .before .before .before in
+    fits (start .args .s .now) (getD (start .args .at .now) 6 0) (search needs) (start .pre .0 .trailed)
 
 returns : tie.Need-returns
 returns c =
-    let x = c .before .before .before .before .before .before .before .before .before .before .before .before .before .before .before .before .before .before .before .before .before in
-    message-is (x .args .s .now) (x .args .k) (x .args .at .now) (x .pre .0) (c .before .before .before .before .before .before .before .before .before .before .before .before .before .before .before .before .before .before .before .side-of .ensures) (c .before .before .before .before .before .before .before .before .before .before .before .before .before .before .before .before .secure-of .ensures) (c .before .before .before .before .before .before .before .before .before .before .before .before .before .text-span .ensures) (c .before .before .before .before .before .before .before .before .before .before .sorted .ensures) (x .pre .1 .1) (c .before .before .before .before .before .moved .ensures)
+    let at-moved = c .before .before .before .before .before in
+    let at-sorted = at-moved .before .before .before .before .before in
+    let at-text-span = at-sorted .before .before .before in
+    let at-secure-of = at-text-span .before .before .before in
+    let at-side-of = at-secure-of .before .before .before in
+    let start = at-side-of .before .before .before in
+    message-is (start .args .s .now) (start .args .k) (start .args .at .now) (start .pre .0) (at-side-of .side-of .ensures) (at-secure-of .secure-of .ensures)
+    (at-text-span .text-span .ensures) (at-sorted .sorted .ensures) (at-moved .moved .ensures)
 
 pub message-of-spec : {M : Type 1} → statement M
 message-of-spec =
     tie.close
     (tie.spec
-    side-of-requires
-    element-copy-out-secure-of
-    element-copy-out-secure-of-2
+    (λ c κs. search needs)
+    (λ c. search needs)
+    (λ c. search needs)
     secure-of-requires
-    element-copy-out-text-span
-    element-copy-out-text-span-2
+    (λ c. search needs)
+    (λ c. search needs)
     text-span-requires
-    element-copy-out-sorted
-    element-copy-out-sorted-2
+    (λ c. search needs)
+    (λ c. search needs)
     sorted-requires
-    element-copy-out-moved
+    (λ c. search needs)
     moved-requires
-    element-copy-out-t25
-    element-copy-out-t22
-    element-copy-out-t42
-    element-copy-out-t45
-    element-copy-out-t48
+    (λ c. search needs)
+    (λ c. search needs)
+    (λ c. search needs)
+    (λ c. search needs)
+    (λ c. search needs)
     returns)

@@ -4,12 +4,9 @@ use Rattle.message.proofs.facts.probe_of.Tie as tie
 use Rattle.message.specs.Message.{probeOf}
 use borrow.Author.Needs.{needs}
 
-no-route-requires : tie.Need-no-route-requires
-no-route-requires c κs = search needs
-
 returns : tie.Need-returns
 unfolding probeOf
-returns c = rw (c .no-route .ensures)
+returns c = rw (c .no-trail .ensures)
 
 pub probe-of-spec : {M : Type 1} → statement M
-probe-of-spec = tie.close (tie.spec no-route-requires returns)
+probe-of-spec = tie.close (tie.spec (λ c κs. search needs) returns)

@@ -8,28 +8,21 @@ use mathlib.Core.Path.{_∙_}
 returns : tie.Need-returns
 returns c = let x = c .before .before .args in not-request (x .s .now) (x .k) (x .at .now) (x .from) (c .if1 .taken)
 
-is-callback-training-requires : tie.Need-is-callback-training-requires
-is-callback-training-requires c κs = search needs
-
 returns-2 : tie.Need-returns-2
-returns-2 c = let x = c .before .before .before .before .args in an-invite (x .s .now) (x .k) (x .at .now) (x .from) (c .before .before .if1 .left) (c .before .if2 .taken) (c .is-callback-training .ensures)
-
-and-requires : tie.Need-and-requires
-and-requires c κs = search needs
-
-and-requires-2 : tie.Need-and-requires-2
-and-requires-2 c κs = search needs
+returns-2 c = let x = c .before .before .before .before .args in
+    an-invite (x .s .now) (x .k) (x .at .now) (x .from) (c .before .before .if1 .left) (c .before .if2 .taken) (c .is-callback-training .ensures)
 
 returns-3 : tie.Need-returns-3
-returns-3 c = let x = c .before .before .before .before .before .args in no-invite (x .s .now) (x .k) (x .at .now) (x .from) (c .before .before .before .if1 .left) (c .before .before .if2 .left) (c .and2 .ensures ∙ rw (c .before .and .ensures))
+returns-3 c = let x = c .before .before .before .before .before .args in
+    no-invite (x .s .now) (x .k) (x .at .now) (x .from) (c .before .before .before .if1 .left) (c .before .before .if2 .left) (c .and2 .ensures ∙ rw (c .before .and .ensures))
 
 pub request-disagrees-spec : {M : Type 1} → statement M
 request-disagrees-spec =
     tie.close
     (tie.spec
     returns
-    is-callback-training-requires
+    (λ c κs. search needs)
     returns-2
-    and-requires
-    and-requires-2
+    (λ c κs. search needs)
+    (λ c κs. search needs)
     returns-3)

@@ -4,12 +4,9 @@ use Rattle.message.proofs.facts.response_disagrees.Tie as tie
 use Rattle.message.specs.Message.{responseDisagrees}
 use borrow.Author.Needs.{needs}
 
-and-requires : tie.Need-and-requires
-and-requires c κs = search needs
-
 returns : tie.Need-returns
 unfolding responseDisagrees
 returns c = cc
 
 pub response-disagrees-spec : {M : Type 1} → statement M
-response-disagrees-spec = tie.close (tie.spec and-requires returns)
+response-disagrees-spec = tie.close (tie.spec (λ c κs. search needs) returns)

@@ -4,18 +4,9 @@ use Rattle.message.proofs.facts.same_side.Tie as tie
 use Rattle.message.specs.Message.{sameSide}
 use borrow.Author.Needs.{needs}
 
-and-requires : tie.Need-and-requires
-and-requires c κs = search needs
-
-and-requires-2 : tie.Need-and-requires-2
-and-requires-2 c κs = search needs
-
-or-requires : tie.Need-or-requires
-or-requires c κs = search needs
-
 returns : tie.Need-returns
 unfolding sameSide
 returns c = cc
 
 pub same-side-spec : {M : Type 1} → statement M
-same-side-spec = tie.close (tie.spec and-requires and-requires-2 or-requires returns)
+same-side-spec = tie.close (tie.spec (λ c κs. search needs) (λ c κs. search needs) (λ c κs. search needs) returns)

@@ -5,12 +5,6 @@ use Rattle.message.specs.Message.{settingOf}
 use borrow.Author.Needs.{needs}
 use mathlib.Core.Path.{refl}
 
-element-copy-out-content-at : tie.Need-element-copy-out-content-at
-element-copy-out-content-at c = search needs
-
-element-copy-out-content-at-2 : tie.Need-element-copy-out-content-at-2
-element-copy-out-content-at-2 c = search needs
-
 content-at-requires : tie.Need-content-at-requires
 content-at-requires c κs = c .before .before .before .pre .1 .ends 9
 
@@ -22,7 +16,7 @@ pub setting-of-spec : {M : Type 1} → statement M
 setting-of-spec =
     tie.close
     (tie.spec
-    element-copy-out-content-at
-    element-copy-out-content-at-2
+    (λ c. search needs)
+    (λ c. search needs)
     content-at-requires
     returns)

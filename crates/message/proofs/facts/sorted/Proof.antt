@@ -4,17 +4,8 @@ use Rattle.message.proofs.facts.sorted.Tie as tie
 use borrow.Author.Needs.{needs}
 use mathlib.Core.Path.{sym, _∙_}
 
-side-of-requires : tie.Need-side-of-requires
-side-of-requires c κs = search needs
-
-parties-of-requires : tie.Need-parties-of-requires
-parties-of-requires c κs = search needs
-
 returns : tie.Need-returns
 returns c = rw (sym (c .before .before .side-of .ensures) ∙ c .before .if1 .taken) (c .parties-of .ensures)
-
-parties-of-requires-2 : tie.Need-parties-of-requires-2
-parties-of-requires-2 c κs = search needs
 
 returns-2 : tie.Need-returns-2
 returns-2 c = rw (sym (c .before .before .side-of .ensures) ∙ c .before .if1 .left) (c .parties-of2 .ensures)
@@ -22,4 +13,4 @@ returns-2 c = rw (sym (c .before .before .side-of .ensures) ∙ c .before .if1 .
 pub sorted-spec : {M : Type 1} → statement M
 sorted-spec =
     tie.close
-    (tie.spec side-of-requires parties-of-requires returns parties-of-requires-2 returns-2)
+    (tie.spec (λ c κs. search needs) (λ c κs. search needs) returns (λ c κs. search needs) returns-2)

@@ -4,12 +4,9 @@ use Rattle.message.proofs.facts.wrong_number.Tie as tie
 use Rattle.message.specs.Message.{wrongNumber}
 use borrow.Author.Needs.{needs}
 
-and-requires : tie.Need-and-requires
-and-requires c κs = search needs
-
 returns : tie.Need-returns
 unfolding wrongNumber
 returns c = cc
 
 pub wrong-number-spec : {M : Type 1} → statement M
-wrong-number-spec = tie.close (tie.spec and-requires returns)
+wrong-number-spec = tie.close (tie.spec (λ c κs. search needs) returns)

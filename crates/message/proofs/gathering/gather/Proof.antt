@@ -2,7 +2,7 @@
 use Prim.Native.Nat.{_≤_, _<_, _-_}
 use Rattle.json.proofs.PlaceLaws.{closing-is, raw-is}
 use Rattle.json.specs.Places.{valueOf, membersFrom}
-use Rattle.message.proofs.GatherLaws.{Sofar, started, over, repeats, goes-on, no-more, one-more, spent, no-comma, comma, has-is, note-is, number-is, there}
+use Rattle.fields.proofs.GatherLaws.{Sofar, started, over, repeats, goes-on, no-more, one-more, spent, no-comma, comma, has-is, note-is, number-is, there}
 use Rattle.message.proofs.gathering.gather.Statement.{statement}
 use Rattle.message.proofs.gathering.gather.Tie as tie
 use Rattle.rules.specs.Names.{fields}
@@ -17,17 +17,8 @@ Inv-loop s o at₀ p₀ n₀ at p n = (0 < p) × ((p ≤ length s) × ((length s
 abbrev μ-loop : tie.MeasureT-loop
 μ-loop s o at₀ p₀ n₀ at p n = n
 
-add-p : tie.Need-add-p Inv-loop μ-loop
-add-p c = search needs
-
 loop-holds : tie.Need-loop-holds Inv-loop μ-loop
 loop-holds c = (search needs, (search needs, (search needs, started fields (c .before .args .s .now) (c .before .args .o))))
-
-skip-requires : tie.Need-skip-requires Inv-loop μ-loop
-skip-requires c κs = search needs
-
-byte-requires : tie.Need-byte-requires Inv-loop μ-loop
-byte-requires c κs = search needs
 
 returns : tie.Need-returns Inv-loop μ-loop
 returns c =
@@ -39,9 +30,6 @@ returns c =
     let q = b .before .skip .result in
     over (l .loop .inv .1 .1 .1) (no-more s (l .loop .n) (l .loop .p) (b .before .skip .ensures .is) (λ e. c .if1 .taken (b .byte .ensures ∙ e)))
 
-member-at-requires : tie.Need-member-at-requires Inv-loop μ-loop
-member-at-requires c κs = search needs
-
 add-part : tie.Need-add-part Inv-loop μ-loop
 add-part c =
     let x = c .before .before .before .before .before .before .before .args in
@@ -50,74 +38,73 @@ add-part c =
 sub-part : tie.Need-sub-part Inv-loop μ-loop
 sub-part c = omega (arith, c .member-at .ensures .named .low, c .before .before .before .skip .ensures .low, c .before .before .before .before .before .loop .inv .0)
 
-part-requires : tie.Need-part-requires Inv-loop μ-loop
-part-requires c κs = search needs
-
-field-requires : tie.Need-field-requires Inv-loop μ-loop
-field-requires c κs = search needs
-
-is-noted-requires : tie.Need-is-noted-requires Inv-loop μ-loop
-is-noted-requires c κs = search needs
-
 returns-2 : tie.Need-returns-2 Inv-loop μ-loop
 returns-2 c =
-    let b = c .before .before .before .before .before .before .before in
+    let at-part = c .before .before .before .before in
+    let at-member-at = at-part .before in
+    let at-if1 = at-member-at .before in
+    let at-byte = at-if1 .before in
+    let b = at-byte in
     let l = b .before .before .before in
     let x = l .before .before .args in
     let s = x .s .now in
     let ns = fields in
     let q = b .before .skip .result in
-    let one = one-more s (l .loop .n) (l .loop .p) (omega arith) (b .before .skip .ensures .is) (sym (b .byte .ensures) ∙ c .before .before .before .before .before .before .if1 .left) in
-    let m = c .before .before .before .before .before .member-at in
-    let k = number-is ns s q (c .before .before .before .before .part .ensures ∙ raw-is s q (closing-is s q (m .ensures .named))) (c .before .before .before .field .ensures .0) in
+    let one = one-more s (l .loop .n) (l .loop .p) (omega arith) (b .before .skip .ensures .is) (sym (b .byte .ensures) ∙ at-if1 .if1 .left) in
+    let m = at-member-at .member-at in
+    let k = number-is ns s q (at-part .part .ensures ∙ raw-is s q (closing-is s q (m .ensures .named))) (c .before .before .before .field .ensures .0) in
     repeats (l .loop .inv .1 .1 .1) q _ one (λ e. omega (arith, b .before .skip .ensures .low))
     (sym (has-is ns s (l .loop .at) q k (c .before .is-noted .ensures)) ∙ c .if2 .taken)
 
-note-requires : tie.Need-note-requires Inv-loop μ-loop
-note-requires c κs = search needs
-
-byte-requires-2 : tie.Need-byte-requires-2 Inv-loop μ-loop
-byte-requires-2 c κs = search needs
-
 returns-3 : tie.Need-returns-3 Inv-loop μ-loop
 returns-3 c =
-    let b = c .before .before .before .before .before .before .before .before .before .before .before in
+    let at-if2 = c .before .before .before .before in
+    let at-is-noted = at-if2 .before in
+    let at-field = at-is-noted .before .before in
+    let at-part = at-field .before in
+    let at-member-at = at-part .before in
+    let at-if1 = at-member-at .before in
+    let at-byte = at-if1 .before in
+    let b = at-byte in
     let l = b .before .before .before in
     let x = l .before .before .args in
     let s = x .s .now in
     let ns = fields in
     let q = b .before .skip .result in
-    let one = one-more s (l .loop .n) (l .loop .p) (omega arith) (b .before .skip .ensures .is) (sym (b .byte .ensures) ∙ c .before .before .before .before .before .before .before .before .before .before .if1 .left) in
-    let m = c .before .before .before .before .before .before .before .before .before .member-at in
-    let k = number-is ns s q (c .before .before .before .before .before .before .before .before .part .ensures ∙ raw-is s q (closing-is s q (m .ensures .named))) (c .before .before .before .before .before .before .before .field .ensures .0) in
-    let new = sym (has-is ns s (l .loop .at) q k (c .before .before .before .before .before .is-noted .ensures)) ∙ c .before .before .before .before .if2 .left in
+    let one = one-more s (l .loop .n) (l .loop .p) (omega arith) (b .before .skip .ensures .is) (sym (b .byte .ensures) ∙ at-if1 .if1 .left) in
+    let m = at-member-at .member-at in
+    let k = number-is ns s q (at-part .part .ensures ∙ raw-is s q (closing-is s q (m .ensures .named))) (at-field .field .ensures .0) in
+    let new = sym (has-is ns s (l .loop .at) q k (at-is-noted .is-noted .ensures)) ∙ at-if2 .if2 .left in
     let at = note-is ns s (l .loop .at) q k (m .ensures .begins .is) (c .before .before .note .ensures) in
     over (goes-on (l .loop .inv .1 .1 .1) q _ one new at (no-comma s _ (valueOf s q) (m .ensures .goes .is) (λ e. c .if3 .taken (c .before .byte2 .ensures ∙ e)))) refl
 
 add-p-2 : tie.Need-add-p-2 Inv-loop μ-loop
 add-p-2 c =
-    let l = c .before .before .before .before .before .before .before .before .before .before .before .before .before .before in
-    let m = c .before .before .before .before .before .before .before .before .before .member-at in
+    let at-member-at = c .before .before .before .before .before .before .before .before .before in
+    let at-loop = at-member-at .before .before .before .before .before in
+    let l = at-loop in
+    let m = at-member-at .member-at in
     omega (arith, l .loop .inv .1 .1 .0, there (l .before .before .args .s .now) (m .result .then) 43 (sym (c .before .byte2 .ensures) ∙ c .if3 .left))
-
-sub-n : tie.Need-sub-n Inv-loop μ-loop
-sub-n c = search needs
-
-loop-less : tie.Need-loop-less Inv-loop μ-loop
-loop-less c = search needs
 
 loop-again : tie.Need-loop-again Inv-loop μ-loop
 loop-again c =
-    let b = c .before .before .before .before .before .before .before .before .before .before .before in
+    let at-if2 = c .before .before .before .before in
+    let at-is-noted = at-if2 .before in
+    let at-field = at-is-noted .before .before in
+    let at-part = at-field .before in
+    let at-member-at = at-part .before in
+    let at-if1 = at-member-at .before in
+    let at-byte = at-if1 .before in
+    let b = at-byte in
     let l = b .before .before .before in
     let x = l .before .before .args in
     let s = x .s .now in
     let ns = fields in
     let q = b .before .skip .result in
-    let one = one-more s (l .loop .n) (l .loop .p) (omega arith) (b .before .skip .ensures .is) (sym (b .byte .ensures) ∙ c .before .before .before .before .before .before .before .before .before .before .if1 .left) in
-    let m = c .before .before .before .before .before .before .before .before .before .member-at in
-    let k = number-is ns s q (c .before .before .before .before .before .before .before .before .part .ensures ∙ raw-is s q (closing-is s q (m .ensures .named))) (c .before .before .before .before .before .before .before .field .ensures .0) in
-    let new = sym (has-is ns s (l .loop .at) q k (c .before .before .before .before .before .is-noted .ensures)) ∙ c .before .before .before .before .if2 .left in
+    let one = one-more s (l .loop .n) (l .loop .p) (omega arith) (b .before .skip .ensures .is) (sym (b .byte .ensures) ∙ at-if1 .if1 .left) in
+    let m = at-member-at .member-at in
+    let k = number-is ns s q (at-part .part .ensures ∙ raw-is s q (closing-is s q (m .ensures .named))) (at-field .field .ensures .0) in
+    let new = sym (has-is ns s (l .loop .at) q k (at-is-noted .is-noted .ensures)) ∙ at-if2 .if2 .left in
     let at = note-is ns s (l .loop .at) q k (m .ensures .begins .is) (c .before .before .note .ensures) in
     let e = sym (c .before .byte2 .ensures) ∙ c .if3 .left in (
       search needs,
@@ -139,23 +126,23 @@ gather-spec =
     (tie.spec
     Inv-loop
     μ-loop
-    add-p
+    (λ c. search needs)
     loop-holds
-    skip-requires
-    byte-requires
+    (λ c κs. search needs)
+    (λ c κs. search needs)
     returns
-    member-at-requires
+    (λ c κs. search needs)
     add-part
     sub-part
-    part-requires
-    field-requires
-    is-noted-requires
+    (λ c κs. search needs)
+    (λ c κs. search needs)
+    (λ c κs. search needs)
     returns-2
-    note-requires
-    byte-requires-2
+    (λ c κs. search needs)
+    (λ c κs. search needs)
     returns-3
     add-p-2
-    sub-n
-    loop-less
+    (λ c. search needs)
+    (λ c. search needs)
     loop-again
     returns-4)

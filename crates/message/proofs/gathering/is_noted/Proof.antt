@@ -8,14 +8,8 @@ use native.Mathlib.Omega.{arith}
 returns : tie.Need-returns
 returns c = rw (le-ltb 0 (c .before .args .k) (omega arith))
 
-mul-result : tie.Need-mul-result
-mul-result c = search needs
-
-element-copy-out-result : tie.Need-element-copy-out-result
-element-copy-out-result c = search needs
-
 returns-2 : tie.Need-returns-2
 returns-2 c = rw (lt-ltb 0 (c .before .before .args .k) (omega arith))
 
 pub is-noted-spec : {M : Type 1} → statement M
-is-noted-spec = tie.close (tie.spec returns mul-result element-copy-out-result returns-2)
+is-noted-spec = tie.close (tie.spec returns (λ c. search needs) (λ c. search needs) returns-2)

@@ -4,12 +4,6 @@ use Rattle.message.proofs.gathering.note.Tie as tie
 use borrow.Author.Needs.{needs}
 use borrow.Author.Tests.{eq-eqb, ne-eqb}
 
-mul-at : tie.Need-mul-at
-mul-at c = search needs
-
-element-write-at : tie.Need-element-write-at
-element-write-at c = search needs
-
 returns : tie.Need-returns
 returns c = rw (ne-eqb _ _ (c .if1 .taken))
 
@@ -17,4 +11,4 @@ returns-2 : tie.Need-returns-2
 returns-2 c = rw (eq-eqb _ _ (c .if1 .left))
 
 pub note-spec : {M : Type 1} → statement M
-note-spec = tie.close (tie.spec mul-at element-write-at returns returns-2)
+note-spec = tie.close (tie.spec (λ c. search needs) (λ c. search needs) returns returns-2)

@@ -4,12 +4,9 @@ use Rattle.message.proofs.parties.call_id.Tie as tie
 use Rattle.message.specs.Parties.{callIdOf}
 use borrow.Author.Needs.{needs}
 
-part-at-requires : tie.Need-part-at-requires
-part-at-requires c κs = search needs
-
 returns : tie.Need-returns
 unfolding callIdOf
 returns c = c .part-at .ensures
 
 pub call-id-spec : {M : Type 1} → statement M
-call-id-spec = tie.close (tie.spec part-at-requires returns)
+call-id-spec = tie.close (tie.spec (λ c κs. search needs) returns)

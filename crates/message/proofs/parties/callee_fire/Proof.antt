@@ -4,12 +4,9 @@ use Rattle.message.proofs.parties.callee_fire.Tie as tie
 use Rattle.message.specs.Parties.{calleeFireOf}
 use borrow.Author.Needs.{needs}
 
-part-at-requires : tie.Need-part-at-requires
-part-at-requires c κs = search needs
-
 returns : tie.Need-returns
 unfolding calleeFireOf
 returns c = c .part-at .ensures
 
 pub callee-fire-spec : {M : Type 1} → statement M
-callee-fire-spec = tie.close (tie.spec part-at-requires returns)
+callee-fire-spec = tie.close (tie.spec (λ c κs. search needs) returns)

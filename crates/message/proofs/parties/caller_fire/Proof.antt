@@ -4,12 +4,9 @@ use Rattle.message.proofs.parties.caller_fire.Tie as tie
 use Rattle.message.specs.Parties.{callerFireOf}
 use borrow.Author.Needs.{needs}
 
-part-at-requires : tie.Need-part-at-requires
-part-at-requires c κs = search needs
-
 returns : tie.Need-returns
 unfolding callerFireOf
 returns c = c .part-at .ensures
 
 pub caller-fire-spec : {M : Type 1} → statement M
-caller-fire-spec = tie.close (tie.spec part-at-requires returns)
+caller-fire-spec = tie.close (tie.spec (λ c κs. search needs) returns)

@@ -4,12 +4,9 @@ use Rattle.message.proofs.parties.user.Tie as tie
 use Rattle.message.specs.Parties.{userOf}
 use borrow.Author.Needs.{needs}
 
-part-at-requires : tie.Need-part-at-requires
-part-at-requires c κs = search needs
-
 returns : tie.Need-returns
 unfolding userOf
 returns c = c .part-at .ensures
 
 pub user-spec : {M : Type 1} → statement M
-user-spec = tie.close (tie.spec part-at-requires returns)
+user-spec = tie.close (tie.spec (λ c κs. search needs) returns)

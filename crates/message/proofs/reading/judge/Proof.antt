@@ -1,92 +1,103 @@
 -- `message::reading::judge` meets its contract. By its definition and what the callees ensure. Assumes nothing.
-use Rattle.message.proofs.FactLaws.{setting-tag}
+use Prim.Native.Nat.{ℕ}
+use Rattle.fields.specs.Spans.{textAt}
+use Rattle.message.proofs.CheckLaws.{none-missing, one-missing}
+use Rattle.message.proofs.EnvelopeLaws.{asked, envelope-broken, envelope-kept}
+use Rattle.message.proofs.FactLaws.{method-few, setting-tag}
 use Rattle.message.proofs.reading.judge.Statement.{statement}
 use Rattle.message.proofs.reading.judge.Tie as tie
-use Rattle.message.specs.Message.{methodOf, numberOf}
+use Rattle.message.specs.Message.{methodOf, first}
 use Rattle.message.specs.Reading.{judged}
-use Rattle.message.specs.declared.reading.Reading.the-variants.{Read}
-use Rattle.message.specs.Route.{routeIn}
-use Rattle.message.specs.Via.{viaRule}
+use Rattle.message.specs.inner.Facts.{FactsOf}
 use borrow.Author.Needs.{needs}
-use borrow.Author.Tests.{lt-ltb, le-ltb}
-use mathlib.Core.Path.{sym, ap, _∙_}
+use borrow.Author.Tests.{le-ltb, lt-ltb}
+use lib.ListN.{getD}
+use mathlib.Core.Bool.{true}
+use mathlib.Core.Path.{subst, sym, _∙_}
 use native.Mathlib.Omega.{arith}
-
-element-copy-out-value-at : tie.Need-element-copy-out-value-at
-element-copy-out-value-at c = search needs
-
-element-copy-out-value-at-2 : tie.Need-element-copy-out-value-at-2
-element-copy-out-value-at-2 c = search needs
-
-value-at-requires : tie.Need-value-at-requires
-value-at-requires c κs = c .before .before .before .pre .1 .ends 6
-
-walk-via-requires : tie.Need-walk-via-requires
-walk-via-requires c κs = search needs
-
-check-run-requires : tie.Need-check-run-requires
-check-run-requires c κs = let x = c .before .before .before .before .before in (x .pre .0, (search needs, (x .pre .1, c .walk-via .ensures .0 ∙ ap viaRule (c .before .value-at .ensures))))
-
-enum-known-n : tie.Need-enum-known-n
-enum-known-n c = search needs
-
-enum-told : tie.Need-enum-told
-enum-told c = search needs
-
-probe-of-requires : tie.Need-probe-of-requires
-probe-of-requires c κs = search needs
 
 returns : tie.Need-returns
 unfolding judged
-returns c = rw (sym (c .before .before .before .before .check-run .ensures) ∙ c .before .before .enum-told .given .1, lt-ltb _ _ (c .before .if1 .taken)) (ap Read (c .probe-of .ensures))
+returns c = let x = c .before .before .before .args in rw (sym (one-missing (x .s .now) true (first (x .tag)) (x .at .now) (c .before .lacking .ensures .0) (c .if1 .taken)))
 
-element-copy-out-sequence-at : tie.Need-element-copy-out-sequence-at
-element-copy-out-sequence-at c = search needs
-
-element-copy-out-sequence-at-2 : tie.Need-element-copy-out-sequence-at-2
-element-copy-out-sequence-at-2 c = search needs
-
-sequence-at-requires : tie.Need-sequence-at-requires
-sequence-at-requires c κs = c .before .before .before .before .before .before .before .before .before .before .before .pre .1 .ends 1
-
-setting-of-requires : tie.Need-setting-of-requires
-unfolding methodOf
-setting-of-requires c κs = (c .sequence-at .ensures .1 .0, c .before .before .before .before .before .before .before .before .before .before .before .before .pre .1)
-
-settle-requires : tie.Need-settle-requires
-unfolding numberOf
-settle-requires c κs =
-    let x = c .before .before .before .before .before .before .before .before .before .before .before .before .before in
-    let v = c .before .before .before .before .before .before .before .before .before .value-at .ensures in
-    let w = c .before .before .before .before .before .before .before .before .walk-via .ensures in
-    let e = setting-tag (x .args .s .now) (x .args .tag) (x .args .at .now) (c .setting-of .ensures .0) in
-    (omega (arith, x .pre .0), (omega (arith, c .setting-of .ensures .1, c .before .sequence-at .ensures .1 .1), (c .before .sequence-at .ensures .0, (x .pre .1, (w .0 ∙ ap viaRule v, w .1 ∙ ap routeIn v)))))
+settle-probe-requires : tie.Need-settle-probe-requires
+settle-probe-requires c κs =
+    let start = c .before .before .before .before in
+    (c .if2 .taken, (start .pre .1 .0, start .pre .1 .1))
 
 returns-2 : tie.Need-returns-2
 unfolding judged
-returns-2 c = rw (sym (c .before .before .before .check-run .ensures) ∙ c .before .n .given .1)
+returns-2 c = let x = c .before .before .before .before .before .args in
+    rw (
+      none-missing (x .s .now) true (first (x .tag)) (x .at .now) (c .before .before .before .lacking .ensures .0) (c .before .before .if1 .left),
+      lt-ltb _ _ (c .before .if2 .taken),
+    ) (c .settle-probe .ensures)
+
+judge-envelope-requires : tie.Need-judge-envelope-requires
+judge-envelope-requires c κs =
+    let start = c .before .before .before .before in (
+      asked (start .args .s .now) (start .args .at .now) (start .args .tag) (start .pre .0) (omega (arith, c .if2 .left))
+          (sym (c .before .before .lacking .ensures .0) ∙ c .before .if1 .left),
+      start .pre .1 .1,
+    )
+
+setting-of-requires : tie.Need-setting-of-requires
+setting-of-requires c κs =
+    let start = c .before .before .before .before .before .before .before .before in (
+      envelope-kept (start .args .s .now) (start .args .at .now) (start .args .tag) (c .before .f .given .1) (c .before .before .before .judge-envelope .ensures) .1 .methodic,
+      start .pre .1 .1,
+    )
+
+settle-requires : tie.Need-settle-requires
+unfolding methodOf
+settle-requires c κs =
+    let at-judge-envelope = c .before .before .before .before in
+    let start = at-judge-envelope .before .before .before .before .before in
+    let x = start .args in let k = envelope-kept (x .s .now) (x .at .now) (x .tag) (c .before .before .f .given .1) (at-judge-envelope .judge-envelope .ensures) .1 in
+    let e = setting-tag (x .s .now) (x .tag) (x .at .now) (c .setting-of .ensures .0) in (
+      omega (arith, start .pre .1 .0),
+      (
+        omega (arith, c .setting-of .ensures .1, k .methodic, method-few (textAt (x .s .now) (getD (x .at .now) 1 0))),
+        (subst (λ (n : ℕ). FactsOf (x .s .now) n (x .at .now) (c .before .before .f .given .0 .0)) (sym e) k, start .pre .1 .1),
+      ),
+    )
 
 returns-3 : tie.Need-returns-3
 unfolding judged
-returns-3 c = rw (sym (c .before .before .before .before .before .before .before .before .check-run .ensures) ∙ c .before .before .before .before .before .before .enum-told .given .1, le-ltb _ _ (c .before .before .before .before .before .if1 .left)) (rw (c .before .setting-of .ensures .0) at (c .settle .ensures))
+returns-3 c =
+    let at-if1 = c .before .before .before .before .before in
+    let at-lacking = at-if1 .before in
+    let start = at-lacking .before .before in
+    let x = start .args in rw (none-missing (x .s .now) true (first (x .tag)) (x .at .now) (at-lacking .lacking .ensures .0) (at-if1 .if1 .left)
+    ∙ envelope-broken (x .s .now) (x .at .now) (x .tag) (c .before .p .given .1) (c .before .before .before .judge-envelope .ensures))
+
+returns-4 : tie.Need-returns-4
+unfolding judged
+returns-4 c =
+    let at-judge-envelope = c .before .before .before .before .before in
+    let at-if2 = at-judge-envelope .before in
+    let at-if1 = at-if2 .before in
+    let at-lacking = at-if1 .before in
+    let start = at-lacking .before .before in
+    let x = start .args in rw (
+      none-missing (x .s .now) true (first (x .tag)) (x .at .now) (at-lacking .lacking .ensures .0) (at-if1 .if1 .left)
+          ∙ envelope-kept (x .s .now) (x .at .now) (x .tag) (c .before .before .before .f .given .1) (at-judge-envelope .judge-envelope .ensures) .0,
+      le-ltb _ _ (at-if2 .if2 .left),
+    )
+    (rw (c .before .setting-of .ensures .0) at (c .settle .ensures))
 
 pub judge-spec : {M : Type 1} → statement M
 judge-spec =
     tie.close
     (tie.spec
-    element-copy-out-value-at
-    element-copy-out-value-at-2
-    value-at-requires
-    walk-via-requires
-    check-run-requires
-    enum-known-n
-    enum-told
-    probe-of-requires
+    (λ c κs. search needs)
     returns
-    element-copy-out-sequence-at
-    element-copy-out-sequence-at-2
-    sequence-at-requires
+    settle-probe-requires
+    returns-2
+    judge-envelope-requires
+    (λ c. search needs)
+    (λ c. search needs)
     setting-of-requires
     settle-requires
-    returns-2
-    returns-3)
+    returns-3
+    returns-4)

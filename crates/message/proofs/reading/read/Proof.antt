@@ -12,23 +12,14 @@ returns c = too-short (c .before .before .args .s .now) (c .if1 .taken)
 returns-2 : tie.Need-returns-2
 returns-2 c = too-long (c .before .before .before .args .s .now) (c .if2 .taken)
 
-check-requires : tie.Need-check-requires
-check-requires c κs = search needs
-
-enum-known-p : tie.Need-enum-known-p
-enum-known-p c = search needs
-
-enum-told : tie.Need-enum-told
-enum-told c = search needs
-
-tell-requires : tie.Need-tell-requires
-tell-requires c κs = search needs
-
 returns-3 : tie.Need-returns-3
-returns-3 c = let k = c .before .before .before in let s = k .before .before .before .before .args .s .now in let b = in-bounds s (k .before .before .if1 .left) (k .before .if2 .left) in sym (b ∙ ap (onUtf8 s) (sym (k .check .ensures) ∙ c .before .p .given .1))
+returns-3 c = let k = c .before .before .before in let s = k .before .before .before .before .args .s .now in
+    let b = in-bounds s (k .before .before .if1 .left) (k .before .if2 .left) in sym (b ∙ ap (onUtf8 s) (sym (k .check .ensures) ∙ c .before .p .given .1))
 
 returns-4 : tie.Need-returns-4
-returns-4 c = let k = c .before .before .before in let s = k .before .before .before .before .args .s .now in let b = in-bounds s (k .before .before .if1 .left) (k .before .if2 .left) in c .tell .ensures ∙ sym (b ∙ ap (onUtf8 s) (sym (k .check .ensures) ∙ c .before .enum-told .given .1))
+returns-4 c = let k = c .before .before .before in let s = k .before .before .before .before .args .s .now in
+    let b = in-bounds s (k .before .before .if1 .left) (k .before .if2 .left) in
+    c .tell .ensures ∙ sym (b ∙ ap (onUtf8 s) (sym (k .check .ensures) ∙ c .before .enum-told .given .1))
 
 pub read-spec : {M : Type 1} → statement M
 read-spec =
@@ -36,9 +27,9 @@ read-spec =
     (tie.spec
     returns
     returns-2
-    check-requires
-    enum-known-p
-    enum-told
-    tell-requires
+    (λ c κs. search needs)
+    (λ c. search needs)
+    (λ c. search needs)
+    (λ c κs. search needs)
     returns-3
     returns-4)

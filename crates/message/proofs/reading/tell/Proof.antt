@@ -7,54 +7,39 @@ use Rattle.message.specs.Reading.{onJson}
 use borrow.Author.Needs.{needs}
 use mathlib.Core.Path.{sym, ap, _∙_}
 
-walk-text-requires : tie.Need-walk-text-requires
-walk-text-requires c κs = search needs
-
 judge-requires : tie.Need-judge-requires
 judge-requires c κs =
     let u = c .before .before .before .before .before .walk-text .ensures in
     let h = c .before .before .if1 .taken in
-    (usual-few u h, usual-ends u h)
+    (h, (usual-few u h, usual-ends u h))
 
 returns : tie.Need-returns
 returns c = c .judge .ensures ∙ usual-read (c .before .before .before .before .before .before .walk-text .ensures) (c .before .before .before .if1 .taken)
 
-read-requires : tie.Need-read-requires
-read-requires c κs = search needs
-
-enum-known-p : tie.Need-enum-known-p
-enum-known-p c = search needs
-
-enum-known-p-2 : tie.Need-enum-known-p-2
-enum-known-p-2 c = search needs
-
-enum-told : tie.Need-enum-told
-enum-told c = search needs
-
-shape-requires : tie.Need-shape-requires
-shape-requires c κs = search needs
-
 returns-2 : tie.Need-returns-2
-returns-2 c = let r = c .before .before .before in let s = r .before .before .before .before .before .before .args .s .now in sym (ap (onJson s) (sym (verdict-answer s _ (r .read .ensures)) ∙ c .before .p .given .1))
+returns-2 c = let r = c .before .before .before in let s = r .before .before .before .before .before .before .args .s .now in
+    sym (ap (onJson s) (sym (verdict-answer s _ (r .read .ensures)) ∙ c .before .p .given .1))
 
 returns-3 : tie.Need-returns-3
-returns-3 c = let r = c .before .before .before in let s = r .before .before .before .before .before .before .args .s .now in sym (ap (onJson s) (sym (verdict-answer s _ (r .read .ensures)) ∙ c .before .p2 .given .1))
+returns-3 c = let r = c .before .before .before in let s = r .before .before .before .before .before .before .args .s .now in
+    sym (ap (onJson s) (sym (verdict-answer s _ (r .read .ensures)) ∙ c .before .p2 .given .1))
 
 returns-4 : tie.Need-returns-4
-returns-4 c = let r = c .before .before .before in let s = r .before .before .before .before .before .before .args .s .now in c .shape .ensures ∙ sym (ap (onJson s) (sym (verdict-answer s _ (r .read .ensures)) ∙ c .before .enum-told .given .1))
+returns-4 c = let r = c .before .before .before in let s = r .before .before .before .before .before .before .args .s .now in
+    c .shape .ensures ∙ sym (ap (onJson s) (sym (verdict-answer s _ (r .read .ensures)) ∙ c .before .enum-told .given .1))
 
 pub tell-spec : {M : Type 1} → statement M
 tell-spec =
     tie.close
     (tie.spec
-    walk-text-requires
+    (λ c κs. search needs)
     judge-requires
     returns
-    read-requires
-    enum-known-p
-    enum-known-p-2
-    enum-told
-    shape-requires
+    (λ c κs. search needs)
+    (λ c. search needs)
+    (λ c. search needs)
+    (λ c. search needs)
+    (λ c κs. search needs)
     returns-2
     returns-3
     returns-4)

@@ -1,5 +1,5 @@
 -- `message::shapes::shape_of` meets its contract. One law of `ShapeLaws` for each way out. Assumes nothing.
-use Rattle.message.proofs.GatherLaws.{there}
+use Rattle.fields.proofs.GatherLaws.{there}
 use Rattle.message.proofs.ShapeLaws.{shapeless, no-array, no-tag, one-alone, no-object, three, a-pair}
 use Rattle.message.proofs.shapes.shape_of.Statement.{statement}
 use Rattle.message.proofs.shapes.shape_of.Tie as tie
@@ -7,15 +7,6 @@ use borrow.Author.Needs.{needs}
 use lib.ListN.{length}
 use mathlib.Core.Path.{refl, sym, _∙_}
 use native.Mathlib.Omega.{arith}
-
-skip-requires : tie.Need-skip-requires
-skip-requires c κs = search needs
-
-byte-requires : tie.Need-byte-requires
-byte-requires c κs = search needs
-
-none-requires : tie.Need-none-requires
-none-requires c κs = search needs
 
 returns : tie.Need-returns
 returns c =
@@ -27,15 +18,6 @@ returns c =
 add-skip : tie.Need-add-skip
 add-skip c = let b = c .before in omega (arith, there (b .before .before .before .args .s .now) (b .before .skip .result) 90 (sym (b .byte .ensures) ∙ c .if1 .left))
 
-skip-requires-2 : tie.Need-skip-requires-2
-skip-requires-2 c κs = search needs
-
-byte-requires-2 : tie.Need-byte-requires-2
-byte-requires-2 c κs = search needs
-
-none-requires-2 : tie.Need-none-requires-2
-none-requires-2 c κs = search needs
-
 returns-2 : tie.Need-returns-2
 returns-2 c =
     let b2 = c .before .before in
@@ -46,15 +28,6 @@ returns-2 c =
     let in-o = there s (b1 .before .skip .result) 90 array in
     let x = b2 .before .skip2 .ensures in
     shapeless s (no-tag s (o .is) (x .is) (length s) refl (omega arith) (λ e. c .before .if2 .taken (b2 .byte2 .ensures ∙ e))) (c .none2 .ensures)
-
-element-at-requires : tie.Need-element-at-requires
-element-at-requires c κs = search needs
-
-byte-requires-3 : tie.Need-byte-requires-3
-byte-requires-3 c κs = search needs
-
-none-requires-3 : tie.Need-none-requires-3
-none-requires-3 c κs = search needs
 
 returns-3 : tie.Need-returns-3
 returns-3 c =
@@ -77,15 +50,6 @@ add-skip-2 c =
     let o = b .before .before .before .before .before .before in
     omega (arith, there (o .before .before .before .args .s .now) (b .before .element-at .result .then) 43 (sym (b .byte3 .ensures) ∙ c .if3 .left))
 
-skip-requires-3 : tie.Need-skip-requires-3
-skip-requires-3 c κs = search needs
-
-byte-requires-4 : tie.Need-byte-requires-4
-byte-requires-4 c κs = search needs
-
-none-requires-4 : tie.Need-none-requires-4
-none-requires-4 c κs = search needs
-
 returns-4 : tie.Need-returns-4
 returns-4 c =
     let b4 = c .before .before in
@@ -103,16 +67,8 @@ returns-4 c =
     let comma = sym (b3 .byte3 .ensures) ∙ b4 .before .before .if3 .left in
     let in-c = there s (b3 .before .element-at .result .then) 43 comma in
     let y = b4 .before .skip3 .ensures in
-    shapeless s (no-object s (o .is) (x .is) (length s) refl (omega arith) string (c1 .goes .is) comma (omega (arith, x .low)) (y .is) (λ e. c .before .if4 .taken (b4 .byte4 .ensures ∙ e))) (c .none4 .ensures)
-
-element-at-requires-2 : tie.Need-element-at-requires-2
-element-at-requires-2 c κs = search needs
-
-byte-requires-5 : tie.Need-byte-requires-5
-byte-requires-5 c κs = search needs
-
-none-requires-5 : tie.Need-none-requires-5
-none-requires-5 c κs = search needs
+    shapeless s (no-object s (o .is) (x .is) (length s) refl (omega arith) string (c1 .goes .is) comma (omega (arith, x .low)) (y .is)
+    (λ e. c .before .if4 .taken (b4 .byte4 .ensures ∙ e))) (c .none4 .ensures)
 
 returns-5 : tie.Need-returns-5
 returns-5 c =
@@ -135,13 +91,8 @@ returns-5 c =
     let object = sym (b4 .byte4 .ensures) ∙ b5 .before .before .if4 .left in
     let in-y = there s (b4 .before .skip3 .result) 122 object in
     let z = b5 .before .element-at2 .ensures in
-    shapeless s (three s (o .is) (x .is) (length s) refl (omega arith) string (c1 .goes .is) comma (omega (arith, x .low)) (y .is) (z .goes .is) (sym (b5 .byte5 .ensures) ∙ c .before .if5 .taken) (omega (arith, x .low, c1 .ends .low, c1 .goes .low, y .low))) (c .none5 .ensures)
-
-name-part-requires : tie.Need-name-part-requires
-name-part-requires c κs = search needs
-
-tag-requires : tie.Need-tag-requires
-tag-requires c κs = search needs
+    shapeless s (three s (o .is) (x .is) (length s) refl (omega arith) string (c1 .goes .is) comma (omega (arith, x .low)) (y .is) (z .goes .is)
+    (sym (b5 .byte5 .ensures) ∙ c .before .if5 .taken) (omega (arith, x .low, c1 .ends .low, c1 .goes .low, y .low))) (c .none5 .ensures)
 
 returns-6 : tie.Need-returns-6
 returns-6 c =
@@ -164,34 +115,35 @@ returns-6 c =
     let object = sym (b4 .byte4 .ensures) ∙ b5 .before .before .if4 .left in
     let in-y = there s (b4 .before .skip3 .result) 122 object in
     let z = b5 .before .element-at2 .ensures in
-    a-pair s (o .is) (x .is) (length s) refl (omega arith) string (c1 .goes .is) comma (omega (arith, x .low)) (y .is) (z .goes .is) array object (λ e. c .before .before .if5 .left (b5 .byte5 .ensures ∙ e)) in-y (c .before .name-part .ensures) (c .tag .ensures)
+    a-pair s (o .is) (x .is) (length s) refl (omega arith) string (c1 .goes .is) comma (omega (arith, x .low)) (y .is) (z .goes .is) array object
+    (λ e. c .before .before .if5 .left (b5 .byte5 .ensures ∙ e)) in-y (c .before .name-part .ensures) (c .tag .ensures)
 
 pub shape-of-spec : {M : Type 1} → statement M
 shape-of-spec =
     tie.close
     (tie.spec
-    skip-requires
-    byte-requires
-    none-requires
+    (λ c κs. search needs)
+    (λ c κs. search needs)
+    (λ c κs. search needs)
     returns
     add-skip
-    skip-requires-2
-    byte-requires-2
-    none-requires-2
+    (λ c κs. search needs)
+    (λ c κs. search needs)
+    (λ c κs. search needs)
     returns-2
-    element-at-requires
-    byte-requires-3
-    none-requires-3
+    (λ c κs. search needs)
+    (λ c κs. search needs)
+    (λ c κs. search needs)
     returns-3
     add-skip-2
-    skip-requires-3
-    byte-requires-4
-    none-requires-4
+    (λ c κs. search needs)
+    (λ c κs. search needs)
+    (λ c κs. search needs)
     returns-4
-    element-at-requires-2
-    byte-requires-5
-    none-requires-5
+    (λ c κs. search needs)
+    (λ c κs. search needs)
+    (λ c κs. search needs)
     returns-5
-    name-part-requires
-    tag-requires
+    (λ c κs. search needs)
+    (λ c κs. search needs)
     returns-6)

@@ -1,20 +1,11 @@
 -- `message::walking::begin` meets its contract. One law of `WalkLaws` for each byte on the way. Assumes nothing.
-use Rattle.message.proofs.GatherLaws.{there}
+use Rattle.fields.proofs.GatherLaws.{there}
 use Rattle.message.proofs.WalkLaws.{no-beginning, begins-no-array, begins-no-string, begins-broken, begins-alone, begins-no-object, begins}
 use Rattle.message.proofs.walking.begin.Statement.{statement}
 use Rattle.message.proofs.walking.begin.Tie as tie
 use borrow.Author.Needs.{needs}
 use mathlib.Core.Path.{sym, _∙_}
 use native.Mathlib.Omega.{arith}
-
-skip-requires : tie.Need-skip-requires
-skip-requires c κs = search needs
-
-byte-requires : tie.Need-byte-requires
-byte-requires c κs = search needs
-
-no-beginning-requires : tie.Need-no-beginning-requires
-no-beginning-requires c κs = search needs
 
 returns : tie.Need-returns
 returns c =
@@ -24,16 +15,8 @@ returns c =
     no-beginning (x .s .now) (begins-no-array (x .s .now) o (λ z. c .before .if1 .taken (c .before .before .byte .ensures ∙ z))) (c .no-beginning .ensures)
 
 add-skip : tie.Need-add-skip
-add-skip c = let x = c .before .before .before .before .args in omega (arith, there (x .s .now) (c .before .before .skip .result) 90 (sym (c .before .byte .ensures) ∙ c .if1 .left))
-
-skip-requires-2 : tie.Need-skip-requires-2
-skip-requires-2 c κs = search needs
-
-byte-requires-2 : tie.Need-byte-requires-2
-byte-requires-2 c κs = search needs
-
-no-beginning-requires-2 : tie.Need-no-beginning-requires-2
-no-beginning-requires-2 c κs = search needs
+add-skip c = let x = c .before .before .before .before .args in
+    omega (arith, there (x .s .now) (c .before .before .skip .result) 90 (sym (c .before .byte .ensures) ∙ c .if1 .left))
 
 returns-2 : tie.Need-returns-2
 returns-2 c =
@@ -47,10 +30,8 @@ returns-2 c =
     no-beginning (x .s .now) (begins-no-string (x .s .now) o array a (λ z. c .before .if2 .taken (c .before .before .byte2 .ensures ∙ z))) (c .no-beginning2 .ensures)
 
 pass-string-requires : tie.Need-pass-string-requires
-pass-string-requires c κs = let x = c .before .before .before .before .before .before .before .args in let e = sym (c .before .byte2 .ensures) ∙ c .if2 .left in (there (x .s .now) (c .before .before .skip2 .result) 33 e, e)
-
-no-beginning-requires-3 : tie.Need-no-beginning-requires-3
-no-beginning-requires-3 c κs = search needs
+pass-string-requires c κs = let x = c .before .before .before .before .before .before .before .args in let e = sym (c .before .byte2 .ensures) ∙ c .if2 .left in
+    (there (x .s .now) (c .before .before .skip2 .result) 33 e, e)
 
 returns-3 : tie.Need-returns-3
 returns-3 c =
@@ -66,15 +47,6 @@ returns-3 c =
     let quote = sym (f2 .before .byte2 .ensures) ∙ f2 .if2 .left in
     let e = ps .pass-string .ensures in
     no-beginning (x .s .now) (begins-broken (x .s .now) o array a quote e (c .before .if3 .taken)) (c .no-beginning3 .ensures)
-
-skip-requires-3 : tie.Need-skip-requires-3
-skip-requires-3 c κs = search needs
-
-byte-requires-3 : tie.Need-byte-requires-3
-byte-requires-3 c κs = search needs
-
-no-beginning-requires-4 : tie.Need-no-beginning-requires-4
-no-beginning-requires-4 c κs = search needs
 
 returns-4 : tie.Need-returns-4
 returns-4 c =
@@ -96,16 +68,8 @@ returns-4 c =
     (begins-alone (x .s .now) o array a quote e (omega (arith, f3 .if3 .left)) b (λ z. c .before .if4 .taken (c .before .before .byte3 .ensures ∙ z))) (c .no-beginning4 .ensures)
 
 add-skip-2 : tie.Need-add-skip-2
-add-skip-2 c = let x = c .before .before .before .before .before .before .before .before .before .before .before .before .args in omega (arith, there (x .s .now) (c .before .before .skip3 .result) 43 (sym (c .before .byte3 .ensures) ∙ c .if4 .left))
-
-skip-requires-4 : tie.Need-skip-requires-4
-skip-requires-4 c κs = search needs
-
-byte-requires-4 : tie.Need-byte-requires-4
-byte-requires-4 c κs = search needs
-
-no-beginning-requires-5 : tie.Need-no-beginning-requires-5
-no-beginning-requires-5 c κs = search needs
+add-skip-2 c = let x = c .before .before .before .before .before .before .before .before .before .before .before .before .args in
+    omega (arith, there (x .s .now) (c .before .before .skip3 .result) 43 (sym (c .before .byte3 .ensures) ∙ c .if4 .left))
 
 returns-5 : tie.Need-returns-5
 returns-5 c =
@@ -132,16 +96,10 @@ returns-5 c =
     (c .no-beginning5 .ensures)
 
 add-part : tie.Need-add-part
-add-part c = let b2 = c .before .before .before .before .before .before .before .before .before in let x = b2 .before .before .before .before .before .before .args in omega (arith, there (x .s .now) (b2 .before .skip2 .result) 33 (sym (b2 .byte2 .ensures) ∙ c .before .before .before .before .before .before .before .before .if2 .left))
-
-sub-part : tie.Need-sub-part
-sub-part c = search needs
-
-part-requires : tie.Need-part-requires
-part-requires c κs = search needs
-
-tag-requires : tie.Need-tag-requires
-tag-requires c κs = search needs
+add-part c =
+    let b2 = c .before .before .before .before .before .before .before .before .before in
+    let x = b2 .before .before .before .before .before .before .args in
+    omega (arith, there (x .s .now) (b2 .before .skip2 .result) 33 (sym (b2 .byte2 .ensures) ∙ c .before .before .before .before .before .before .before .before .if2 .left))
 
 returns-6 : tie.Need-returns-6
 returns-6 c =
@@ -170,29 +128,29 @@ pub begin-spec : {M : Type 1} → statement M
 begin-spec =
     tie.close
     (tie.spec
-    skip-requires
-    byte-requires
-    no-beginning-requires
+    (λ c κs. search needs)
+    (λ c κs. search needs)
+    (λ c κs. search needs)
     returns
     add-skip
-    skip-requires-2
-    byte-requires-2
-    no-beginning-requires-2
+    (λ c κs. search needs)
+    (λ c κs. search needs)
+    (λ c κs. search needs)
     returns-2
     pass-string-requires
-    no-beginning-requires-3
+    (λ c κs. search needs)
     returns-3
-    skip-requires-3
-    byte-requires-3
-    no-beginning-requires-4
+    (λ c κs. search needs)
+    (λ c κs. search needs)
+    (λ c κs. search needs)
     returns-4
     add-skip-2
-    skip-requires-4
-    byte-requires-4
-    no-beginning-requires-5
+    (λ c κs. search needs)
+    (λ c κs. search needs)
+    (λ c κs. search needs)
     returns-5
     add-part
-    sub-part
-    part-requires
-    tag-requires
+    (λ c. search needs)
+    (λ c κs. search needs)
+    (λ c κs. search needs)
     returns-6)

@@ -1,8 +1,8 @@
 -- `message::walking::walk_fields` meets its contract. The loop keeps the machine's answer beside what is gathered; one law of `WalkLaws` for each way out. Assumes nothing.
 use Prim.Native.Nat.{_≤_, _<_}
 use Rattle.json.proofs.PassLaws.{member-passed, member-stuck}
-use Rattle.json.specs.Machine.{alone}
-use Rattle.message.proofs.GatherLaws.{there}
+use Rattle.json.specs.inner.Machine.{alone}
+use Rattle.fields.proofs.GatherLaws.{there}
 use Rattle.message.proofs.WalkLaws.{Walking, none-listed, walk-starts, walk-spent, no-name, no-member, name-again, no-other, walk-again, walk-shut}
 use Rattle.message.proofs.walking.walk_fields.Statement.{statement}
 use Rattle.message.proofs.walking.walk_fields.Tie as tie
@@ -17,15 +17,6 @@ Inv-loop s o at₀ end₀ p₀ n₀ at end p n = (0 < p) × ((p ≤ length s) ×
 abbrev μ-loop : tie.MeasureT-loop
 μ-loop s o at₀ end₀ p₀ n₀ at end p n = n
 
-add-p : tie.Need-add-p Inv-loop μ-loop
-add-p c = search needs
-
-skip-requires : tie.Need-skip-requires Inv-loop μ-loop
-skip-requires c κs = search needs
-
-byte-requires : tie.Need-byte-requires Inv-loop μ-loop
-byte-requires c κs = search needs
-
 returns : tie.Need-returns Inv-loop μ-loop
 returns c =
     let x = c .before .before .before .before .args in
@@ -37,12 +28,6 @@ loop-holds c =
     let go = walk-starts (x .args .s .now) (x .args .o) (x .pre .1) (c .before .before .skip .ensures .is) (sym (c .before .byte .ensures) ∙ c .if1 .left) in
     (search needs, (search needs, (search needs, go)))
 
-skip-requires-2 : tie.Need-skip-requires-2 Inv-loop μ-loop
-skip-requires-2 c κs = search needs
-
-byte-requires-2 : tie.Need-byte-requires-2 Inv-loop μ-loop
-byte-requires-2 c κs = search needs
-
 returns-2 : tie.Need-returns-2 Inv-loop μ-loop
 returns-2 c =
     let sk = c .before .before in
@@ -50,7 +35,8 @@ returns-2 c =
     no-name (l .loop .inv .1 .1 .1) (sk .skip2 .ensures .is) (λ z. c .if2 .taken (c .before .byte2 .ensures ∙ z)) (l .loop .inv .1 .0)
 
 pass-member-requires : tie.Need-pass-member-requires Inv-loop μ-loop
-pass-member-requires c κs = let x = c .before .before .before .before .before .before .before .before .before .args in let e = sym (c .before .byte2 .ensures) ∙ c .if2 .left in (there (x .s .now) (c .before .before .skip2 .result) 33 e, e)
+pass-member-requires c κs = let x = c .before .before .before .before .before .before .before .before .before .args in let e = sym (c .before .byte2 .ensures) ∙ c .if2 .left in
+    (there (x .s .now) (c .before .before .skip2 .result) 33 e, e)
 
 returns-3 : tie.Need-returns-3 Inv-loop μ-loop
 returns-3 c =
@@ -65,7 +51,10 @@ returns-3 c =
     no-member (l .loop .inv .1 .1 .1) (sk .skip2 .ensures .is) (member-stuck 6 s q (there s q 33 quote) quote (pm .pass-member .ensures) (c .if3 .taken) (alone 7) refl)
 
 add-part : tie.Need-add-part Inv-loop μ-loop
-add-part c = let x = c .before .before .before .before .before .before .before .before .before .before .before .args in omega (arith, there (x .s .now) (c .before .before .before .before .skip2 .result) 33 (sym (c .before .before .before .byte2 .ensures) ∙ c .before .before .if2 .left))
+add-part c =
+    let at-skip2 = c .before .before .before .before in
+    let start = at-skip2 .before .before .before .before .before .before .before in
+    let x = start .args in omega (arith, there (x .s .now) (at-skip2 .skip2 .result) 33 (sym (c .before .before .before .byte2 .ensures) ∙ c .before .before .if2 .left))
 
 sub-part : tie.Need-sub-part Inv-loop μ-loop
 sub-part c =
@@ -79,15 +68,6 @@ sub-part c =
     let quote = sym (f2 .before .byte2 .ensures) ∙ f2 .if2 .left in
     let m = member-passed 6 s q (there s q 33 quote) quote (pm .pass-member .ensures) (omega (arith, f3 .if3 .left)) in
     omega (arith, m .row .named .low, sk .skip2 .ensures .low, l .loop .inv .0)
-
-part-requires : tie.Need-part-requires Inv-loop μ-loop
-part-requires c κs = search needs
-
-field-requires : tie.Need-field-requires Inv-loop μ-loop
-field-requires c κs = search needs
-
-is-noted-requires : tie.Need-is-noted-requires Inv-loop μ-loop
-is-noted-requires c κs = search needs
 
 returns-4 : tie.Need-returns-4 Inv-loop μ-loop
 returns-4 c =
@@ -104,15 +84,6 @@ returns-4 c =
     let m = member-passed 6 s q (there s q 33 quote) quote (pm .pass-member .ensures) (omega (arith, f3 .if3 .left)) in
     name-again (l .loop .inv .1 .1 .1) (sk .skip2 .ensures .is) (sk .before .loop-test .taken) (l .loop .inv .0) quote m
     (g .before .part .ensures) (g .field .ensures .0) (f4 .before .is-noted .ensures) (c .if4 .taken)
-
-note-requires : tie.Need-note-requires Inv-loop μ-loop
-note-requires c κs = search needs
-
-note-requires-2 : tie.Need-note-requires-2 Inv-loop μ-loop
-note-requires-2 c κs = search needs
-
-byte-requires-3 : tie.Need-byte-requires-3 Inv-loop μ-loop
-byte-requires-3 c κs = search needs
 
 add-t34 : tie.Need-add-t34 Inv-loop μ-loop
 add-t34 c =
@@ -190,12 +161,6 @@ add-p-2 c =
     let m = member-passed 6 s q (there s q 33 quote) quote (pm .pass-member .ensures) (omega (arith, f3 .if3 .left)) in
     omega (arith, m .inside, l .loop .inv .1 .1 .0)
 
-sub-n : tie.Need-sub-n Inv-loop μ-loop
-sub-n c = search needs
-
-loop-less : tie.Need-loop-less Inv-loop μ-loop
-loop-less c = search needs
-
 loop-again : tie.Need-loop-again Inv-loop μ-loop
 loop-again c =
     let nn = c .before in
@@ -235,30 +200,30 @@ walk-fields-spec =
     (tie.spec
     Inv-loop
     μ-loop
-    add-p
-    skip-requires
-    byte-requires
+    (λ c. search needs)
+    (λ c κs. search needs)
+    (λ c κs. search needs)
     returns
     loop-holds
-    skip-requires-2
-    byte-requires-2
+    (λ c κs. search needs)
+    (λ c κs. search needs)
     returns-2
     pass-member-requires
     returns-3
     add-part
     sub-part
-    part-requires
-    field-requires
-    is-noted-requires
+    (λ c κs. search needs)
+    (λ c κs. search needs)
+    (λ c κs. search needs)
     returns-4
-    note-requires
-    note-requires-2
-    byte-requires-3
+    (λ c κs. search needs)
+    (λ c κs. search needs)
+    (λ c κs. search needs)
     add-t34
     returns-5
     returns-6
     add-p-2
-    sub-n
-    loop-less
+    (λ c. search needs)
+    (λ c. search needs)
     loop-again
     returns-7)

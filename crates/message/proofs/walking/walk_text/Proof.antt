@@ -1,17 +1,11 @@
 -- `message::walking::walk_text` meets its contract. One law of `WalkLaws` for each way out. Assumes nothing.
-use Rattle.message.proofs.GatherLaws.{there}
+use Rattle.fields.proofs.GatherLaws.{there}
 use Rattle.message.proofs.WalkLaws.{no-walk, fields-unusual, no-bracket, more-behind, usual}
 use Rattle.message.proofs.walking.walk_text.Statement.{statement}
 use Rattle.message.proofs.walking.walk_text.Tie as tie
 use borrow.Author.Needs.{needs}
 use mathlib.Core.Path.{sym, _∙_}
 use native.Mathlib.Omega.{arith}
-
-begin-requires : tie.Need-begin-requires
-begin-requires c κs = search needs
-
-no-walk-requires : tie.Need-no-walk-requires
-no-walk-requires c κs = search needs
 
 returns : tie.Need-returns
 returns c =
@@ -25,9 +19,6 @@ walk-fields-requires c κs =
     let b = c .before .begin .ensures .known (omega (arith, c .if1 .left)) in
     (there (x .s .now) (c .before .begin .result .object) 122 (b .brace), b .brace)
 
-no-walk-requires-2 : tie.Need-no-walk-requires-2
-no-walk-requires-2 c κs = search needs
-
 returns-2 : tie.Need-returns-2
 returns-2 c =
     let wf = c .before .before .before .before in
@@ -37,15 +28,6 @@ returns-2 c =
     let some = f1 .if1 .left in
     no-walk (x .s .now)
     (fields-unusual (omega (arith, some)) (b .begin .ensures .known (omega (arith, some))) (wf .walk-fields .ensures) (c .before .if2 .taken)) (c .no-walk2 .ensures)
-
-skip-requires : tie.Need-skip-requires
-skip-requires c κs = search needs
-
-byte-requires : tie.Need-byte-requires
-byte-requires c κs = search needs
-
-no-walk-requires-3 : tie.Need-no-walk-requires-3
-no-walk-requires-3 c κs = search needs
 
 returns-3 : tie.Need-returns-3
 returns-3 c =
@@ -62,13 +44,8 @@ returns-3 c =
     (c .no-walk3 .ensures)
 
 add-skip : tie.Need-add-skip
-add-skip c = let x = c .before .before .before .before .before .before .before .before .before .before .args in omega (arith, there (x .s .now) (c .before .before .skip .result) 92 (sym (c .before .byte .ensures) ∙ c .if3 .left))
-
-skip-requires-2 : tie.Need-skip-requires-2
-skip-requires-2 c κs = search needs
-
-no-walk-requires-4 : tie.Need-no-walk-requires-4
-no-walk-requires-4 c κs = search needs
+add-skip c = let x = c .before .before .before .before .before .before .before .before .before .before .args in
+    omega (arith, there (x .s .now) (c .before .before .skip .result) 92 (sym (c .before .byte .ensures) ∙ c .if3 .left))
 
 returns-4 : tie.Need-returns-4
 returns-4 c =
@@ -109,18 +86,18 @@ pub walk-text-spec : {M : Type 1} → statement M
 walk-text-spec =
     tie.close
     (tie.spec
-    begin-requires
-    no-walk-requires
+    (λ c κs. search needs)
+    (λ c κs. search needs)
     returns
     walk-fields-requires
-    no-walk-requires-2
+    (λ c κs. search needs)
     returns-2
-    skip-requires
-    byte-requires
-    no-walk-requires-3
+    (λ c κs. search needs)
+    (λ c κs. search needs)
+    (λ c κs. search needs)
     returns-3
     add-skip
-    skip-requires-2
-    no-walk-requires-4
+    (λ c κs. search needs)
+    (λ c κs. search needs)
     returns-4
     returns-5)

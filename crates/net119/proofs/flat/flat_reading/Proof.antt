@@ -3,12 +3,6 @@ use Rattle.net119.proofs.flat.flat_reading.Statement.{statement}
 use Rattle.net119.proofs.flat.flat_reading.Tie as tie
 use borrow.Author.Needs.{needs}
 
-enum-known-r : tie.Need-enum-known-r
-enum-known-r c = search needs
-
-enum-told : tie.Need-enum-told
-enum-told c = search needs
-
 returns : tie.Need-returns
 returns c = rw (c .before .r .given .1)
 
@@ -16,4 +10,4 @@ returns-2 : tie.Need-returns-2
 returns-2 c = rw (c .enum-told .given .1)
 
 pub flat-reading-spec : {M : Type 1} → statement M
-flat-reading-spec = tie.close (tie.spec enum-known-r enum-told returns returns-2)
+flat-reading-spec = tie.close (tie.spec (λ c. search needs) (λ c. search needs) returns returns-2)

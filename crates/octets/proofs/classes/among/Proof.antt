@@ -4,12 +4,9 @@ use Rattle.octets.proofs.classes.among.Tie as tie
 use Rattle.octets.specs.Class.{among}
 use borrow.Author.Needs.{needs}
 
-and-requires : tie.Need-and-requires
-and-requires c κs = search needs
-
 returns : tie.Need-returns
 unfolding among
 returns c = cc
 
 pub among-spec : {M : Type 1} → statement M
-among-spec = tie.close (tie.spec and-requires returns)
+among-spec = tie.close (tie.spec (λ c κs. search needs) returns)

@@ -4,18 +4,9 @@ use Rattle.octets.proofs.classes.is_alnum.Tie as tie
 use Rattle.octets.specs.Class.{isAlnum}
 use borrow.Author.Needs.{needs}
 
-is-digit-requires : tie.Need-is-digit-requires
-is-digit-requires c κs = search needs
-
-is-letter-requires : tie.Need-is-letter-requires
-is-letter-requires c κs = search needs
-
-or-requires : tie.Need-or-requires
-or-requires c κs = search needs
-
 returns : tie.Need-returns
 unfolding isAlnum
 returns c = cc
 
 pub is-alnum-spec : {M : Type 1} → statement M
-is-alnum-spec = tie.close (tie.spec is-digit-requires is-letter-requires or-requires returns)
+is-alnum-spec = tie.close (tie.spec (λ c κs. search needs) (λ c κs. search needs) (λ c κs. search needs) returns)

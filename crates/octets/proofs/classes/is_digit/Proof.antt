@@ -4,12 +4,9 @@ use Rattle.octets.proofs.classes.is_digit.Tie as tie
 use Rattle.octets.specs.Class.{isDigit}
 use borrow.Author.Needs.{needs}
 
-among-requires : tie.Need-among-requires
-among-requires c κs = search needs
-
 returns : tie.Need-returns
 unfolding isDigit
 returns c = cc
 
 pub is-digit-spec : {M : Type 1} → statement M
-is-digit-spec = tie.close (tie.spec among-requires returns)
+is-digit-spec = tie.close (tie.spec (λ c κs. search needs) returns)

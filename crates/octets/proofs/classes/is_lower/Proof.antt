@@ -4,12 +4,9 @@ use Rattle.octets.proofs.classes.is_lower.Tie as tie
 use Rattle.octets.specs.Class.{isLower}
 use borrow.Author.Needs.{needs}
 
-among-requires : tie.Need-among-requires
-among-requires c κs = search needs
-
 returns : tie.Need-returns
 unfolding isLower
 returns c = cc
 
 pub is-lower-spec : {M : Type 1} → statement M
-is-lower-spec = tie.close (tie.spec among-requires returns)
+is-lower-spec = tie.close (tie.spec (λ c κs. search needs) returns)

@@ -4,12 +4,9 @@ use Rattle.octets.proofs.classes.is_upper.Tie as tie
 use Rattle.octets.specs.Class.{isUpper}
 use borrow.Author.Needs.{needs}
 
-among-requires : tie.Need-among-requires
-among-requires c κs = search needs
-
 returns : tie.Need-returns
 unfolding isUpper
 returns c = cc
 
 pub is-upper-spec : {M : Type 1} → statement M
-is-upper-spec = tie.close (tie.spec among-requires returns)
+is-upper-spec = tie.close (tie.spec (λ c κs. search needs) returns)

@@ -32,12 +32,6 @@ returns-2 c = long (c .before .before .before .args .s .now) (c .if2 .taken)
 loop-holds : tie.Need-loop-holds Inv-loop μ-loop
 loop-holds c = (search needs, (search needs, (search needs, (refl, (refl, search needs)))))
 
-shared-slice-read-b : tie.Need-shared-slice-read-b Inv-loop μ-loop
-shared-slice-read-b c = search needs
-
-is-digit-requires : tie.Need-is-digit-requires Inv-loop μ-loop
-is-digit-requires c κs = search needs
-
 returns-3 : tie.Need-returns-3 Inv-loop μ-loop
 returns-3 c =
     let l = c .before .before .before .before in
@@ -48,29 +42,11 @@ returns-3 c =
 sub-wide : tie.Need-sub-wide Inv-loop μ-loop
 sub-wide c = let d = digit-in _ (sym (c .before .is-digit .ensures) ∙ not-false _ (c .if3 .left)) in omega arith
 
-wide-requires : tie.Need-wide-requires Inv-loop μ-loop
-wide-requires c κs = search needs
-
-sub-if4 : tie.Need-sub-if4 Inv-loop μ-loop
-sub-if4 c = search needs
-
 returns-4 : tie.Need-returns-4 Inv-loop μ-loop
 returns-4 c =
     let l = c .before .before .before .before .before .before in
     let x = l .before .before .before .before .args in
     too-large (x .s .now) (omega arith) (omega arith) (l .loop .i) (l .loop .v) (omega arith) (l .loop .inv .1 .1 .1 .1 .0) (omega arith)
-
-mul-v : tie.Need-mul-v Inv-loop μ-loop
-mul-v c = search needs
-
-add-v : tie.Need-add-v Inv-loop μ-loop
-add-v c = search needs
-
-add-i : tie.Need-add-i Inv-loop μ-loop
-add-i c = search needs
-
-loop-less : tie.Need-loop-less Inv-loop μ-loop
-loop-less c = search needs
 
 loop-again : tie.Need-loop-again Inv-loop μ-loop
 loop-again c =
@@ -107,16 +83,16 @@ decimal-spec =
     returns
     returns-2
     loop-holds
-    shared-slice-read-b
-    is-digit-requires
+    (λ c. search needs)
+    (λ c κs. search needs)
     returns-3
     sub-wide
-    wide-requires
-    sub-if4
+    (λ c κs. search needs)
+    (λ c. search needs)
     returns-4
-    mul-v
-    add-v
-    add-i
-    loop-less
+    (λ c. search needs)
+    (λ c. search needs)
+    (λ c. search needs)
+    (λ c. search needs)
     loop-again
     returns-5)

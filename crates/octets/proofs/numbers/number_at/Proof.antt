@@ -1,16 +1,16 @@
 -- `octets::numbers::number_at` meets its contract. The loop keeps the number of the bytes passed. Assumes nothing.
 use Prim.Native.Nat.{_≤_, _<_, _-_}
-use Rattle.octets.proofs.NumberLaws.{none-yet, below-one, span-seven, number-more, span-more}
+use Rattle.octets.proofs.NumberLaws.{none-yet, below-one, span-seven, number-more, span-more, capacity}
 use Rattle.octets.proofs.numbers.number_at.Statement.{statement}
 use Rattle.octets.proofs.numbers.number_at.Tie as tie
-use Rattle.octets.specs.Number.{numberOf, span}
+use Rattle.octets.specs.Number.{bigEndian}
 use borrow.Author.Needs.{needs}
 use lib.ListN.{take, drop}
 use mathlib.Core.Path.{_≡_}
 use native.Mathlib.Omega.{arith}
 
 abbrev Inv-loop : tie.InvT-loop
-Inv-loop s at n v₀ i₀ v i = (i ≤ n) × ((v ≡ numberOf (take i (drop at s))) × (v < span i))
+Inv-loop s at n v₀ i₀ v i = (i ≤ n) × ((v ≡ bigEndian (take i (drop at s))) × (v < capacity i))
 
 abbrev μ-loop : tie.MeasureT-loop
 μ-loop s at n v₀ i₀ v i = n - i
@@ -21,23 +21,8 @@ loop-holds c = (search needs, (none-yet (c .before .args .s .now) (c .before .ar
 mul-v : tie.Need-mul-v Inv-loop μ-loop
 mul-v c = let l = c .before in omega (arith, span-seven (l .loop .i) (l .loop .v) (omega arith) (l .loop .inv .1 .1))
 
-add-wide : tie.Need-add-wide Inv-loop μ-loop
-add-wide c = search needs
-
-shared-slice-read-wide : tie.Need-shared-slice-read-wide Inv-loop μ-loop
-shared-slice-read-wide c = search needs
-
-wide-requires : tie.Need-wide-requires Inv-loop μ-loop
-wide-requires c κs = search needs
-
 add-v : tie.Need-add-v Inv-loop μ-loop
 add-v c = let l = c .before .before .before in omega (arith, span-seven (l .loop .i) (l .loop .v) (omega arith) (l .loop .inv .1 .1))
-
-add-i : tie.Need-add-i Inv-loop μ-loop
-add-i c = search needs
-
-loop-less : tie.Need-loop-less Inv-loop μ-loop
-loop-less c = search needs
 
 loop-again : tie.Need-loop-again Inv-loop μ-loop
 loop-again c =
@@ -65,11 +50,11 @@ number-at-spec =
     μ-loop
     loop-holds
     mul-v
-    add-wide
-    shared-slice-read-wide
-    wide-requires
+    (λ c. search needs)
+    (λ c. search needs)
+    (λ c κs. search needs)
     add-v
-    add-i
-    loop-less
+    (λ c. search needs)
+    (λ c. search needs)
     loop-again
     returns)

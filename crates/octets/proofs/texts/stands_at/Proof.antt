@@ -14,28 +14,10 @@ returns c =
     let x = c .before .before .before .args in
     sym (stands-behind (x .s .now) (x .w .now) (x .at) (omega arith))
 
-sub-if2 : tie.Need-sub-if2
-sub-if2 c = search needs
-
 returns-2 : tie.Need-returns-2
 returns-2 c =
     let x = c .before .before .before .before .args in
     sym (stands-short (x .s .now) (x .w .now) (x .at) (omega arith))
-
-add-e : tie.Need-add-e
-add-e c = search needs
-
-sub-same : tie.Need-sub-same
-sub-same c = search needs
-
-part-same-start : tie.Need-part-same-start
-part-same-start c = search needs
-
-part-same-end : tie.Need-part-same-end
-part-same-end c = search needs
-
-same-requires : tie.Need-same-requires
-same-requires c κs = search needs
 
 returns-3 : tie.Need-returns-3
 unfolding standsAt
@@ -49,11 +31,11 @@ stands-at-spec =
     tie.close
     (tie.spec
     returns
-    sub-if2
+    (λ c. search needs)
     returns-2
-    add-e
-    sub-same
-    part-same-start
-    part-same-end
-    same-requires
+    (λ c. search needs)
+    (λ c. search needs)
+    (λ c. search needs)
+    (λ c. search needs)
+    (λ c κs. search needs)
     returns-3)

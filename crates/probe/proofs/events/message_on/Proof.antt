@@ -10,21 +10,6 @@ use mathlib.Core.List.{List}
 use mathlib.Core.Path.{_≡_}
 use native.Mathlib.Omega.{arith}
 
-sub-message : tie.Need-sub-message
-sub-message c = search needs
-
-part-message-start : tie.Need-part-message-start
-part-message-start c = search needs
-
-part-message-end : tie.Need-part-message-end
-part-message-end c = search needs
-
-message-requires : tie.Need-message-requires
-message-requires c κs = search needs
-
-same-length : tie.Need-same-length
-same-length c = search needs
-
 returns : tie.Need-returns
 returns c =
     let x = c .before .before .before .before .before .before .args in
@@ -35,4 +20,4 @@ returns c =
 pub message-on-spec : {M : Type 1} → statement M
 message-on-spec =
     tie.close
-    (tie.spec sub-message part-message-start part-message-end message-requires same-length returns)
+    (tie.spec (λ c. search needs) (λ c. search needs) (λ c. search needs) (λ c κs. search needs) (λ c. search needs) returns)

@@ -4,18 +4,6 @@ use Rattle.probe.proofs.events.put_event.Tie as tie
 use Rattle.probe.specs.Events.{eventText}
 use borrow.Author.Needs.{needs}
 
-enum-told : tie.Need-enum-told
-enum-told c = search needs
-
-put-accepted-requires : tie.Need-put-accepted-requires
-put-accepted-requires c κs = search needs
-
-enum-known-a : tie.Need-enum-known-a
-enum-known-a c = search needs
-
-put-refused-requires : tie.Need-put-refused-requires
-put-refused-requires c κs = search needs
-
 returns : tie.Need-returns
 unfolding eventText
 returns c = rw (c .before .before .enum-told .given .1) (rw (c .before .before .enum-told .given .1) at (c .put-accepted .ensures))
@@ -26,4 +14,4 @@ returns-2 c = rw (c .before .before .before .a .given .1) (c .put-refused .ensur
 pub put-event-spec : {M : Type 1} → statement M
 put-event-spec =
     tie.close
-    (tie.spec enum-told put-accepted-requires enum-known-a put-refused-requires returns returns-2)
+    (tie.spec (λ c. search needs) (λ c κs. search needs) (λ c. search needs) (λ c κs. search needs) returns returns-2)

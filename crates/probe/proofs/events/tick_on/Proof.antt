@@ -10,21 +10,6 @@ use mathlib.Core.List.{List}
 use mathlib.Core.Path.{_≡_}
 use native.Mathlib.Omega.{arith}
 
-sub-tick : tie.Need-sub-tick
-sub-tick c = search needs
-
-part-tick-start : tie.Need-part-tick-start
-part-tick-start c = search needs
-
-part-tick-end : tie.Need-part-tick-end
-part-tick-end c = search needs
-
-tick-requires : tie.Need-tick-requires
-tick-requires c κs = search needs
-
-same-length : tie.Need-same-length
-same-length c = search needs
-
 returns : tie.Need-returns
 returns c =
     let x = c .before .before .before .before .before .before .args in
@@ -34,4 +19,4 @@ returns c =
 
 pub tick-on-spec : {M : Type 1} → statement M
 tick-on-spec =
-    tie.close (tie.spec sub-tick part-tick-start part-tick-end tick-requires same-length returns)
+    tie.close (tie.spec (λ c. search needs) (λ c. search needs) (λ c. search needs) (λ c κs. search needs) (λ c. search needs) returns)

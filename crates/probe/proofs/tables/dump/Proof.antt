@@ -10,24 +10,10 @@ use lib.ListN.{take}
 use mathlib.Core.Path.{_≡_}
 use native.Mathlib.Omega.{arith}
 
-sub-put-hex : tie.Need-sub-put-hex
-sub-put-hex c = search needs
-
-part-put-hex-start : tie.Need-part-put-hex-start
-part-put-hex-start c = search needs
-
-part-put-hex-end : tie.Need-part-put-hex-end
-part-put-hex-end c = search needs
-
-put-hex-requires : tie.Need-put-hex-requires
-put-hex-requires c κs = search needs
-
-slice-aggregate-put : tie.Need-slice-aggregate-put
-slice-aggregate-put c = search needs
-
 put-requires : tie.Need-put-requires
 put-requires c κs =
-    let x = c .before .before .before .before .before .before .args in omega (arith, c .before .before .put-hex .ensures .0, hexed-length (take (x .size - 0) (x .held .now)), short (x .size - 0) (x .held .now))
+    let x = c .before .before .before .before .before .before .args in
+    omega (arith, c .before .before .put-hex .ensures .0, hexed-length (take (x .size - 0) (x .held .now)), short (x .size - 0) (x .held .now))
 
 returns : tie.Need-returns
 returns c =
@@ -39,10 +25,10 @@ pub dump-spec : {M : Type 1} → statement M
 dump-spec =
     tie.close
     (tie.spec
-    sub-put-hex
-    part-put-hex-start
-    part-put-hex-end
-    put-hex-requires
-    slice-aggregate-put
+    (λ c. search needs)
+    (λ c. search needs)
+    (λ c. search needs)
+    (λ c κs. search needs)
+    (λ c. search needs)
     put-requires
     returns)

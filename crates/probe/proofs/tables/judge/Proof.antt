@@ -6,21 +6,6 @@ use borrow.Author.Needs.{needs}
 use mathlib.Core.Path.{_≡_}
 use native.Mathlib.Omega.{arith}
 
-sub-well-formed : tie.Need-sub-well-formed
-sub-well-formed c = search needs
-
-part-well-formed-start : tie.Need-part-well-formed-start
-part-well-formed-start c = search needs
-
-part-well-formed-end : tie.Need-part-well-formed-end
-part-well-formed-end c = search needs
-
-well-formed-requires : tie.Need-well-formed-requires
-well-formed-requires c κs = search needs
-
-verdict-requires : tie.Need-verdict-requires
-verdict-requires c κs = search needs
-
 returns : tie.Need-returns
 returns c =
     let x = c .before .before .before .before .before .args in
@@ -31,9 +16,9 @@ pub judge-spec : {M : Type 1} → statement M
 judge-spec =
     tie.close
     (tie.spec
-    sub-well-formed
-    part-well-formed-start
-    part-well-formed-end
-    well-formed-requires
-    verdict-requires
+    (λ c. search needs)
+    (λ c. search needs)
+    (λ c. search needs)
+    (λ c κs. search needs)
+    (λ c κs. search needs)
     returns)

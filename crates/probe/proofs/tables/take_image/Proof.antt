@@ -6,13 +6,10 @@ use Rattle.showing.proofs.WordLaws.{stands}
 use borrow.Author.Needs.{needs}
 use mathlib.Core.Path.{_∙_, sym}
 
-decode-requires : tie.Need-decode-requires
-decode-requires c κs = search needs
-
 returns : tie.Need-returns
 returns c =
     let w = c .before .before .before .args .word .now in
     rw (← stands w) (c .decode .ensures .0 ∙ sym (length-decoded w), c .decode .ensures .1)
 
 pub take-image-spec : {M : Type 1} → statement M
-take-image-spec = tie.close (tie.spec decode-requires returns)
+take-image-spec = tie.close (tie.spec (λ c κs. search needs) returns)

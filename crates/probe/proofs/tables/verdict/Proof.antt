@@ -5,31 +5,21 @@ use Rattle.probe.proofs.tables.verdict.Statement.{statement}
 use Rattle.probe.proofs.tables.verdict.Tie as tie
 use borrow.Author.Needs.{needs}
 
-slice-aggregate-put : tie.Need-slice-aggregate-put
-slice-aggregate-put c = search needs
-
-put-requires : tie.Need-put-requires
-put-requires c κs = search needs
-
-slice-aggregate-put-2 : tie.Need-slice-aggregate-put-2
-slice-aggregate-put-2 c = search needs
-
-put-requires-2 : tie.Need-put-requires-2
-put-requires-2 c κs = search needs
-
 returns : tie.Need-returns
-returns c = rw (c .before .before .before .if1 .taken) (let w = more (ascii "ok\n") (start (c .before .before .before .before .args .out .now)) (c .put .ensures) in (w .place, w .is))
+returns c = rw (c .before .before .before .if1 .taken)
+    (let w = more (ascii "ok\n") (start (c .before .before .before .before .args .out .now)) (c .put .ensures) in (w .place, w .is))
 
 returns-2 : tie.Need-returns-2
-returns-2 c = rw (c .before .before .before .if1 .left) (let w = more (ascii "no 1\n") (start (c .before .before .before .before .args .out .now)) (c .put2 .ensures) in (w .place, w .is))
+returns-2 c = rw (c .before .before .before .if1 .left)
+    (let w = more (ascii "no 1\n") (start (c .before .before .before .before .args .out .now)) (c .put2 .ensures) in (w .place, w .is))
 
 pub verdict-spec : {M : Type 1} → statement M
 verdict-spec =
     tie.close
     (tie.spec
-    slice-aggregate-put
-    put-requires
-    slice-aggregate-put-2
-    put-requires-2
+    (λ c. search needs)
+    (λ c κs. search needs)
+    (λ c. search needs)
+    (λ c κs. search needs)
     returns
     returns-2)

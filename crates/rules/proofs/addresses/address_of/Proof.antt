@@ -6,43 +6,48 @@ use Rattle.rules.proofs.AddressLaws.{callee-address, callee-end, caller
 use Rattle.rules.proofs.addresses.address_of.Statement.{statement}
 use Rattle.rules.proofs.addresses.address_of.Tie as tie
 
-span-requires : tie.Need-span-requires
-span-requires c κs = search needs
-
-add-span : tie.Need-add-span
-add-span c = search needs
-
-span-requires-2 : tie.Need-span-requires-2
-span-requires-2 c κs = search needs
-
 is-caller-requires : tie.Need-is-caller-requires
-is-caller-requires c κs = (user-end (c .before .before .before .args .s .now) (c .before .span .result) (c .before .span .ensures .0), (caller-end (c .before .before .before .args .s .now) (c .before .span .result) (c .before .span .ensures .0) (c .span2 .result) (c .span2 .ensures .0), (omega arith, (omega arith, omega arith))))
+is-caller-requires c κs = (
+  user-end (c .before .before .before .args .s .now) (c .before .span .result) (c .before .span .ensures .0),
+  (
+    caller-end (c .before .before .before .args .s .now) (c .before .span .result) (c .before .span .ensures .0) (c .span2 .result) (c .span2 .ensures .0),
+    (omega arith, (omega arith, omega arith)),
+  ),
+)
 
 returns : tie.Need-returns
-returns c = caller-address (c .before .before .before .before .before .args .s .now) _ _ (user-end (c .before .before .before .before .before .args .s .now) (c .before .before .before .span .result) (c .before .before .before .span .ensures .0)) (caller-end (c .before .before .before .before .before .args .s .now) (c .before .before .before .span .result) (c .before .before .before .span .ensures .0) (c .before .before .span2 .result) (c .before .before .span2 .ensures .0)) (sym (c .before .is-caller .ensures) ∙ c .if1 .taken)
-
-span-requires-3 : tie.Need-span-requires-3
-span-requires-3 c κs = search needs
+returns c =
+    let start = c .before .before .before .before .before in
+    caller-address (start .args .s .now) _ _ (user-end (start .args .s .now) (c .before .before .before .span .result) (c .before .before .before .span .ensures .0))
+    (caller-end (start .args .s .now) (c .before .before .before .span .result) (c .before .before .before .span .ensures .0) (c .before .before .span2 .result)
+    (c .before .before .span2 .ensures .0)) (sym (c .before .is-caller .ensures) ∙ c .if1 .taken)
 
 is-callee-requires : tie.Need-is-callee-requires
 is-callee-requires c κs = (callee-end (c .before .before .before .before .before .before .args .s .now) (c .span3 .result) (c .span3 .ensures .0), (omega arith, omega arith))
 
 returns-2 : tie.Need-returns-2
-returns-2 c = callee-address (c .before .before .before .before .before .before .before .before .args .s .now) _ (callee-end (c .before .before .before .before .before .before .before .before .args .s .now) (c .before .before .span3 .result) (c .before .before .span3 .ensures .0)) (sym (c .before .before .before .before .is-caller .ensures) ∙ c .before .before .before .if1 .left) (sym (c .before .is-callee .ensures) ∙ c .if2 .taken)
+returns-2 c =
+    let at-is-caller = c .before .before .before .before in
+    let start = at-is-caller .before .before .before .before in
+    callee-address (start .args .s .now) _ (callee-end (start .args .s .now) (c .before .before .span3 .result) (c .before .before .span3 .ensures .0))
+    (sym (at-is-caller .is-caller .ensures) ∙ c .before .before .before .if1 .left) (sym (c .before .is-callee .ensures) ∙ c .if2 .taken)
 
 returns-3 : tie.Need-returns-3
-returns-3 c = no-address (c .before .before .before .before .before .before .before .before .args .s .now) (sym (c .before .before .before .before .is-caller .ensures) ∙ c .before .before .before .if1 .left) (sym (c .before .is-callee .ensures) ∙ c .if2 .left)
+returns-3 c =
+    let at-is-caller = c .before .before .before .before in
+    let start = at-is-caller .before .before .before .before in
+    no-address (start .args .s .now) (sym (at-is-caller .is-caller .ensures) ∙ c .before .before .before .if1 .left) (sym (c .before .is-callee .ensures) ∙ c .if2 .left)
 
 pub address-of-spec : {M : Type 1} → statement M
 address-of-spec =
     tie.close
     (tie.spec
-    span-requires
-    add-span
-    span-requires-2
+    (λ c κs. search needs)
+    (λ c. search needs)
+    (λ c κs. search needs)
     is-caller-requires
     returns
-    span-requires-3
+    (λ c κs. search needs)
     is-callee-requires
     returns-2
     returns-3)

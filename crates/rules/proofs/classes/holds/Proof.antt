@@ -5,84 +5,6 @@ use Rattle.rules.proofs.classes.holds.Statement.{statement}
 use Rattle.rules.specs.Classes.{holds}
 use Rattle.rules.proofs.classes.holds.Tie as tie
 
-enum-told : tie.Need-enum-told
-enum-told c = search needs
-
-is-digit-requires : tie.Need-is-digit-requires
-is-digit-requires c κs = search needs
-
-enum-told-2 : tie.Need-enum-told-2
-enum-told-2 c = search needs
-
-is-lower-requires : tie.Need-is-lower-requires
-is-lower-requires c κs = search needs
-
-enum-told-3 : tie.Need-enum-told-3
-enum-told-3 c = search needs
-
-is-lower-requires-2 : tie.Need-is-lower-requires-2
-is-lower-requires-2 c κs = search needs
-
-is-digit-requires-2 : tie.Need-is-digit-requires-2
-is-digit-requires-2 c κs = search needs
-
-or-requires : tie.Need-or-requires
-or-requires c κs = search needs
-
-enum-told-4 : tie.Need-enum-told-4
-enum-told-4 c = search needs
-
-is-alnum-requires : tie.Need-is-alnum-requires
-is-alnum-requires c κs = search needs
-
-enum-told-5 : tie.Need-enum-told-5
-enum-told-5 c = search needs
-
-is-lower-requires-3 : tie.Need-is-lower-requires-3
-is-lower-requires-3 c κs = search needs
-
-is-digit-requires-3 : tie.Need-is-digit-requires-3
-is-digit-requires-3 c κs = search needs
-
-or-requires-2 : tie.Need-or-requires-2
-or-requires-2 c κs = search needs
-
-or-requires-3 : tie.Need-or-requires-3
-or-requires-3 c κs = search needs
-
-enum-told-6 : tie.Need-enum-told-6
-enum-told-6 c = search needs
-
-is-alnum-requires-2 : tie.Need-is-alnum-requires-2
-is-alnum-requires-2 c κs = search needs
-
-or-requires-4 : tie.Need-or-requires-4
-or-requires-4 c κs = search needs
-
-or-requires-5 : tie.Need-or-requires-5
-or-requires-5 c κs = search needs
-
-enum-told-7 : tie.Need-enum-told-7
-enum-told-7 c = search needs
-
-is-alnum-requires-3 : tie.Need-is-alnum-requires-3
-is-alnum-requires-3 c κs = search needs
-
-or-requires-6 : tie.Need-or-requires-6
-or-requires-6 c κs = search needs
-
-enum-told-8 : tie.Need-enum-told-8
-enum-told-8 c = search needs
-
-among-requires : tie.Need-among-requires
-among-requires c κs = search needs
-
-and-requires : tie.Need-and-requires
-and-requires c κs = search needs
-
-and-requires-2 : tie.Need-and-requires-2
-and-requires-2 c κs = search needs
-
 returns : tie.Need-returns
 unfolding holds
 returns c = rw (c .before .enum-told .given .1) (cc)
@@ -119,32 +41,32 @@ pub holds-spec : {M : Type 1} → statement M
 holds-spec =
     tie.close
     (tie.spec
-    enum-told
-    is-digit-requires
-    enum-told-2
-    is-lower-requires
-    enum-told-3
-    is-lower-requires-2
-    is-digit-requires-2
-    or-requires
-    enum-told-4
-    is-alnum-requires
-    enum-told-5
-    is-lower-requires-3
-    is-digit-requires-3
-    or-requires-2
-    or-requires-3
-    enum-told-6
-    is-alnum-requires-2
-    or-requires-4
-    or-requires-5
-    enum-told-7
-    is-alnum-requires-3
-    or-requires-6
-    enum-told-8
-    among-requires
-    and-requires
-    and-requires-2
+    (λ c. search needs)
+    (λ c κs. search needs)
+    (λ c. search needs)
+    (λ c κs. search needs)
+    (λ c. search needs)
+    (λ c κs. search needs)
+    (λ c κs. search needs)
+    (λ c κs. search needs)
+    (λ c. search needs)
+    (λ c κs. search needs)
+    (λ c. search needs)
+    (λ c κs. search needs)
+    (λ c κs. search needs)
+    (λ c κs. search needs)
+    (λ c κs. search needs)
+    (λ c. search needs)
+    (λ c κs. search needs)
+    (λ c κs. search needs)
+    (λ c κs. search needs)
+    (λ c. search needs)
+    (λ c κs. search needs)
+    (λ c κs. search needs)
+    (λ c. search needs)
+    (λ c κs. search needs)
+    (λ c κs. search needs)
+    (λ c κs. search needs)
     returns
     returns-2
     returns-3

@@ -9,12 +9,6 @@ use Rattle.rules.proofs.dates.days_in.Statement.{statement}
 use Rattle.rules.specs.Date.{days, daysIn}
 use Rattle.rules.proofs.dates.days_in.Tie as tie
 
-is-leap-requires : tie.Need-is-leap-requires
-is-leap-requires c κs = search needs
-
-array-read-result : tie.Need-array-read-result
-array-read-result c = search needs
-
 cast-result : tie.Need-cast-result
 cast-result c = omega (arith, days-small (c .before .before .args .m) (c .if3 .taken))
 
@@ -37,4 +31,4 @@ returns-4 c = simp (ne-eqb _ _ (c .before .if1 .left)) (sym (List·getD-eq-defau
 pub days-in-spec : {M : Type 1} → statement M
 days-in-spec =
     tie.close
-    (tie.spec is-leap-requires array-read-result cast-result returns returns-2 returns-3 returns-4)
+    (tie.spec (λ c κs. search needs) (λ c. search needs) cast-result returns returns-2 returns-3 returns-4)

@@ -5,15 +5,9 @@ use Rattle.rules.proofs.dates.is_leap.Statement.{statement}
 use Rattle.rules.specs.Date.{leap}
 use Rattle.rules.proofs.dates.is_leap.Tie as tie
 
-or-requires : tie.Need-or-requires
-or-requires c κs = search needs
-
-and-requires : tie.Need-and-requires
-and-requires c κs = search needs
-
 returns : tie.Need-returns
 unfolding leap
 returns c = c .and .ensures ∙ rw (c .before .or .ensures)
 
 pub is-leap-spec : {M : Type 1} → statement M
-is-leap-spec = tie.close (tie.spec or-requires and-requires returns)
+is-leap-spec = tie.close (tie.spec (λ c κs. search needs) (λ c κs. search needs) returns)

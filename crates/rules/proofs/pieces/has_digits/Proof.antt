@@ -21,29 +21,21 @@ loop-holds : tie.Need-loop-holds Inv-loop μ-loop
 unfolding digits
 loop-holds c = (search needs, refl)
 
-add-byte : tie.Need-add-byte Inv-loop μ-loop
-add-byte c = search needs
-
-byte-requires : tie.Need-byte-requires Inv-loop μ-loop
-byte-requires c κs = search needs
-
-is-digit-requires : tie.Need-is-digit-requires Inv-loop μ-loop
-is-digit-requires c κs = search needs
-
 returns : tie.Need-returns Inv-loop μ-loop
-returns c = let l = c .before .before .before .before in let x = l .before .before .args in sym (digits-stops (x .s .now) (x .at) (l .loop .i) (x .n) (omega arith) (sym (ap isDigit (c .before .before .byte .ensures)) ∙ sym (c .before .is-digit .ensures) ∙ not-true _ (c .if1 .taken)))
-
-add-i : tie.Need-add-i Inv-loop μ-loop
-add-i c = search needs
-
-loop-less : tie.Need-loop-less Inv-loop μ-loop
-loop-less c = search needs
+returns c = let l = c .before .before .before .before in let x = l .before .before .args in
+    sym (digits-stops (x .s .now) (x .at) (l .loop .i) (x .n) (omega arith)
+    (sym (ap isDigit (c .before .before .byte .ensures)) ∙ sym (c .before .is-digit .ensures) ∙ not-true _ (c .if1 .taken)))
 
 loop-again : tie.Need-loop-again Inv-loop μ-loop
-loop-again c = let l = c .before .before .before .before in let x = l .before .before .args in (omega arith, digits-more (x .s .now) (x .at) (l .loop .i) (l .loop .inv .1) (sym (ap isDigit (c .before .before .byte .ensures)) ∙ sym (c .before .is-digit .ensures) ∙ not-false _ (c .if1 .left)))
+loop-again c = let l = c .before .before .before .before in let x = l .before .before .args in (
+  omega arith,
+  digits-more (x .s .now) (x .at) (l .loop .i) (l .loop .inv .1)
+      (sym (ap isDigit (c .before .before .byte .ensures)) ∙ sym (c .before .is-digit .ensures) ∙ not-false _ (c .if1 .left)),
+)
 
 returns-2 : tie.Need-returns-2 Inv-loop μ-loop
-returns-2 c = let l = c .before in let x = l .before .before .args in let e : l .loop .i ≡ x .n = omega arith in sym (ap (λ k. digits k (x .s .now) (x .at)) (sym e) ∙ l .loop .inv .1)
+returns-2 c = let l = c .before in let x = l .before .before .args in let e : l .loop .i ≡ x .n = omega arith in
+    sym (ap (λ k. digits k (x .s .now) (x .at)) (sym e) ∙ l .loop .inv .1)
 
 pub has-digits-spec : {M : Type 1} → statement M
 has-digits-spec =
@@ -52,11 +44,11 @@ has-digits-spec =
     Inv-loop
     μ-loop
     loop-holds
-    add-byte
-    byte-requires
-    is-digit-requires
+    (λ c. search needs)
+    (λ c κs. search needs)
+    (λ c κs. search needs)
     returns
-    add-i
-    loop-less
+    (λ c. search needs)
+    (λ c. search needs)
     loop-again
     returns-2)

@@ -7,11 +7,11 @@ use borrow.Author.Tests.{not-false, not-true}
 use lib.ListN.{drop, length}
 use Rattle.rules.proofs.PieceLaws.{span-ends, span-more, span-stops}
 use Rattle.rules.proofs.pieces.span.Statement.{statement}
-use Rattle.rules.specs.Pieces.{span}
+use Rattle.rules.specs.Pieces.{runLength}
 use Rattle.rules.proofs.pieces.span.Tie as tie
 
 abbrev Inv-loop : tie.InvT-loop
-Inv-loop s at class i₀ i = (at ≤ i) × ((i ≤ at + (length s - at)) × (at + span class (drop at s) ≡ i + span class (drop i s)))
+Inv-loop s at class i₀ i = (at ≤ i) × ((i ≤ at + (length s - at)) × (at + runLength class (drop at s) ≡ i + runLength class (drop i s)))
 
 abbrev μ-loop : tie.MeasureT-loop
 μ-loop s at class i₀ i = length s - i
@@ -19,26 +19,19 @@ abbrev μ-loop : tie.MeasureT-loop
 loop-holds : tie.Need-loop-holds Inv-loop μ-loop
 loop-holds c = (search needs, (search needs, refl))
 
-shared-slice-read-holds : tie.Need-shared-slice-read-holds Inv-loop μ-loop
-shared-slice-read-holds c = search needs
-
-holds-requires : tie.Need-holds-requires Inv-loop μ-loop
-holds-requires c κs = search needs
-
 returns : tie.Need-returns Inv-loop μ-loop
-returns c = let l = c .before .before .before .before in let x = l .before .before .args in (sym (l .loop .inv .1 .1 ∙ span-stops (x .class) (x .s .now) (l .loop .i) (omega arith) (sym (c .before .holds .ensures) ∙ not-true _ (c .if1 .taken))), (omega arith, omega arith))
-
-add-i : tie.Need-add-i Inv-loop μ-loop
-add-i c = search needs
-
-loop-less : tie.Need-loop-less Inv-loop μ-loop
-loop-less c = search needs
+returns c = let l = c .before .before .before .before in let x = l .before .before .args in (
+  sym (l .loop .inv .1 .1 ∙ span-stops (x .class) (x .s .now) (l .loop .i) (omega arith) (sym (c .before .holds .ensures) ∙ not-true _ (c .if1 .taken))),
+  (omega arith, omega arith),
+)
 
 loop-again : tie.Need-loop-again Inv-loop μ-loop
-loop-again c = let l = c .before .before .before .before in let x = l .before .before .args in (omega arith, (omega arith, l .loop .inv .1 .1 ∙ span-more (x .class) (x .s .now) (l .loop .i) (omega arith) (sym (c .before .holds .ensures) ∙ not-false _ (c .if1 .left))))
+loop-again c = let l = c .before .before .before .before in let x = l .before .before .args in
+    (omega arith, (omega arith, l .loop .inv .1 .1 ∙ span-more (x .class) (x .s .now) (l .loop .i) (omega arith) (sym (c .before .holds .ensures) ∙ not-false _ (c .if1 .left))))
 
 returns-2 : tie.Need-returns-2 Inv-loop μ-loop
-returns-2 c = let l = c .before in let x = l .before .before .args in (sym (l .loop .inv .1 .1 ∙ span-ends (x .class) (x .s .now) (l .loop .i) (omega arith)), (omega arith, omega arith))
+returns-2 c = let l = c .before in let x = l .before .before .args in
+    (sym (l .loop .inv .1 .1 ∙ span-ends (x .class) (x .s .now) (l .loop .i) (omega arith)), (omega arith, omega arith))
 
 pub span-spec : {M : Type 1} → statement M
 span-spec =
@@ -47,10 +40,10 @@ span-spec =
     Inv-loop
     μ-loop
     loop-holds
-    shared-slice-read-holds
-    holds-requires
+    (λ c. search needs)
+    (λ c κs. search needs)
     returns
-    add-i
-    loop-less
+    (λ c. search needs)
+    (λ c. search needs)
     loop-again
     returns-2)

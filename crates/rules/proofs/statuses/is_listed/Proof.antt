@@ -6,12 +6,9 @@ use Rattle.rules.proofs.statuses.is_listed.Statement.{statement}
 use Rattle.rules.specs.Status.{listed}
 use Rattle.rules.proofs.statuses.is_listed.Tie as tie
 
-index-in-requires : tie.Need-index-in-requires
-index-in-requires c κs = search needs
-
 returns : tie.Need-returns
 unfolding listed
 returns c = ap (λ k. ltb k 14) (c .index-in .ensures)
 
 pub is-listed-spec : {M : Type 1} → statement M
-is-listed-spec = tie.close (tie.spec index-in-requires returns)
+is-listed-spec = tie.close (tie.spec (λ c κs. search needs) returns)

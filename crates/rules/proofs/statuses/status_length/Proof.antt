@@ -7,18 +7,6 @@ use Rattle.rules.proofs.StatusLaws.{length-is, none-is, row}
 use Rattle.rules.proofs.statuses.status_length.Statement.{statement}
 use Rattle.rules.proofs.statuses.status_length.Tie as tie
 
-index-in-requires : tie.Need-index-in-requires
-index-in-requires c κs = search needs
-
-add-result : tie.Need-add-result
-add-result c = search needs
-
-array-read-result : tie.Need-array-read-result
-array-read-result c = search needs
-
-array-read-result-2 : tie.Need-array-read-result-2
-array-read-result-2 c = search needs
-
 sub-result : tie.Need-sub-result
 sub-result c = row (c .before .index-in .result) (c .if1 .taken) .rises
 
@@ -29,16 +17,17 @@ returns : tie.Need-returns
 returns c = length-is (c .before .index-in .result) (c .before .before .args .code) (c .before .index-in .ensures) (c .if1 .taken)
 
 returns-2 : tie.Need-returns-2
-returns-2 c = let e = none-is (c .before .index-in .result) (c .before .before .args .code) (c .before .index-in .ensures) (c .if1 .left) in (ap length e, omega (arith, ap length e))
+returns-2 c = let e = none-is (c .before .index-in .result) (c .before .before .args .code) (c .before .index-in .ensures) (c .if1 .left) in
+    (ap length e, omega (arith, ap length e))
 
 pub status-length-spec : {M : Type 1} → statement M
 status-length-spec =
     tie.close
     (tie.spec
-    index-in-requires
-    add-result
-    array-read-result
-    array-read-result-2
+    (λ c κs. search needs)
+    (λ c. search needs)
+    (λ c. search needs)
+    (λ c. search needs)
     sub-result
     cast-result
     returns

@@ -4,12 +4,9 @@ use Rattle.rules.proofs.texts.is_call_id.Statement.{statement}
 use Rattle.rules.specs.Texts.{callIdRule}
 use Rattle.rules.proofs.texts.is_call_id.Tie as tie
 
-is-run-requires : tie.Need-is-run-requires
-is-run-requires c κs = search needs
-
 returns : tie.Need-returns
 unfolding callIdRule
 returns c = c .is-run .ensures
 
 pub is-call-id-spec : {M : Type 1} → statement M
-is-call-id-spec = tie.close (tie.spec is-run-requires returns)
+is-call-id-spec = tie.close (tie.spec (λ c κs. search needs) returns)

@@ -4,12 +4,9 @@ use Rattle.rules.proofs.texts.is_destination.Statement.{statement}
 use Rattle.rules.specs.Texts.{destinationRule}
 use Rattle.rules.proofs.texts.is_destination.Tie as tie
 
-is-run-requires : tie.Need-is-run-requires
-is-run-requires c κs = search needs
-
 returns : tie.Need-returns
 unfolding destinationRule
 returns c = c .is-run .ensures
 
 pub is-destination-spec : {M : Type 1} → statement M
-is-destination-spec = tie.close (tie.spec is-run-requires returns)
+is-destination-spec = tie.close (tie.spec (λ c κs. search needs) returns)

@@ -4,12 +4,9 @@ use Rattle.rules.proofs.texts.is_fire_id.Statement.{statement}
 use Rattle.rules.specs.Texts.{fireRule}
 use Rattle.rules.proofs.texts.is_fire_id.Tie as tie
 
-is-run-requires : tie.Need-is-run-requires
-is-run-requires c κs = search needs
-
 returns : tie.Need-returns
 unfolding fireRule
 returns c = c .is-run .ensures
 
 pub is-fire-id-spec : {M : Type 1} → statement M
-is-fire-id-spec = tie.close (tie.spec is-run-requires returns)
+is-fire-id-spec = tie.close (tie.spec (λ c κs. search needs) returns)

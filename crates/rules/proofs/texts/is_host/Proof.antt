@@ -4,12 +4,9 @@ use Rattle.rules.proofs.texts.is_host.Statement.{statement}
 use Rattle.rules.specs.Texts.{hostRule}
 use Rattle.rules.proofs.texts.is_host.Tie as tie
 
-is-run-requires : tie.Need-is-run-requires
-is-run-requires c κs = search needs
-
 returns : tie.Need-returns
 unfolding hostRule
 returns c = c .is-run .ensures
 
 pub is-host-spec : {M : Type 1} → statement M
-is-host-spec = tie.close (tie.spec is-run-requires returns)
+is-host-spec = tie.close (tie.spec (λ c κs. search needs) returns)

@@ -4,15 +4,9 @@ use Rattle.rules.proofs.texts.is_image.Statement.{statement}
 use Rattle.rules.specs.Texts.{imageRule}
 use Rattle.rules.proofs.texts.is_image.Tie as tie
 
-slice-aggregate-stands-at : tie.Need-slice-aggregate-stands-at
-slice-aggregate-stands-at c = search needs
-
-stands-at-requires : tie.Need-stands-at-requires
-stands-at-requires c κs = search needs
-
 returns : tie.Need-returns
 unfolding imageRule
 returns c = cc
 
 pub is-image-spec : {M : Type 1} → statement M
-is-image-spec = tie.close (tie.spec slice-aggregate-stands-at stands-at-requires returns)
+is-image-spec = tie.close (tie.spec (λ c. search needs) (λ c κs. search needs) returns)

@@ -4,12 +4,9 @@ use Rattle.rules.proofs.texts.is_language.Statement.{statement}
 use Rattle.rules.specs.Texts.{languageRule}
 use Rattle.rules.proofs.texts.is_language.Tie as tie
 
-is-run-requires : tie.Need-is-run-requires
-is-run-requires c κs = search needs
-
 returns : tie.Need-returns
 unfolding languageRule
 returns c = c .is-run .ensures
 
 pub is-language-spec : {M : Type 1} → statement M
-is-language-spec = tie.close (tie.spec is-run-requires returns)
+is-language-spec = tie.close (tie.spec (λ c κs. search needs) returns)

@@ -4,12 +4,9 @@ use Rattle.rules.proofs.texts.is_organization.Statement.{statement}
 use Rattle.rules.specs.Texts.{organizationRule}
 use Rattle.rules.proofs.texts.is_organization.Tie as tie
 
-is-run-requires : tie.Need-is-run-requires
-is-run-requires c κs = search needs
-
 returns : tie.Need-returns
 unfolding organizationRule
 returns c = c .is-run .ensures
 
 pub is-organization-spec : {M : Type 1} → statement M
-is-organization-spec = tie.close (tie.spec is-run-requires returns)
+is-organization-spec = tie.close (tie.spec (λ c κs. search needs) returns)

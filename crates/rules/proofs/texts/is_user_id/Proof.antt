@@ -4,12 +4,9 @@ use Rattle.rules.proofs.texts.is_user_id.Statement.{statement}
 use Rattle.rules.specs.Texts.{userRule}
 use Rattle.rules.proofs.texts.is_user_id.Tie as tie
 
-is-run-requires : tie.Need-is-run-requires
-is-run-requires c κs = search needs
-
 returns : tie.Need-returns
 unfolding userRule
 returns c = c .is-run .ensures
 
 pub is-user-id-spec : {M : Type 1} → statement M
-is-user-id-spec = tie.close (tie.spec is-run-requires returns)
+is-user-id-spec = tie.close (tie.spec (λ c κs. search needs) returns)

@@ -4,15 +4,9 @@ use Rattle.rules.proofs.words.is_notify_type.Statement.{statement}
 use Rattle.rules.specs.Words.{notifyTypeRule}
 use Rattle.rules.proofs.words.is_notify_type.Tie as tie
 
-content-type-requires : tie.Need-content-type-requires
-content-type-requires c κs = search needs
-
-among-requires : tie.Need-among-requires
-among-requires c κs = search needs
-
 returns : tie.Need-returns
 unfolding notifyTypeRule
 returns c = cc
 
 pub is-notify-type-spec : {M : Type 1} → statement M
-is-notify-type-spec = tie.close (tie.spec content-type-requires among-requires returns)
+is-notify-type-spec = tie.close (tie.spec (λ c κs. search needs) (λ c κs. search needs) returns)

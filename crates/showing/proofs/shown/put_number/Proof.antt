@@ -13,13 +13,13 @@ put-decimal-requires c κs = omega (arith, shown-length (c .before .before .befo
 put-requires : tie.Need-put-requires
 put-requires c κs = omega (arith, shown-length (c .before .before .before .before .before .before .before .args .n) (omega arith))
 
-same-length : tie.Need-same-length
-same-length c = search needs
-
 returns : tie.Need-returns
 returns c =
-    let x = c .before .before .before .before .before .before .before .before .before .before .args in
-    put-two (x .out .now) (x .at) (shown (x .n)) (x .then .now) (omega (arith, shown-length (x .n) (omega arith))) (c .before .before .before .before .before .before .put-decimal .ensures) (c .before .before .put .ensures)
+    let at-put-decimal = c .before .before .before .before .before .before in
+    let start = at-put-decimal .before .before .before .before in
+    let x = start .args in
+    put-two (x .out .now) (x .at) (shown (x .n)) (x .then .now) (omega (arith, shown-length (x .n) (omega arith))) (at-put-decimal .put-decimal .ensures)
+    (c .before .before .put .ensures)
 
 pub put-number-spec : {M : Type 1} → statement M
-put-number-spec = tie.close (tie.spec put-decimal-requires put-requires same-length returns)
+put-number-spec = tie.close (tie.spec put-decimal-requires put-requires (λ c. search needs) returns)

@@ -5,15 +5,6 @@ use Rattle.showing.proofs.words.first.Tie as tie
 use borrow.Author.Needs.{needs}
 use native.Mathlib.Omega.{arith}
 
-find-requires : tie.Need-find-requires
-find-requires c κs = search needs
-
-sub-result : tie.Need-sub-result
-sub-result c = search needs
-
-part-result-start : tie.Need-part-result-start
-part-result-start c = search needs
-
 part-result-end : tie.Need-part-result-end
 part-result-end c = omega (arith, found-short (c .before .before .args .words .now) (c .find .ensures))
 
@@ -22,4 +13,4 @@ returns c = first-found (c .before .before .before .args .words .now) (c .before
 
 pub first-spec : {M : Type 1} → statement M
 first-spec =
-    tie.close (tie.spec find-requires sub-result part-result-start part-result-end returns)
+    tie.close (tie.spec (λ c κs. search needs) (λ c. search needs) (λ c. search needs) part-result-end returns)

@@ -4,11 +4,8 @@ use Rattle.showing.proofs.words.has_space.Statement.{statement}
 use Rattle.showing.proofs.words.has_space.Tie as tie
 use borrow.Author.Needs.{needs}
 
-find-requires : tie.Need-find-requires
-find-requires c κs = search needs
-
 returns : tie.Need-returns
 returns c = space-found (c .before .before .args .words .now) (c .find .ensures)
 
 pub has-space-spec : {M : Type 1} → statement M
-has-space-spec = tie.close (tie.spec find-requires returns)
+has-space-spec = tie.close (tie.spec (λ c κs. search needs) returns)

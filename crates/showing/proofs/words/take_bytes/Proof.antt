@@ -6,19 +6,14 @@ use Rattle.showing.specs.Words.{bytesOf}
 use borrow.Author.Needs.{needs}
 use mathlib.Core.Path.{_∙_, sym}
 
-is-hex-to-requires : tie.Need-is-hex-to-requires
-is-hex-to-requires c κs = search needs
-
-put-bytes-requires : tie.Need-put-bytes-requires
-put-bytes-requires c κs = search needs
-
 returns : tie.Need-returns
 returns c =
-    let x = c .before .before .before .before .before .args in got-some (x .bytes .now) (x .at) (bytesOf (x .word .now)) (sym (c .before .before .before .is-hex-to .ensures) ∙ c .before .before .if1 .taken) (c .put-bytes .ensures)
+    let x = c .before .before .before .before .before .args in
+    got-some (x .bytes .now) (x .at) (bytesOf (x .word .now)) (sym (c .before .before .before .is-hex-to .ensures) ∙ c .before .before .if1 .taken) (c .put-bytes .ensures)
 
 returns-2 : tie.Need-returns-2
 returns-2 c =
     got-none (sym (c .before .is-hex-to .ensures) ∙ c .if1 .left)
 
 pub take-bytes-spec : {M : Type 1} → statement M
-take-bytes-spec = tie.close (tie.spec is-hex-to-requires put-bytes-requires returns returns-2)
+take-bytes-spec = tie.close (tie.spec (λ c κs. search needs) (λ c κs. search needs) returns returns-2)

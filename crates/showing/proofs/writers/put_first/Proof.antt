@@ -9,25 +9,22 @@ use lib.ListN.{length-append}
 use mathlib.Core.List.{[], _++_, _∷_}
 use native.Mathlib.Omega.{arith}
 
-put-requires : tie.Need-put-requires
-put-requires c κs = search needs
-
-slice-aggregate-put-number : tie.Need-slice-aggregate-put-number
-slice-aggregate-put-number c = search needs
-
-put-number-requires : tie.Need-put-number-requires
-put-number-requires c κs = search needs
-
-same-length : tie.Need-same-length
-same-length c = search needs
-
 returns : tie.Need-returns
 returns c =
     let x = c .before .before .before .before .before .before .before .before .before .before .before .args in
-    let w = more (shown (x .n) ++ (32 ∷ [])) (more (x .word .now) (start (x .out .now)) (c .before .before .before .before .before .before .before .put .ensures)) (c .before .before .put-number .ensures) in
-    ((w .place, w .is), omega (arith, c .before .before .before .before .before .before .before .put .ensures .0, c .before .before .put-number .ensures .0, length-append (shown (x .n)) (32 ∷ []), shown-length (x .n) (omega arith)))
+    let w = more (shown (x .n) ++ (32 ∷ [])) (more (x .word .now) (start (x .out .now)) (c .before .before .before .before .before .before .before .put .ensures))
+    (c .before .before .put-number .ensures) in (
+      (w .place, w .is),
+      omega (
+        arith,
+        c .before .before .before .before .before .before .before .put .ensures .0,
+        c .before .before .put-number .ensures .0,
+        length-append (shown (x .n)) (32 ∷ []),
+        shown-length (x .n) (omega arith),
+      ),
+    )
 
 pub put-first-spec : {M : Type 1} → statement M
 put-first-spec =
     tie.close
-    (tie.spec put-requires slice-aggregate-put-number put-number-requires same-length returns)
+    (tie.spec (λ c κs. search needs) (λ c. search needs) (λ c κs. search needs) (λ c. search needs) returns)

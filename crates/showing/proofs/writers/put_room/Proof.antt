@@ -9,21 +9,6 @@ use lib.Seq.{length-take-le}
 use mathlib.Core.Path.{_≡_}
 use native.Mathlib.Omega.{arith}
 
-sub-put-hex : tie.Need-sub-put-hex
-sub-put-hex c = search needs
-
-part-put-hex-start : tie.Need-part-put-hex-start
-part-put-hex-start c = search needs
-
-part-put-hex-end : tie.Need-part-put-hex-end
-part-put-hex-end c = search needs
-
-put-hex-requires : tie.Need-put-hex-requires
-put-hex-requires c κs = search needs
-
-same-length : tie.Need-same-length
-same-length c = search needs
-
 returns : tie.Need-returns
 returns c =
     let x = c .before .before .before .before .before .before .before .args in
@@ -34,4 +19,4 @@ returns c =
 pub put-room-spec : {M : Type 1} → statement M
 put-room-spec =
     tie.close
-    (tie.spec sub-put-hex part-put-hex-start part-put-hex-end put-hex-requires same-length returns)
+    (tie.spec (λ c. search needs) (λ c. search needs) (λ c. search needs) (λ c κs. search needs) (λ c. search needs) returns)

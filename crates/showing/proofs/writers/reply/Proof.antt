@@ -8,36 +8,20 @@ use borrow.Author.Tests.{not-false, not-true}
 use mathlib.Core.Path.{_∙_, ap, sym}
 use native.Mathlib.Omega.{arith}
 
-has-space-requires : tie.Need-has-space-requires
-has-space-requires c κs = search needs
-
-put-unknown-requires : tie.Need-put-unknown-requires
-put-unknown-requires c κs = search needs
-
 returns : tie.Need-returns
 returns c =
     let x = c .before .before .before .before .before .args in
-    reply-refused (x .out .now) (x .words .now) (number-none 65535 (x .words .now) (sym (c .before .before .before .has-space .ensures) ∙ not-true _ (c .before .before .if1 .taken))) (c .put-unknown .ensures)
-
-first-requires : tie.Need-first-requires
-first-requires c κs = search needs
-
-number-to-requires : tie.Need-number-to-requires
-number-to-requires c κs = search needs
-
-put-unknown-requires-2 : tie.Need-put-unknown-requires-2
-put-unknown-requires-2 c κs = search needs
+    reply-refused (x .out .now) (x .words .now)
+    (number-none 65535 (x .words .now) (sym (c .before .before .before .has-space .ensures) ∙ not-true _ (c .before .before .if1 .taken))) (c .put-unknown .ensures)
 
 returns-2 : tie.Need-returns-2
 returns-2 c =
-    let x = c .before .before .before .before .before .before .before .before .args in
-    reply-refused (x .out .now) (x .words .now) (number-large 65535 (x .words .now) (rw (c .before .before .before .number-to .ensures, c .before .before .before .before .first .ensures) at (c .before .before .if2 .taken))) (c .put-unknown2 .ensures)
-
-cast-reply-dated : tie.Need-cast-reply-dated
-cast-reply-dated c = search needs
-
-rest-requires : tie.Need-rest-requires
-rest-requires c κs = search needs
+    let at-first = c .before .before .before .before in
+    let start = at-first .before .before .before .before in
+    let x = start .args in
+    reply-refused (x .out .now) (x .words .now)
+    (number-large 65535 (x .words .now) (rw (c .before .before .before .number-to .ensures, at-first .first .ensures) at (c .before .before .if2 .taken)))
+    (c .put-unknown2 .ensures)
 
 reply-dated-requires : tie.Need-reply-dated-requires
 reply-dated-requires c κs =
@@ -46,22 +30,30 @@ reply-dated-requires c κs =
 
 returns-3 : tie.Need-returns-3
 returns-3 c =
-    let x = c .before .before .before .before .before .before .before .before .before .before .before .args in
-    let q = c .before .before .before .before .before .before .number-to .ensures ∙ ap (numberTo 65535) (c .before .before .before .before .before .before .before .first .ensures) in
-    reply-coded (x .out .now) (x .words .now) (number-good 65535 (x .words .now) (sym (c .before .before .before .before .before .before .before .before .before .has-space .ensures) ∙ not-false _ (c .before .before .before .before .before .before .before .before .if1 .left)) (rw q at (c .before .before .before .before .before .if2 .left))) q (c .before .rest .ensures) (c .reply-dated .ensures)
+    let at-if2 = c .before .before .before .before .before in
+    let at-number-to = at-if2 .before in
+    let at-first = at-number-to .before in
+    let at-if1 = at-first .before in
+    let at-has-space = at-if1 .before in
+    let start = at-has-space .before .before in
+    let x = start .args in
+    let q = at-number-to .number-to .ensures ∙ ap (numberTo 65535) (at-first .first .ensures) in
+    reply-coded (x .out .now) (x .words .now)
+    (number-good 65535 (x .words .now) (sym (at-has-space .has-space .ensures) ∙ not-false _ (at-if1 .if1 .left)) (rw q at (at-if2 .if2 .left))) q (c .before .rest .ensures)
+    (c .reply-dated .ensures)
 
 pub reply-spec : {M : Type 1} → statement M
 reply-spec =
     tie.close
     (tie.spec
-    has-space-requires
-    put-unknown-requires
+    (λ c κs. search needs)
+    (λ c κs. search needs)
     returns
-    first-requires
-    number-to-requires
-    put-unknown-requires-2
+    (λ c κs. search needs)
+    (λ c κs. search needs)
+    (λ c κs. search needs)
     returns-2
-    cast-reply-dated
-    rest-requires
+    (λ c. search needs)
+    (λ c κs. search needs)
     reply-dated-requires
     returns-3)

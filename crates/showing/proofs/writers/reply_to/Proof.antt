@@ -7,74 +7,64 @@ use borrow.Author.Needs.{needs}
 use mathlib.Core.Path.{sym}
 use native.Mathlib.Omega.{arith}
 
-take-last-requires : tie.Need-take-last-requires
-take-last-requires c κs = search needs
-
-put-unknown-requires : tie.Need-put-unknown-requires
-put-unknown-requires c κs = search needs
-
 returns : tie.Need-returns
 returns c =
     let s = c .before .before .before .before .before .before in
     let x = s .args in
-    says (x .out .now) (sym (last-refused (x .words .now) (x .bytes .now) (x .d) _ _ (s .pre .0) (c .before .before .before .take-last .ensures) (c .before .before .if1 .taken) _)) (c .put-unknown .ensures)
-
-room-in-requires : tie.Need-room-in-requires
-room-in-requires c κs = search needs
+    says (x .out .now) (sym (last-refused (x .words .now) (x .bytes .now) (x .d) _ _ (s .pre .0) (c .before .before .before .take-last .ensures) (c .before .before .if1 .taken)
+    _)) (c .put-unknown .ensures)
 
 sub-write-reply : tie.Need-sub-write-reply
 sub-write-reply c =
-    let s = c .before .before .before .before .before .before .before .before .before in
+    let at-take-last = c .before .before .before .before .before .before in
+    let start = at-take-last .before .before .before in
+    let s = start in
     let x = s .args in
-    let l = last-taken (x .words .now) (x .bytes .now) (x .d) _ _ (s .pre .0) (c .before .before .before .before .before .before .take-last .ensures) (s .pre .1) (omega arith) in
+    let l = last-taken (x .words .now) (x .bytes .now) (x .d) _ _ (s .pre .0) (at-take-last .take-last .ensures) (s .pre .1) (omega arith) in
     l .order
 
 part-write-reply-start : tie.Need-part-write-reply-start
 part-write-reply-start c =
-    let s = c .before .before .before .before .before .before .before .before .before in
+    let at-take-last = c .before .before .before .before .before .before in
+    let start = at-take-last .before .before .before in
+    let s = start in
     let x = s .args in
-    let l = last-taken (x .words .now) (x .bytes .now) (x .d) _ _ (s .pre .0) (c .before .before .before .before .before .before .take-last .ensures) (s .pre .1) (omega arith) in
+    let l = last-taken (x .words .now) (x .bytes .now) (x .d) _ _ (s .pre .0) (at-take-last .take-last .ensures) (s .pre .1) (omega arith) in
     omega (arith, l .order)
-
-part-write-reply-end : tie.Need-part-write-reply-end
-part-write-reply-end c = search needs
-
-sub-write-reply-2 : tie.Need-sub-write-reply-2
-sub-write-reply-2 c = search needs
-
-part-write-reply-start-2 : tie.Need-part-write-reply-start-2
-part-write-reply-start-2 c = search needs
-
-part-write-reply-end-2 : tie.Need-part-write-reply-end-2
-part-write-reply-end-2 c = search needs
 
 write-reply-requires : tie.Need-write-reply-requires
 write-reply-requires c κs =
-    let s = c .before .before .before .before .before .before .before .before .before .before .before in
+    let at-room-in = c .before .before .before .before .before .before in
+    let at-take-last = at-room-in .before .before in
+    let start = at-take-last .before .before .before in
+    let s = start in
     let x = s .args in
-    let l = last-taken (x .words .now) (x .bytes .now) (x .d) _ _ (s .pre .0) (c .before .before .before .before .before .before .before .before .take-last .ensures) (s .pre .1) (omega arith) in
-    rw (c .before .before .before .before .before .before .room-in .ensures) (l .small)
+    let l = last-taken (x .words .now) (x .bytes .now) (x .d) _ _ (s .pre .0) (at-take-last .take-last .ensures) (s .pre .1) (omega arith) in
+    rw (at-room-in .room-in .ensures) (l .small)
 
 returns-2 : tie.Need-returns-2
 returns-2 c =
-    let s = c .before .before .before .before .before .before .before .before .before .before .before .before in
+    let at-room-in = c .before .before .before .before .before .before .before in
+    let at-take-last = at-room-in .before .before in
+    let start = at-take-last .before .before .before in
+    let s = start in
     let x = s .args in
-    let l = last-taken (x .words .now) (x .bytes .now) (x .d) _ _ (s .pre .0) (c .before .before .before .before .before .before .before .before .before .take-last .ensures) (s .pre .1) (omega arith) in
-    reply-last (x .out .now) (x .code) l (c .before .before .before .before .before .before .before .room-in .ensures) (c .write-reply .ensures)
+    let l = last-taken (x .words .now) (x .bytes .now) (x .d) _ _ (s .pre .0) (at-take-last .take-last .ensures) (s .pre .1) (omega arith) in
+    reply-last (x .out .now) (x .code) l (at-room-in .room-in .ensures) (c .write-reply .ensures)
 
 pub reply-to-spec : {M : Type 1} → statement M
 reply-to-spec =
     tie.close
     (tie.spec
-    take-last-requires
-    put-unknown-requires
+    (λ c κs. search needs)
+    (λ c κs. search needs)
     returns
-    room-in-requires
+    (λ c κs. search needs)
     sub-write-reply
     part-write-reply-start
-    part-write-reply-end
-    sub-write-reply-2
-    part-write-reply-start-2
-    part-write-reply-end-2
+    (λ c. search needs)
+    (λ c. search needs)
+    (λ c. search needs)
+    (λ c. search needs)
     write-reply-requires
     returns-2)

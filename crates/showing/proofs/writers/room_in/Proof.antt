@@ -5,14 +5,8 @@ use Rattle.showing.specs.Words.{numberTo}
 use borrow.Author.Needs.{needs}
 use mathlib.Core.Path.{_∙_, ap}
 
-first-requires : tie.Need-first-requires
-first-requires c κs = search needs
-
-number-to-requires : tie.Need-number-to-requires
-number-to-requires c κs = search needs
-
 returns : tie.Need-returns
 returns c = c .number-to .ensures ∙ ap (numberTo 40000) (c .before .first .ensures)
 
 pub room-in-spec : {M : Type 1} → statement M
-room-in-spec = tie.close (tie.spec first-requires number-to-requires returns)
+room-in-spec = tie.close (tie.spec (λ c κs. search needs) (λ c κs. search needs) returns)

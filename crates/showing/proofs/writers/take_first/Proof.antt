@@ -7,21 +7,21 @@ use borrow.Author.Needs.{needs}
 use borrow.Author.Tests.{not-false, not-true}
 use mathlib.Core.Path.{_∙_, sym}
 
-has-space-requires : tie.Need-has-space-requires
-has-space-requires c κs = search needs
-
 returns : tie.Need-returns
 returns c = got-none (first-none (c .before .before .before .args .words .now) (sym (c .before .has-space .ensures) ∙ not-true _ (c .if1 .taken)))
 
-first-requires : tie.Need-first-requires
-first-requires c κs = search needs
-
 take-bytes-requires : tie.Need-take-bytes-requires
-take-bytes-requires c κs = rw (c .first .ensures) (first-room (c .before .before .before .before .before .args .words .now) (c .before .before .before .before .before .args .at) (c .before .before .before .before .before .pre))
+take-bytes-requires c κs =
+    let start = c .before .before .before .before .before in
+    rw (c .first .ensures) (first-room (start .args .words .now) (start .args .at) (start .pre))
 
 returns-2 : tie.Need-returns-2
-returns-2 c = first-got (c .before .before .before .before .before .before .args .words .now) (sym (c .before .before .before .before .has-space .ensures) ∙ not-false _ (c .before .before .before .if1 .left)) (rw (c .before .first .ensures) at (c .take-bytes .ensures))
+returns-2 c =
+    let at-has-space = c .before .before .before .before in
+    let start = at-has-space .before .before in
+    first-got (start .args .words .now) (sym (at-has-space .has-space .ensures) ∙ not-false _ (c .before .before .before .if1 .left))
+    (rw (c .before .first .ensures) at (c .take-bytes .ensures))
 
 pub take-first-spec : {M : Type 1} → statement M
 take-first-spec =
-    tie.close (tie.spec has-space-requires returns first-requires take-bytes-requires returns-2)
+    tie.close (tie.spec (λ c κs. search needs) returns (λ c κs. search needs) take-bytes-requires returns-2)

@@ -5,21 +5,17 @@ use Rattle.showing.proofs.writers.write_edit.Statement.{statement}
 use Rattle.showing.proofs.writers.write_edit.Tie as tie
 use borrow.Author.Needs.{needs}
 
-write-add-requires : tie.Need-write-add-requires
-write-add-requires c κs = search needs
-
 returns : tie.Need-returns
 returns c =
     let x = c .before .before .before .before .before .before .before .before .args in
-    says (x .out .now) (add-line (x .adds) (x .n) (x .s .now) (x .host .now) (x .destination .now) (x .organization .now) (c .before .before .before .if1 .taken)) (c .write-add .ensures)
-
-write-remove-requires : tie.Need-write-remove-requires
-write-remove-requires c κs = search needs
+    says (x .out .now) (add-line (x .adds) (x .n) (x .s .now) (x .host .now) (x .destination .now) (x .organization .now) (c .before .before .before .if1 .taken))
+    (c .write-add .ensures)
 
 returns-2 : tie.Need-returns-2
 returns-2 c =
     let x = c .before .before .before .before .before .before .before .before .args in
-    says (x .out .now) (remove-line (x .adds) (x .n) (x .s .now) (x .host .now) (x .destination .now) (x .organization .now) (c .before .before .before .if1 .left)) (c .write-remove .ensures)
+    says (x .out .now) (remove-line (x .adds) (x .n) (x .s .now) (x .host .now) (x .destination .now) (x .organization .now) (c .before .before .before .if1 .left))
+    (c .write-remove .ensures)
 
 pub write-edit-spec : {M : Type 1} → statement M
-write-edit-spec = tie.close (tie.spec write-add-requires returns write-remove-requires returns-2)
+write-edit-spec = tie.close (tie.spec (λ c κs. search needs) returns (λ c κs. search needs) returns-2)

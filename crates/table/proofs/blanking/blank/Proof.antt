@@ -11,41 +11,26 @@ returns c = too-few (c .before .before .args .out .now) (c .before .before .args
 returns-2 : tie.Need-returns-2
 returns-2 c = too-many (c .before .before .before .args .out .now) (c .before .before .before .args .count) (omega arith) (c .if2 .taken)
 
-mul-n : tie.Need-mul-n
-mul-n c = search needs
-
-add-n : tie.Need-add-n
-add-n c = search needs
-
 returns-3 : tie.Need-returns-3
 returns-3 c =
     let o = c .before .before .before .before in
     wrong-length (o .args .out .now) (o .args .count) (omega arith) (omega arith) (c .if3 .taken)
 
-header-requires : tie.Need-header-requires
-header-requires c κs = search needs
-
-slice-aggregate-put : tie.Need-slice-aggregate-put
-slice-aggregate-put c = search needs
-
-put-requires : tie.Need-put-requires
-put-requires c κs = search needs
-
-clear-requires : tie.Need-clear-requires
-clear-requires c κs = search needs
-
-same-length : tie.Need-same-length
-same-length c = search needs
-
 returns-4 : tie.Need-returns-4
 returns-4 c =
-    let o = c .before .before .before .before .before .before .before .before .before .before .before .before .before .before in
+    let at-put = c .before .before .before .before .before .before in
+    let at-header = at-put .before .before .before in
+    let at-if3 = at-header .before in
+    let at-if2 = at-if3 .before in
+    let at-if1 = at-if2 .before in
+    let start = at-if1 .before .before in
+    let o = start in
     made (o .args .out .now) (o .args .count)
-    (c .before .before .before .before .before .before .before .before .before .before .before .before .if1 .left)
-    (c .before .before .before .before .before .before .before .before .before .before .before .if2 .left)
-    (c .before .before .before .before .before .before .before .before .before .before .if3 .left)
-    (c .before .before .before .before .before .before .before .before .before .header .ensures)
-    (c .before .before .before .before .before .before .put .ensures .1) (c .before .before .clear .ensures)
+    (at-if1 .if1 .left)
+    (at-if2 .if2 .left)
+    (at-if3 .if3 .left)
+    (at-header .header .ensures)
+    (at-put .put .ensures .1) (c .before .before .clear .ensures)
 
 pub blank-spec : {M : Type 1} → statement M
 blank-spec =
@@ -53,12 +38,12 @@ blank-spec =
     (tie.spec
     returns
     returns-2
-    mul-n
-    add-n
+    (λ c. search needs)
+    (λ c. search needs)
     returns-3
-    header-requires
-    slice-aggregate-put
-    put-requires
-    clear-requires
-    same-length
+    (λ c κs. search needs)
+    (λ c. search needs)
+    (λ c κs. search needs)
+    (λ c κs. search needs)
+    (λ c. search needs)
     returns-4)

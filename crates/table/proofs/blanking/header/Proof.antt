@@ -5,15 +5,9 @@ use Rattle.table.proofs.blanking.header.Tie as tie
 use Rattle.table.specs.Image.{headerOf}
 use borrow.Author.Needs.{needs}
 
-cast-high : tie.Need-cast-high
-cast-high c = search needs
-
-cast-low : tie.Need-cast-low
-cast-low c = search needs
-
 returns : tie.Need-returns
 unfolding headerOf bytesOf
 returns c = search needs
 
 pub header-spec : {M : Type 1} → statement M
-header-spec = tie.close (tie.spec cast-high cast-low returns)
+header-spec = tie.close (tie.spec (λ c. search needs) (λ c. search needs) returns)

@@ -20,14 +20,8 @@ Inv-loop t k r l₀ l = (l ≤ k) × ((j : ℕ) → j < l → apart (recordAt t 
 abbrev μ-loop : tie.MeasureT-loop
 μ-loop t k r l₀ l = k - l
 
-record-at-requires : tie.Need-record-at-requires Inv-loop μ-loop
-record-at-requires c κs = search needs
-
 loop-holds : tie.Need-loop-holds Inv-loop μ-loop
 loop-holds c = (search needs, λ j h. absurd (omega arith))
-
-record-at-requires-2 : tie.Need-record-at-requires-2 Inv-loop μ-loop
-record-at-requires-2 c κs = search needs
 
 is-apart-requires : tie.Need-is-apart-requires Inv-loop μ-loop
 is-apart-requires c κs =
@@ -41,26 +35,26 @@ is-apart-requires c κs =
 returns : tie.Need-returns Inv-loop μ-loop
 unfolding apartBefore
 returns c =
-    let o = c .before .before .before .before .before .before .before in
+    let at-loop = c .before .before .before .before in
+    let at-record-at = at-loop .before in
+    let start = at-record-at .before .before in
+    let o = start in
     sym (every-stops (λ l. apart (recordAt (o .args .t .now) (o .args .k)) (recordAt (o .args .t .now) l)) (o .args .k)
-    (c .before .before .before .before .loop .l) (omega arith)
-    (through-both apart (c .before .is-apart .ensures) (c .before .before .before .before .before .record-at .ensures .0)
+    (at-loop .loop .l) (omega arith)
+    (through-both apart (c .before .is-apart .ensures) (at-record-at .record-at .ensures .0)
     (c .before .before .record-at2 .ensures .0) (not-true _ (c .if1 .taken))))
-
-add-l : tie.Need-add-l Inv-loop μ-loop
-add-l c = search needs
-
-loop-less : tie.Need-loop-less Inv-loop μ-loop
-loop-less c = search needs
 
 loop-again : tie.Need-loop-again Inv-loop μ-loop
 loop-again c =
-    let o = c .before .before .before .before .before .before .before in
-    let l = c .before .before .before .before in (
+    let at-loop = c .before .before .before .before in
+    let at-record-at = at-loop .before in
+    let start = at-record-at .before .before in
+    let o = start in
+    let l = at-loop in (
       search needs,
       below-more (λ l. apart (recordAt (o .args .t .now) (o .args .k)) (recordAt (o .args .t .now) l) ≡ true) (l .loop .l)
           (l .loop .inv .1) (through-both apart (c .before .is-apart .ensures)
-          (c .before .before .before .before .before .record-at .ensures .0) (c .before .before .record-at2 .ensures .0)
+          (at-record-at .record-at .ensures .0) (c .before .before .record-at2 .ensures .0)
           (not-false _ (c .if1 .left))),
     )
 
@@ -74,12 +68,12 @@ is-apart-before-spec =
     (tie.spec
     Inv-loop
     μ-loop
-    record-at-requires
+    (λ c κs. search needs)
     loop-holds
-    record-at-requires-2
+    (λ c κs. search needs)
     is-apart-requires
     returns
-    add-l
-    loop-less
+    (λ c. search needs)
+    (λ c. search needs)
     loop-again
     returns-2)

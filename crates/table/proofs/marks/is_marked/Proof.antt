@@ -3,7 +3,7 @@ use Prim.Native.Nat.{_≤_, _-_}
 use Rattle.table.proofs.MarkLaws.{marked-none, marked-more}
 use Rattle.table.proofs.marks.is_marked.Statement.{statement}
 use Rattle.table.proofs.marks.is_marked.Tie as tie
-use Rattle.table.specs.Mark.{marked}
+use Rattle.table.specs.inner.Mark.{marked}
 use borrow.Author.Needs.{needs}
 use mathlib.Core.Path.{_≡_, _∙_}
 use native.Mathlib.Omega.{arith}
@@ -16,21 +16,6 @@ abbrev μ-loop : tie.MeasureT-loop
 
 loop-holds : tie.Need-loop-holds Inv-loop μ-loop
 loop-holds c = (search needs, marked-none (c .args .marks .now) (c .args .m))
-
-mul-or : tie.Need-mul-or Inv-loop μ-loop
-mul-or c = search needs
-
-element-copy-out-or : tie.Need-element-copy-out-or Inv-loop μ-loop
-element-copy-out-or c = search needs
-
-or-requires : tie.Need-or-requires Inv-loop μ-loop
-or-requires c κs = search needs
-
-add-i : tie.Need-add-i Inv-loop μ-loop
-add-i c = search needs
-
-loop-less : tie.Need-loop-less Inv-loop μ-loop
-loop-less c = search needs
 
 loop-again : tie.Need-loop-again Inv-loop μ-loop
 loop-again c =
@@ -48,10 +33,10 @@ is-marked-spec =
     Inv-loop
     μ-loop
     loop-holds
-    mul-or
-    element-copy-out-or
-    or-requires
-    add-i
-    loop-less
+    (λ c. search needs)
+    (λ c. search needs)
+    (λ c κs. search needs)
+    (λ c. search needs)
+    (λ c. search needs)
     loop-again
     returns)

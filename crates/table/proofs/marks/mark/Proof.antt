@@ -3,7 +3,7 @@ use Prim.Native.Nat.{_≤_, _<_, _-_}
 use Rattle.table.proofs.MarkLaws.{mark-more, mark-ends}
 use Rattle.table.proofs.marks.mark.Statement.{statement}
 use Rattle.table.proofs.marks.mark.Tie as tie
-use Rattle.table.specs.Mark.{markFrom, markOf}
+use Rattle.table.specs.inner.Mark.{markFrom, markOf}
 use borrow.Author.Needs.{needs}
 use lib.ListN.{length, drop}
 use mathlib.Core.Path.{_≡_, refl, sym, _∙_}
@@ -18,24 +18,6 @@ abbrev μ-loop : tie.MeasureT-loop
 loop-holds : tie.Need-loop-holds Inv-loop μ-loop
 loop-holds c = (search needs, search needs, refl)
 
-mul-v : tie.Need-mul-v Inv-loop μ-loop
-mul-v c = search needs
-
-shared-slice-read-wide : tie.Need-shared-slice-read-wide Inv-loop μ-loop
-shared-slice-read-wide c = search needs
-
-wide-requires : tie.Need-wide-requires Inv-loop μ-loop
-wide-requires c κs = search needs
-
-add-v : tie.Need-add-v Inv-loop μ-loop
-add-v c = search needs
-
-add-i : tie.Need-add-i Inv-loop μ-loop
-add-i c = search needs
-
-loop-less : tie.Need-loop-less Inv-loop μ-loop
-loop-less c = search needs
-
 loop-again : tie.Need-loop-again Inv-loop μ-loop
 loop-again c =
     let l = c .before .before .before in (
@@ -44,9 +26,6 @@ loop-again c =
       rw (c .wide .ensures .0)
           (l .loop .inv .2 ∙ mark-more (c .before .before .before .before .before .args .s .now) (l .loop .i) (l .loop .v) (omega arith)),
     )
-
-cast-result : tie.Need-cast-result Inv-loop μ-loop
-cast-result c = search needs
 
 returns : tie.Need-returns Inv-loop μ-loop
 returns c =
@@ -60,12 +39,12 @@ mark-spec =
     Inv-loop
     μ-loop
     loop-holds
-    mul-v
-    shared-slice-read-wide
-    wide-requires
-    add-v
-    add-i
-    loop-less
+    (λ c. search needs)
+    (λ c. search needs)
+    (λ c κs. search needs)
+    (λ c. search needs)
+    (λ c. search needs)
+    (λ c. search needs)
     loop-again
-    cast-result
+    (λ c. search needs)
     returns)

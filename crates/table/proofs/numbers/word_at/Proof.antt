@@ -1,7 +1,7 @@
 -- `table::numbers::word_at` meets its contract. The loop's invariant: the number of the bytes passed, which fits them. Assumes nothing.
 use Prim.Native.Nat.{_≤_, _<_, _-_}
-use Rattle.octets.proofs.NumberLaws.{none-yet, below-one, number-more, span-more}
-use Rattle.octets.specs.Number.{numberOf, span}
+use Rattle.octets.proofs.NumberLaws.{none-yet, below-one, number-more, span-more, capacity}
+use Rattle.octets.specs.Number.{bigEndian}
 use Rattle.table.proofs.SoundLaws.{span-three}
 use Rattle.table.proofs.numbers.word_at.Statement.{statement}
 use Rattle.table.proofs.numbers.word_at.Tie as tie
@@ -11,7 +11,7 @@ use mathlib.Core.Path.{_≡_}
 use native.Mathlib.Omega.{arith}
 
 abbrev Inv-loop : tie.InvT-loop
-Inv-loop s at v₀ i₀ v i = (i ≤ 4) × (v ≡ numberOf (take i (drop at s))) × (v < span i)
+Inv-loop s at v₀ i₀ v i = (i ≤ 4) × (v ≡ bigEndian (take i (drop at s))) × (v < capacity i)
 
 abbrev μ-loop : tie.MeasureT-loop
 μ-loop s at v₀ i₀ v i = 4 - i
@@ -22,25 +22,10 @@ loop-holds c = (search needs, none-yet (c .before .args .s .now) (c .before .arg
 mul-v : tie.Need-mul-v Inv-loop μ-loop
 mul-v c = omega (arith, span-three (c .before .loop .i) (c .before .loop .v) (omega arith) (c .before .loop .inv .2))
 
-add-wide : tie.Need-add-wide Inv-loop μ-loop
-add-wide c = search needs
-
-shared-slice-read-wide : tie.Need-shared-slice-read-wide Inv-loop μ-loop
-shared-slice-read-wide c = search needs
-
-wide-requires : tie.Need-wide-requires Inv-loop μ-loop
-wide-requires c κs = search needs
-
 add-v : tie.Need-add-v Inv-loop μ-loop
 add-v c =
     let l = c .before .before .before in
     omega (arith, span-three (l .loop .i) (l .loop .v) (omega arith) (l .loop .inv .2))
-
-add-i : tie.Need-add-i Inv-loop μ-loop
-add-i c = search needs
-
-loop-less : tie.Need-loop-less Inv-loop μ-loop
-loop-less c = search needs
 
 loop-again : tie.Need-loop-again Inv-loop μ-loop
 loop-again c =
@@ -62,11 +47,12 @@ word-at-spec =
     μ-loop
     loop-holds
     mul-v
-    add-wide
-    shared-slice-read-wide
-    wide-requires
+    (λ c. search needs)
+    (λ c. search needs)
+    (λ c κs. search needs)
+    (λ c. search needs)
     add-v
-    add-i
-    loop-less
+    (λ c. search needs)
+    (λ c. search needs)
     loop-again
     returns)

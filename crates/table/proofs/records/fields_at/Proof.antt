@@ -3,14 +3,8 @@ use Rattle.table.proofs.records.fields_at.Statement.{statement}
 use Rattle.table.proofs.records.fields_at.Tie as tie
 use borrow.Author.Needs.{needs}
 
-record-at-requires : tie.Need-record-at-requires
-record-at-requires c κs = search needs
-
-fields-of-requires : tie.Need-fields-of-requires
-fields-of-requires c κs = search needs
-
 returns : tie.Need-returns
 returns c = cc
 
 pub fields-at-spec : {M : Type 1} → statement M
-fields-at-spec = tie.close (tie.spec record-at-requires fields-of-requires returns)
+fields-at-spec = tie.close (tie.spec (λ c κs. search needs) (λ c κs. search needs) returns)

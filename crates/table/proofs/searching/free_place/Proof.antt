@@ -19,20 +19,8 @@ Inv-loop t n k₀ k = (k ≤ n) × (n ≡ size t) × ((l : ℕ) → l < k → is
 abbrev μ-loop : tie.MeasureT-loop
 μ-loop t n k₀ k = n - k
 
-record-count-requires : tie.Need-record-count-requires Inv-loop μ-loop
-record-count-requires c κs = search needs
-
 loop-holds : tie.Need-loop-holds Inv-loop μ-loop
 loop-holds c = (search needs, search needs, λ l h. absurd (omega arith))
-
-mul-p : tie.Need-mul-p Inv-loop μ-loop
-mul-p c = search needs
-
-add-p : tie.Need-add-p Inv-loop μ-loop
-add-p c = search needs
-
-shared-slice-read-if1 : tie.Need-shared-slice-read-if1 Inv-loop μ-loop
-shared-slice-read-if1 c = search needs
 
 returns : tie.Need-returns Inv-loop μ-loop
 unfolding freePlace
@@ -41,12 +29,6 @@ returns c =
     let l = c .before .before .before in
     at-lowest (λ k. isFree (recordAt (o .args .t .now) k)) (size (o .args .t .now)) (l .loop .k) (omega arith)
     (is-free (o .args .t .now) (l .loop .k) (c .if1 .taken)) (l .loop .inv .2)
-
-add-k : tie.Need-add-k Inv-loop μ-loop
-add-k c = search needs
-
-loop-less : tie.Need-loop-less Inv-loop μ-loop
-loop-less c = search needs
 
 loop-again : tie.Need-loop-again Inv-loop μ-loop
 loop-again c =
@@ -68,13 +50,13 @@ free-place-spec =
     (tie.spec
     Inv-loop
     μ-loop
-    record-count-requires
+    (λ c κs. search needs)
     loop-holds
-    mul-p
-    add-p
-    shared-slice-read-if1
+    (λ c. search needs)
+    (λ c. search needs)
+    (λ c. search needs)
     returns
-    add-k
-    loop-less
+    (λ c. search needs)
+    (λ c. search needs)
     loop-again
     returns-2)

@@ -4,17 +4,10 @@ use Rattle.table.proofs.searching.is_named.Statement.{statement}
 use Rattle.table.proofs.searching.is_named.Tie as tie
 use borrow.Author.Needs.{needs}
 
-shared-slice-read-if1 : tie.Need-shared-slice-read-if1
-shared-slice-read-if1 c = search needs
-
 returns : tie.Need-returns
-returns c = named-free (c .before .before .before .before .args .id .now) (c .before .before .before .before .args .r .now) (c .if1 .taken)
-
-text-requires : tie.Need-text-requires
-text-requires c κs = search needs
-
-same-requires : tie.Need-same-requires
-same-requires c κs = search needs
+returns c =
+    let start = c .before .before .before .before in
+    named-free (start .args .id .now) (start .args .r .now) (c .if1 .taken)
 
 returns-2 : tie.Need-returns-2
 returns-2 c =
@@ -23,4 +16,4 @@ returns-2 c =
 
 pub is-named-spec : {M : Type 1} → statement M
 is-named-spec =
-    tie.close (tie.spec shared-slice-read-if1 returns text-requires same-requires returns-2)
+    tie.close (tie.spec (λ c. search needs) returns (λ c κs. search needs) (λ c κs. search needs) returns-2)

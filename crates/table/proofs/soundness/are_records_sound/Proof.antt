@@ -19,39 +19,28 @@ Inv-loop t n k₀ k = (k ≤ n) × (n ≡ size t) × ((l : ℕ) → l < k → re
 abbrev μ-loop : tie.MeasureT-loop
 μ-loop t n k₀ k = n - k
 
-record-count-requires : tie.Need-record-count-requires Inv-loop μ-loop
-record-count-requires c κs = search needs
-
 loop-holds : tie.Need-loop-holds Inv-loop μ-loop
 loop-holds c = (search needs, search needs, λ j h. absurd (omega arith))
-
-record-at-requires : tie.Need-record-at-requires Inv-loop μ-loop
-record-at-requires c κs = search needs
-
-is-record-sound-requires : tie.Need-is-record-sound-requires Inv-loop μ-loop
-is-record-sound-requires c κs = search needs
 
 returns : tie.Need-returns Inv-loop μ-loop
 unfolding recordsSound
 returns c =
-    let o = c .before .before .before .before .before .before .before in
+    let at-loop = c .before .before .before .before in
+    let start = at-loop .before .before .before in
+    let o = start in
     sym (every-stops (λ l. recordSound (recordAt (o .args .t .now) l)) (size (o .args .t .now))
-    (c .before .before .before .before .loop .k) (omega arith)
+    (at-loop .loop .k) (omega arith)
     (through recordSound (c .before .is-record-sound .ensures) (c .before .before .record-at .ensures .0) (not-true _ (c .if1 .taken))))
-
-add-k : tie.Need-add-k Inv-loop μ-loop
-add-k c = search needs
-
-loop-less : tie.Need-loop-less Inv-loop μ-loop
-loop-less c = search needs
 
 loop-again : tie.Need-loop-again Inv-loop μ-loop
 loop-again c =
-    let l = c .before .before .before .before in (
+    let at-loop = c .before .before .before .before in
+    let start = at-loop .before .before .before in
+    let l = at-loop in (
       search needs,
       search needs,
       below-more (λ l. recordSound
-          (recordAt (c .before .before .before .before .before .before .before .args .t .now) l) ≡ true) (l .loop .k) (l .loop .inv .2)
+          (recordAt (start .args .t .now) l) ≡ true) (l .loop .k) (l .loop .inv .2)
           (through recordSound (c .before .is-record-sound .ensures) (c .before .before .record-at .ensures .0) (not-false _ (c .if1 .left))),
     )
 
@@ -65,12 +54,12 @@ are-records-sound-spec =
     (tie.spec
     Inv-loop
     μ-loop
-    record-count-requires
+    (λ c κs. search needs)
     loop-holds
-    record-at-requires
-    is-record-sound-requires
+    (λ c κs. search needs)
+    (λ c κs. search needs)
     returns
-    add-k
-    loop-less
+    (λ c. search needs)
+    (λ c. search needs)
     loop-again
     returns-2)

@@ -4,22 +4,10 @@ use Rattle.table.proofs.soundness.is_fire_sound.Tie as tie
 use Rattle.table.specs.WellFormed.{slotSound}
 use borrow.Author.Needs.{needs}
 
-is-padded-requires : tie.Need-is-padded-requires
-is-padded-requires c κs = search needs
-
-text-requires : tie.Need-text-requires
-text-requires c κs = search needs
-
-is-fire-id-requires : tie.Need-is-fire-id-requires
-is-fire-id-requires c κs = search needs
-
-and-requires : tie.Need-and-requires
-and-requires c κs = search needs
-
 returns : tie.Need-returns
 unfolding slotSound
 returns c = cc
 
 pub is-fire-sound-spec : {M : Type 1} → statement M
 is-fire-sound-spec =
-    tie.close (tie.spec is-padded-requires text-requires is-fire-id-requires and-requires returns)
+    tie.close (tie.spec (λ c κs. search needs) (λ c κs. search needs) (λ c κs. search needs) (λ c κs. search needs) returns)

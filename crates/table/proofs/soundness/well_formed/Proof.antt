@@ -6,14 +6,8 @@ use borrow.Author.Needs.{needs}
 use borrow.Author.Tests.{not-true, not-false}
 use mathlib.Core.Path.{sym, _∙_}
 
-is-frame-sound-requires : tie.Need-is-frame-sound-requires
-is-frame-sound-requires c κs = search needs
-
 returns : tie.Need-returns
 returns c = frame-broken (c .before .before .before .args .t .now) (sym (c .before .is-frame-sound .ensures) ∙ not-true _ (c .if1 .taken))
-
-are-records-sound-requires : tie.Need-are-records-sound-requires
-are-records-sound-requires c κs = search needs
 
 returns-2 : tie.Need-returns-2
 returns-2 c =
@@ -30,17 +24,19 @@ is-distinct-requires c κs = (
 
 returns-3 : tie.Need-returns-3
 returns-3 c =
-    only-distinct (c .before .before .before .before .before .before .args .t .now)
-    (sym (c .before .before .before .before .is-frame-sound .ensures) ∙ not-false _ (c .before .before .before .if1 .left))
+    let at-is-frame-sound = c .before .before .before .before in
+    let start = at-is-frame-sound .before .before in
+    only-distinct (start .args .t .now)
+    (sym (at-is-frame-sound .is-frame-sound .ensures) ∙ not-false _ (c .before .before .before .if1 .left))
     (sym (c .before .before .are-records-sound .ensures) ∙ not-false _ (c .before .if2 .left)) (c .is-distinct .ensures)
 
 pub well-formed-spec : {M : Type 1} → statement M
 well-formed-spec =
     tie.close
     (tie.spec
-    is-frame-sound-requires
+    (λ c κs. search needs)
     returns
-    are-records-sound-requires
+    (λ c κs. search needs)
     returns-2
     is-distinct-requires
     returns-3)

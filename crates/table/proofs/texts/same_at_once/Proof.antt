@@ -18,21 +18,6 @@ abbrev μ-loop : tie.MeasureT-loop
 loop-holds : tie.Need-loop-holds Inv-loop μ-loop
 loop-holds c = (search needs, same-none (c .before .before .args .a .now) (c .before .before .args .b .now))
 
-shared-slice-read-and : tie.Need-shared-slice-read-and Inv-loop μ-loop
-shared-slice-read-and c = search needs
-
-shared-slice-read-and-2 : tie.Need-shared-slice-read-and-2 Inv-loop μ-loop
-shared-slice-read-and-2 c = search needs
-
-and-requires : tie.Need-and-requires Inv-loop μ-loop
-and-requires c κs = search needs
-
-add-i : tie.Need-add-i Inv-loop μ-loop
-add-i c = search needs
-
-loop-less : tie.Need-loop-less Inv-loop μ-loop
-loop-less c = search needs
-
 loop-again : tie.Need-loop-again Inv-loop μ-loop
 loop-again c =
     let l = c .before .before .before .before in
@@ -53,10 +38,10 @@ same-at-once-spec =
     Inv-loop
     μ-loop
     loop-holds
-    shared-slice-read-and
-    shared-slice-read-and-2
-    and-requires
-    add-i
-    loop-less
+    (λ c. search needs)
+    (λ c. search needs)
+    (λ c κs. search needs)
+    (λ c. search needs)
+    (λ c. search needs)
     loop-again
     returns)

@@ -6,20 +6,11 @@ use Rattle.utf8.proofs.sequences.long.Tie as tie
 use borrow.Author.Needs.{needs}
 use native.Mathlib.Omega.{arith}
 
-four-requires : tie.Need-four-requires
-four-requires c κs = search needs
-
 returns : tie.Need-returns
 returns c = let x = c .before .before .before .args in rw (four-F0 (x .b) (omega arith) (c .before .if1 .taken)) (c .four .ensures)
 
-four-requires-2 : tie.Need-four-requires-2
-four-requires-2 c κs = search needs
-
 returns-2 : tie.Need-returns-2
 returns-2 c = let x = c .before .before .before .before .args in rw (four (x .b) (omega arith) (c .before .before .if1 .left) (c .before .if2 .taken)) (c .four2 .ensures)
-
-four-requires-3 : tie.Need-four-requires-3
-four-requires-3 c κs = search needs
 
 returns-3 : tie.Need-returns-3
 returns-3 c = let x = c .before .before .before .before .before .args in rw (four-F4 (x .b) (omega arith) (c .before .if3 .taken)) (c .four3 .ensures)
@@ -30,4 +21,4 @@ returns-4 c = let x = c .before .before .before .before .args in rw (beyond (x .
 pub long-spec : {M : Type 1} → statement M
 long-spec =
     tie.close
-    (tie.spec four-requires returns four-requires-2 returns-2 four-requires-3 returns-3 returns-4)
+    (tie.spec (λ c κs. search needs) returns (λ c κs. search needs) returns-2 (λ c κs. search needs) returns-3 returns-4)

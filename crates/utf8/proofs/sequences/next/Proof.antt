@@ -6,14 +6,8 @@ use Rattle.utf8.proofs.sequences.next.Tie as tie
 use borrow.Author.Needs.{needs}
 use mathlib.Core.Path.{ap, _∙_}
 
-byte-requires : tie.Need-byte-requires
-byte-requires c κs = search needs
-
-among-requires : tie.Need-among-requires
-among-requires c κs = search needs
-
 returns : tie.Need-returns
 returns c = c .among .ensures ∙ ap (among (c .before .before .before .args .lo) (c .before .before .before .args .hi)) (c .before .byte .ensures)
 
 pub next-spec : {M : Type 1} → statement M
-next-spec = tie.close (tie.spec byte-requires among-requires returns)
+next-spec = tie.close (tie.spec (λ c κs. search needs) (λ c κs. search needs) returns)

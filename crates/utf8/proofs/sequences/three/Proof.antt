@@ -11,12 +11,6 @@ use mathlib.Core.List.{[], _∷_}
 use mathlib.Core.Path.{sym, ap, _∙_}
 use native.Mathlib.Omega.{arith}
 
-add-next : tie.Need-add-next
-add-next c = search needs
-
-next-requires : tie.Need-next-requires
-next-requires c κs = search needs
-
 returns : tie.Need-returns
 returns c =
     let n = c .before in
@@ -29,12 +23,6 @@ add-next-2 c =
     let x = n .before .before .args in
     omega (arith, inside (x .s .now) (x .at + 1) (x .lo) (x .hi) (omega arith) (sym (n .next .ensures) ∙ not-false _ (c .if1 .left)))
 
-next-requires-2 : tie.Need-next-requires-2
-next-requires-2 c κs = search needs
-
-whole-requires : tie.Need-whole-requires
-whole-requires c κs = search needs
-
 returns-2 : tie.Need-returns-2
 returns-2 c =
     let n = c .before .before .before in
@@ -42,9 +30,10 @@ returns-2 c =
     c .whole .ensures
     ∙ ap (λ (t : Bool). counted t 3)
     (c .before .next2 .ensures ∙ last 0x80 0xBF (x .s .now) (x .at + 2) (omega arith)
-    ∙ sym (goes-on (x .lo) (x .hi) (tail ∷ []) (x .s .now) (x .at + 1) (omega arith) (x .at + 2) (omega arith) (sym (n .next .ensures) ∙ not-false _ (c .before .before .if1 .left))))
+    ∙ sym (goes-on (x .lo) (x .hi) (tail ∷ []) (x .s .now) (x .at + 1) (omega arith) (x .at + 2) (omega arith)
+    (sym (n .next .ensures) ∙ not-false _ (c .before .before .if1 .left))))
 
 pub three-spec : {M : Type 1} → statement M
 three-spec =
     tie.close
-    (tie.spec add-next next-requires returns add-next-2 next-requires-2 whole-requires returns-2)
+    (tie.spec (λ c. search needs) (λ c κs. search needs) returns add-next-2 (λ c κs. search needs) (λ c κs. search needs) returns-2)

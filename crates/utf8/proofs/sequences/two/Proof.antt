@@ -9,19 +9,10 @@ use mathlib.Core.Bool.{Bool}
 use mathlib.Core.Path.{ap, _∙_}
 use native.Mathlib.Omega.{arith}
 
-add-next : tie.Need-add-next
-add-next c = search needs
-
-next-requires : tie.Need-next-requires
-next-requires c κs = search needs
-
-whole-requires : tie.Need-whole-requires
-whole-requires c κs = search needs
-
 returns : tie.Need-returns
 returns c =
     let x = c .before .before .before .args in
     c .whole .ensures ∙ ap (λ (t : Bool). counted t 2) (c .before .next .ensures ∙ last 0x80 0xBF (x .s .now) (x .at + 1) (omega arith))
 
 pub two-spec : {M : Type 1} → statement M
-two-spec = tie.close (tie.spec add-next next-requires whole-requires returns)
+two-spec = tie.close (tie.spec (λ c. search needs) (λ c κs. search needs) (λ c κs. search needs) returns)

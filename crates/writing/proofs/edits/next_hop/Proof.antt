@@ -7,18 +7,6 @@ use borrow.Author.Needs.{needs}
 use mathlib.Core.Path.{_∙_}
 use native.Mathlib.Omega.{arith}
 
-enum-known-answer : tie.Need-enum-known-answer
-enum-known-answer c = search needs
-
-part-requires : tie.Need-part-requires
-part-requires c κs = search needs
-
-enum-told : tie.Need-enum-told
-enum-told c = search needs
-
-part-requires-2 : tie.Need-part-requires-2
-part-requires-2 c κs = search needs
-
 returns : tie.Need-returns
 returns c = c .part .ensures ∙ rw (c .before .before .answer .given .1)
 
@@ -29,4 +17,4 @@ returns-2 c =
 pub next-hop-spec : {M : Type 1} → statement M
 next-hop-spec =
     tie.close
-    (tie.spec enum-known-answer part-requires enum-told part-requires-2 returns returns-2)
+    (tie.spec (λ c. search needs) (λ c κs. search needs) (λ c. search needs) (λ c κs. search needs) returns returns-2)

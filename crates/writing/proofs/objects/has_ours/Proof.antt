@@ -1,9 +1,9 @@
 -- `writing::objects::has_ours` meets its contract. The loop keeps that the objects still to come decide. Assumes nothing.
 use Prim.Native.Nat.{ℕ, _-_, _≤_, _<_}
 use Rattle.json.specs.Places.{bytes, elements, elementsFrom}
-use Rattle.message.proofs.ElementLaws.{no-elements, some-elements, one-element, no-element}
-use Rattle.message.proofs.GatherLaws.{there, comma, no-comma}
-use Rattle.writing.proofs.RouteLaws.{own-part, some-none, some-now, some-later}
+use Rattle.fields.proofs.ElementLaws.{no-elements, some-elements, one-element, no-element}
+use Rattle.fields.proofs.GatherLaws.{there, comma, no-comma}
+use Rattle.writing.proofs.TrailLaws.{own-part, some-none, some-now, some-later}
 use Rattle.writing.proofs.objects.has_ours.Statement.{statement}
 use Rattle.writing.proofs.objects.has_ours.Tie as tie
 use Rattle.writing.specs.Objects.{isOurs, some}
@@ -15,7 +15,8 @@ use native.Mathlib.Omega.{arith}
 
 abbrev Inv-loop : tie.InvT-loop
 Inv-loop s v host destination p₀ n₀ p n =
-    (p ≤ length s) × ((length s < 18446744073709551616) × (some (isOurs host destination) (map (bytes s) (elements s v)) ≡ some (isOurs host destination) (map (bytes s) (elementsFrom n s p))))
+    (p ≤ length s) × ((length s < 18446744073709551616)
+    × (some (isOurs host destination) (map (bytes s) (elements s v)) ≡ some (isOurs host destination) (map (bytes s) (elementsFrom n s p))))
 
 abbrev μ-loop : tie.MeasureT-loop
 μ-loop s v host destination p₀ n₀ p n = n
@@ -23,86 +24,93 @@ abbrev μ-loop : tie.MeasureT-loop
 add-skip : tie.Need-add-skip Inv-loop μ-loop
 add-skip c = omega (arith, c .before .before .before .pre)
 
-skip-requires : tie.Need-skip-requires Inv-loop μ-loop
-skip-requires c κs = search needs
-
-byte-requires : tie.Need-byte-requires Inv-loop μ-loop
-byte-requires c κs = search needs
-
 returns : tie.Need-returns Inv-loop μ-loop
 returns c =
     let x = c .before .before .before .before .before .before .args in
-    some-none (isOurs (x .host .now) (x .destination .now)) (x .s .now) (no-elements (x .s .now) (x .v) (c .before .before .skip .ensures .is) (sym (c .before .byte .ensures) ∙ c .if1 .taken))
+    some-none (isOurs (x .host .now) (x .destination .now)) (x .s .now)
+    (no-elements (x .s .now) (x .v) (c .before .before .skip .ensures .is) (sym (c .before .byte .ensures) ∙ c .if1 .taken))
 
 add-p : tie.Need-add-p Inv-loop μ-loop
 add-p c = omega (arith, c .before .before .before .before .before .before .pre)
 
 loop-holds : tie.Need-loop-holds Inv-loop μ-loop
 loop-holds c =
-    let x = c .before .before .before .before .before .before .args in
+    let start = c .before .before .before .before .before .before in
+    let x = start .args in
     let f = isOurs (x .host .now) (x .destination .now) in
-    let s = x .s .now in
-    (omega (arith, c .before .before .before .before .before .before .pre), (search needs, ap (λ (l : List ℕ). some f (map (bytes s) l)) (some-elements s (x .v) (c .before .before .skip .ensures .is) (λ e. c .if1 .left (c .before .byte .ensures ∙ e)))))
-
-skip-requires-2 : tie.Need-skip-requires-2 Inv-loop μ-loop
-skip-requires-2 c κs = search needs
-
-element-at-requires : tie.Need-element-at-requires Inv-loop μ-loop
-element-at-requires c κs = search needs
-
-part-requires : tie.Need-part-requires Inv-loop μ-loop
-part-requires c κs = search needs
-
-is-ours-requires : tie.Need-is-ours-requires Inv-loop μ-loop
-is-ours-requires c κs = search needs
+    let s = x .s .now in (
+      omega (arith, start .pre),
+      (
+        search needs,
+        ap (λ (l : List ℕ). some f (map (bytes s) l)) (some-elements s (x .v) (c .before .before .skip .ensures .is) (λ e. c .if1 .left (c .before .byte .ensures ∙ e))),
+      ),
+    )
 
 returns-2 : tie.Need-returns-2 Inv-loop μ-loop
 returns-2 c =
-    let x = c .before .before .before .before .before .before .before .before .before .before .before .before .before .args in
+    let at-skip2 = c .before .before .before .before in
+    let at-loop-test = at-skip2 .before in
+    let at-loop = at-loop-test .before in
+    let start = at-loop .before .before .before .before .before .before .before in
+    let x = start .args in
     let f = isOurs (x .host .now) (x .destination .now) in
     let s = x .s .now in
-    let l = c .before .before .before .before .before .before .loop in
-    let q = c .before .before .before .before .skip2 in
-    let one = one-element s (l .n) (l .p) (c .before .before .before .before .before .loop-test .taken) (q .ensures .is) in
-    some-now f s (q .result) _ one (own-part s (q .result) (c .before .before .before .element-at .ensures .ends .is) (c .before .before .part .ensures)) (c .before .is-ours .ensures) (c .if2 .taken) ∙ sym (l .inv .1 .1)
-
-byte-requires-2 : tie.Need-byte-requires-2 Inv-loop μ-loop
-byte-requires-2 c κs = search needs
+    let l = at-loop .loop in
+    let q = at-skip2 .skip2 in
+    let one = one-element s (l .n) (l .p) (at-loop-test .loop-test .taken) (q .ensures .is) in
+    some-now f s (q .result) _ one (own-part s (q .result) (c .before .before .before .element-at .ensures .ends .is) (c .before .before .part .ensures))
+    (c .before .is-ours .ensures) (c .if2 .taken) ∙ sym (l .inv .1 .1)
 
 returns-3 : tie.Need-returns-3 Inv-loop μ-loop
 returns-3 c =
-    let x = c .before .before .before .before .before .before .before .before .before .before .before .before .before .before .before .args in
+    let at-part = c .before .before .before .before in
+    let at-element-at = at-part .before in
+    let at-skip2 = at-element-at .before in
+    let at-loop-test = at-skip2 .before in
+    let at-loop = at-loop-test .before in
+    let start = at-loop .before .before .before .before .before .before .before in
+    let x = start .args in
     let f = isOurs (x .host .now) (x .destination .now) in
     let s = x .s .now in
-    let l = c .before .before .before .before .before .before .before .before .loop in
-    let q = c .before .before .before .before .before .before .skip2 in
-    let e = c .before .before .before .before .before .element-at .ensures in
-    let one = one-element s (l .n) (l .p) (c .before .before .before .before .before .before .before .loop-test .taken) (q .ensures .is) in
+    let l = at-loop .loop in
+    let q = at-skip2 .skip2 in
+    let e = at-element-at .element-at .ensures in
+    let one = one-element s (l .n) (l .p) (at-loop-test .loop-test .taken) (q .ensures .is) in
     let none = no-comma s (elementsFrom (l .n - 1) s) (q .result) (e .goes .is) (λ g. c .if3 .taken (c .before .byte2 .ensures ∙ g)) in
-    some-none f s none ∙ sym (l .inv .1 .1 ∙ some-later f s (q .result) _ one (own-part s (q .result) (e .ends .is) (c .before .before .before .before .part .ensures)) (c .before .before .before .is-ours .ensures) (c .before .before .if2 .left))
+    some-none f s none ∙ sym (l .inv .1 .1
+    ∙ some-later f s (q .result) _ one (own-part s (q .result) (e .ends .is) (at-part .part .ensures)) (c .before .before .before .is-ours .ensures)
+    (c .before .before .if2 .left))
 
 add-p-2 : tie.Need-add-p-2 Inv-loop μ-loop
-add-p-2 c = omega (arith, c .before .before .before .before .before .before .before .before .loop .inv .1 .0, there (c .before .before .before .before .before .before .before .before .before .before .before .before .before .before .before .args .s .now) (c .before .before .before .before .before .element-at .result .then) 43 (sym (c .before .byte2 .ensures) ∙ c .if3 .left))
-
-sub-n : tie.Need-sub-n Inv-loop μ-loop
-sub-n c = search needs
-
-loop-less : tie.Need-loop-less Inv-loop μ-loop
-loop-less c = search needs
+add-p-2 c =
+    let at-element-at = c .before .before .before .before .before in
+    let at-loop = at-element-at .before .before .before in
+    let start = at-loop .before .before .before .before .before .before .before in
+    omega (arith, at-loop .loop .inv .1 .0, there (start .args .s .now) (at-element-at .element-at .result .then) 43 (sym (c .before .byte2 .ensures) ∙ c .if3 .left))
 
 loop-again : tie.Need-loop-again Inv-loop μ-loop
 loop-again c =
-    let x = c .before .before .before .before .before .before .before .before .before .before .before .before .before .before .before .args in
+    let at-part = c .before .before .before .before in
+    let at-element-at = at-part .before in
+    let at-skip2 = at-element-at .before in
+    let at-loop-test = at-skip2 .before in
+    let at-loop = at-loop-test .before in
+    let start = at-loop .before .before .before .before .before .before .before in
+    let x = start .args in
     let f = isOurs (x .host .now) (x .destination .now) in
     let s = x .s .now in
-    let l = c .before .before .before .before .before .before .before .before .loop in
-    let q = c .before .before .before .before .before .before .skip2 in
-    let e = c .before .before .before .before .before .element-at in
+    let l = at-loop .loop in
+    let q = at-skip2 .skip2 in
+    let e = at-element-at .element-at in
     let b = sym (c .before .byte2 .ensures) ∙ c .if3 .left in
-    let one = one-element s (l .n) (l .p) (c .before .before .before .before .before .before .before .loop-test .taken) (q .ensures .is) in
+    let one = one-element s (l .n) (l .p) (at-loop-test .loop-test .taken) (q .ensures .is) in
     let next = comma s (elementsFrom (l .n - 1) s) (q .result) (e .ensures .goes .is) b in (
       omega (arith, there s (e .result .then) 43 b),
-      (l .inv .1 .0, l .inv .1 .1 ∙ some-later f s (q .result) _ one (own-part s (q .result) (e .ensures .ends .is) (c .before .before .before .before .part .ensures)) (c .before .before .before .is-ours .ensures) (c .before .before .if2 .left) ∙ ap (λ (l : List ℕ). some f (map (bytes s) l)) next),
+      (
+        l .inv .1 .0,
+        l .inv .1 .1 ∙ some-later f s (q .result) _ one (own-part s (q .result) (e .ensures .ends .is) (at-part .part .ensures))
+            (c .before .before .before .is-ours .ensures) (c .before .before .if2 .left) ∙ ap (λ (l : List ℕ). some f (map (bytes s) l)) next,
+      ),
     )
 
 returns-4 : tie.Need-returns-4 Inv-loop μ-loop
@@ -118,20 +126,20 @@ has-ours-spec =
     Inv-loop
     μ-loop
     add-skip
-    skip-requires
-    byte-requires
+    (λ c κs. search needs)
+    (λ c κs. search needs)
     returns
     add-p
     loop-holds
-    skip-requires-2
-    element-at-requires
-    part-requires
-    is-ours-requires
+    (λ c κs. search needs)
+    (λ c κs. search needs)
+    (λ c κs. search needs)
+    (λ c κs. search needs)
     returns-2
-    byte-requires-2
+    (λ c κs. search needs)
     returns-3
     add-p-2
-    sub-n
-    loop-less
+    (λ c. search needs)
+    (λ c. search needs)
     loop-again
     returns-4)

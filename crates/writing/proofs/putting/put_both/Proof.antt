@@ -17,18 +17,18 @@ put-requires-2 c κs =
     let s = c .before .before .before .before .before .before .before .before in
     let x = s .args in
     let p : x .at + length (x .first .now) ≤ length (x .out .now) = omega (arith, rw length-append at (s .pre)) in
-    rw (c .before .before .before .put .ensures .1, c .before .before .before .put .ensures .0, length-splice (x .out .now) (x .at) (x .first .now) p) (omega (arith, rw length-append at (s .pre)))
-
-same-length : tie.Need-same-length
-same-length c = search needs
+    rw (c .before .before .before .put .ensures .1, c .before .before .before .put .ensures .0, length-splice (x .out .now) (x .at) (x .first .now) p)
+    (omega (arith, rw length-append at (s .pre)))
 
 returns : tie.Need-returns
 returns c =
-    let s = c .before .before .before .before .before .before .before .before .before .before .before in
+    let at-put = c .before .before .before .before .before .before in
+    let start = at-put .before .before .before .before .before in
+    let s = start in
     let x = s .args in
-    let p = c .before .before .before .before .before .before .put .ensures in
+    let p = at-put .put .ensures in
     let q = c .before .before .put2 .ensures in
     (q .0 ∙ rw (p .0, length-append) (omega arith), q .1 ∙ rw (p .1, p .0) (splice-twice (x .out .now) (x .at) (x .first .now) (x .second .now) (omega (arith, s .pre))))
 
 pub put-both-spec : {M : Type 1} → statement M
-put-both-spec = tie.close (tie.spec put-requires put-requires-2 same-length returns)
+put-both-spec = tie.close (tie.spec put-requires put-requires-2 (λ c. search needs) returns)

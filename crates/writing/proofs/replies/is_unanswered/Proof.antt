@@ -4,12 +4,9 @@ use Rattle.writing.proofs.replies.is_unanswered.Tie as tie
 use Rattle.writing.specs.Reply.{unanswered}
 use borrow.Author.Needs.{needs}
 
-or-requires : tie.Need-or-requires
-or-requires c κs = search needs
-
 returns : tie.Need-returns
 unfolding unanswered
 returns c = cc
 
 pub is-unanswered-spec : {M : Type 1} → statement M
-is-unanswered-spec = tie.close (tie.spec or-requires returns)
+is-unanswered-spec = tie.close (tie.spec (λ c κs. search needs) returns)

@@ -1,0 +1,10 @@
+pub mod ElementLaws
+pub mod TextLaws
+pub mod ValueLaws
+pub mod FieldLaws
+pub mod ChainLaws
+pub mod JudgingLaws
+pub mod GatherLaws
+pub mod HopLaws
+pub mod ViaLaws
+pub mod TrailLaws

@@ -1,0 +1,324 @@
+// Each known field's rule on its value's own bytes (01 Reading, 'Rules'): kept, with the facts that the value tells, or broken at a place.
+use crate::values::is_array;
+use crate::values::is_object;
+use crate::values::is_string;
+use crate::values::own_text;
+use crate::values::under;
+use crate::vias::Via;
+use crate::vias::judge_via;
+use json::element_at;
+use json::skip;
+use octets::and;
+use octets::byte;
+use octets::or;
+use rules::BODY;
+use rules::CALL_ID;
+use rules::CALL_MODE;
+use rules::CALL_TEST;
+use rules::CALLER;
+use rules::CONTENT_TYPE;
+use rules::DATE;
+use rules::DESTINATION;
+use rules::IMAGE_CONTENT;
+use rules::LANGUAGE;
+use rules::LOCATION_CONTENT;
+use rules::LOCATIONS;
+use rules::MESSAGE;
+use rules::MESSAGE_ID;
+use rules::PONG;
+use rules::PRESENCE_CONTENT;
+use rules::REFER_MEMO;
+use rules::REQUEST_SERVICE;
+use rules::RESCUEE;
+use rules::SECURE_CALL;
+use rules::SESSION_ID;
+use rules::STATUS;
+use rules::TEXT_CONTENT;
+use rules::USER_AGENT;
+use rules::VIA;
+ghost use Rattle.fields.specs.inner.Asked.{Own};
+ghost use mathlib.Core.Path.{_≡_};
+ghost use Prim.Native.Nat.{_<_};
+ghost use Rattle.fields.specs.Field.{bodyField, contentField, statusField, stringsField};
+ghost use Rattle.fields.specs.inner.Judging.{cseqOf, judged, partyOf, statusIn};
+ghost use Rattle.fields.specs.inner.Chain.{byKind, chain, kindRule, laterRule, textRule};
+ghost use Rattle.fields.specs.Via.{viaRule};
+ghost use Rattle.rules.specs.Status.{statusRule};
+
+// What a rule sees besides its value: the tag, the method's code and the Content-Type's number.
+pub struct Setting {
+    pub tag: u8,
+    pub method: u8,
+    pub content: u8,
+}
+
+// What a rule answers: kept; or the place in the value where it breaks.
+pub enum Judged {
+    Kept,
+    Broken(usize),
+}
+
+// What a CSeq says: its number and its method's code; or where it breaks its rule.
+pub enum CSeq {
+    Kept(u32, u8),
+    Broken(usize),
+}
+
+// What a To or From says: whose address it is; or where it breaks its rule.
+pub enum Party {
+    Kept(rules::Address),
+    Broken(usize),
+}
+
+// What the Status of a response says: its code; or where it breaks its rule.
+pub enum Status {
+    Kept(u16),
+    Broken(usize),
+}
+
+// 1 CSeq.
+pub fn judge_cseq(v: &[u8]) -> CSeq
+    requires { ⌜ Own (now v) ⌝ }
+    ensures { λ r. ⌜ r ≡ cseqOf (now (v .entry)) ⌝ }
+{
+    let t = own_text(v);
+    if !under(v, t, true) {
+        return CSeq::Broken(0);
+    }
+    match rules::sequence_of(t) {
+        rules::Sequence::Of(number, method) => CSeq::Kept(number, method),
+        rules::Sequence::Broken => CSeq::Broken(0),
+    }
+}
+
+// 2 To and 3 From.
+pub fn judge_party(v: &[u8]) -> Party
+    requires { ⌜ Own (now v) ⌝ }
+    ensures { λ r. ⌜ r ≡ partyOf (now (v .entry)) ⌝ }
+{
+    let t = own_text(v);
+    if !under(v, t, true) {
+        return Party::Broken(0);
+    }
+    let a = rules::address_of(t);
+    match a {
+        rules::Address::Caller(_, _) => Party::Kept(a),
+        rules::Address::Callee(_) => Party::Kept(a),
+        rules::Address::Broken => Party::Broken(0),
+    }
+}
+
+// 7 Status of a response.
+pub fn judge_status(v: &[u8]) -> Status
+    requires { ⌜ Own (now v) ⌝ }
+    ensures { λ r. ⌜ r ≡ statusIn (now (v .entry)) ⌝ }
+{
+    if !is_string(v) {
+        return Status::Broken(0);
+    }
+    match rules::status_of(own_text(v)) {
+        rules::Status::Code(code) => Status::Kept(code),
+        rules::Status::Broken => Status::Broken(0),
+    }
+}
+
+fn is_status(t: &[u8]) -> bool
+    ensures { λ r. ⌜ r ≡ statusRule (now (t .entry)) ⌝ }
+{
+    match rules::status_of(t) {
+        rules::Status::Code(_) => true,
+        rules::Status::Broken => false,
+    }
+}
+
+// The text of field n, from 11 on.
+fn is_later_text(n: usize, t: &[u8]) -> bool
+    ensures { λ r. ⌜ r ≡ laterRule n (now (t .entry)) ⌝ }
+{
+    if n < REFER_MEMO {
+        return rules::is_fire_id(t);
+    }
+    if n == REFER_MEMO {
+        return rules::is_memo(t);
+    }
+    if n == SESSION_ID {
+        return rules::is_call_id(t);
+    }
+    if n == CALL_MODE {
+        return 0 < rules::call_mode(t);
+    }
+    if n == RESCUEE {
+        return 0 < rules::rescuee(t);
+    }
+    if n == REQUEST_SERVICE {
+        return 0 < rules::service(t);
+    }
+    if n == LANGUAGE {
+        return rules::is_language(t);
+    }
+    rules::is_desk(t)
+}
+
+// The text of field n, from 4 on.
+fn is_text(n: usize, t: &[u8]) -> bool
+    ensures { λ r. ⌜ r ≡ textRule n (now (t .entry)) ⌝ }
+{
+    if n == DATE {
+        return rules::is_date(t);
+    }
+    if n == CALL_ID {
+        return rules::is_call_id(t);
+    }
+    if n == MESSAGE_ID {
+        return rules::is_message_id(t);
+    }
+    is_later_text(n, t)
+}
+
+// An array of strings.
+fn is_strings(v: &[u8]) -> bool
+    ensures { λ r. ⌜ r ≡ stringsField (now (v .entry)) ⌝ }
+{
+    if !is_array(v) {
+        return false;
+    }
+    if byte(v, skip(v, 1)) == b']' {
+        return true;
+    }
+    let mut p: usize = 1;
+    let mut n = v.len();
+    while 0 < n {
+        let q = skip(v, p);
+        if byte(v, q) != b'"' {
+            return false;
+        }
+        let then = element_at(v, q).then;
+        if byte(v, then) != b',' {
+            return true;
+        }
+        p = then + 1;
+        n -= 1;
+    }
+    true
+}
+
+// Whether field n is taken by its value's bytes or kind.
+fn is_by_kind(n: usize) -> bool
+    ensures { λ r. ⌜ r ≡ byKind n ⌝ }
+{
+    or(
+        and(CALL_TEST <= n, n < RESCUEE),
+        and(LOCATIONS <= n, n < DESTINATION),
+    )
+}
+
+fn is_kind(n: usize, v: &[u8]) -> bool
+    ensures { λ r. ⌜ r ≡ kindRule n (now (v .entry)) ⌝ }
+{
+    if n == CALL_TEST {
+        return 0 < rules::call_test(v);
+    }
+    if n == SECURE_CALL {
+        return 0 < rules::secure_call(v);
+    }
+    if n == LOCATIONS {
+        return is_array(v);
+    }
+    if n == USER_AGENT {
+        return is_string(v);
+    }
+    if n == CALLER {
+        return is_object(v);
+    }
+    is_strings(v)
+}
+
+fn keeps_status(tag: u8, v: &[u8]) -> bool
+    requires { ⌜ Own (now v) ⌝ }
+    ensures { λ r. ⌜ r ≡ statusField tag (now (v .entry)) ⌝ }
+{
+    let t = own_text(v);
+    if tag == PONG {
+        return under(v, t, 0 < rules::availability(t));
+    }
+    and(is_string(v), is_status(t))
+}
+
+fn keeps_content(method: u8, v: &[u8]) -> bool
+    requires { ⌜ Own (now v) ⌝ }
+    ensures { λ r. ⌜ r ≡ contentField method (now (v .entry)) ⌝ }
+{
+    let t = own_text(v);
+    if method == MESSAGE {
+        return under(v, t, rules::is_message_type(t));
+    }
+    under(v, t, rules::is_notify_type(t))
+}
+
+fn keeps_body(content: u8, v: &[u8]) -> bool
+    requires { ⌜ Own (now v) ⌝ }
+    ensures { λ r. ⌜ r ≡ bodyField content (now (v .entry)) ⌝ }
+{
+    let t = own_text(v);
+    if content == TEXT_CONTENT {
+        return is_string(v);
+    }
+    if content == IMAGE_CONTENT {
+        return and(is_string(v), rules::is_image(t));
+    }
+    if content == PRESENCE_CONTENT {
+        return under(v, t, 0 < rules::presence(t));
+    }
+    if content == LOCATION_CONTENT {
+        return is_object(v);
+    }
+    and(is_string(v), is_status(t))
+}
+
+fn is_via(v: &[u8]) -> bool
+    ensures { λ r. ⌜ r ≡ viaRule (now (v .entry)) ⌝ }
+{
+    match judge_via(v) {
+        Via::Kept(_) => true,
+        Via::Broken(_) => false,
+    }
+}
+
+// Whether a value keeps the rule of field n, from 4 on.
+fn keeps_rule(k: Setting, n: usize, v: &[u8]) -> bool
+    requires { ⌜ Own (now v) ⌝ }
+    ensures { λ r. ⌜ r ≡ chain k n (now (v .entry)) ⌝ }
+{
+    let tag = k.tag;
+    let method = k.method;
+    let content = k.content;
+    if n == VIA {
+        return is_via(v);
+    }
+    if n == STATUS {
+        return keeps_status(tag, v);
+    }
+    if n == CONTENT_TYPE {
+        return keeps_content(method, v);
+    }
+    if n == BODY {
+        return keeps_body(content, v);
+    }
+    if is_by_kind(n) {
+        return is_kind(n, v);
+    }
+    let t = own_text(v);
+    under(v, t, is_text(n, t))
+}
+
+// The rule of field n, from 4 on.
+pub fn judge(k: Setting, n: usize, v: &[u8]) -> Judged
+    requires { ⌜ Own (now v) × ((3 < n) × (n < 27)) ⌝ }
+    ensures { λ r. ⌜ r ≡ judged k n (now (v .entry)) ⌝ }
+{
+    if keeps_rule(k, n, v) {
+        Judged::Kept
+    } else {
+        Judged::Broken(0)
+    }
+}

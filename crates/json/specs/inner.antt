@@ -1,0 +1,6 @@
+pub mod Machine
+pub mod Runs
+pub mod Landing
+pub mod Derived
+pub mod Passing
+pub mod Plain

@@ -1,0 +1,88 @@
+-- Marks of the reading (01 Reading), each a whole message on one side of a row or on both, computed from the definitions. Assumes nothing.
+use Rattle.json.specs.inner.Machine.{begin, expo, from, opens, point, step, stops, walk}
+use Prim.Native.Nat.{ℕ, zero, suc}
+use Rattle.json.specs.inner.Machine.{ends}
+use Rattle.json.specs.Places.{behind, closing, elements, elementsFrom, follows, isMark, isOpen, isShut, left, memberAt, members, membersFrom, more, next, part, isWs}
+use Rattle.json.specs.Places.{past, raw, size, spaces, unmarked, valueOf}
+use Rattle.message.specs.Checks.{breaks, checked, lacks, lowest}
+use Rattle.fields.specs.Field.{addressRule, keeps, statusField}
+use Rattle.fields.specs.Known.{has, note, noted, numberAt, repeated}
+use Rattle.message.specs.Message.{contentAt, disagrees, fromCaller, methodOf, numberOf, sameSide, settingOf, sidesDisagree, toCaller}
+use Rattle.message.specs.Reading.{agreed, judged, known, reading, settled, shaped}
+use Rattle.message.specs.Shape.{objectOf, tagAt, tagOf}
+use Rattle.fields.specs.Spans.{textAt}
+use Rattle.fields.specs.Value.{freely, isArray, isString, ruled, textOf}
+use Rattle.fields.specs.Via.{hopKeeps, hopPlaces, hopRule, isHop, viaRule}
+use Rattle.message.specs.declared.reading.Reading.the-variants.{Refused}
+use Rattle.octets.specs.Ascii.{ascii}
+use Rattle.octets.specs.Class.{all, among, isAlnum, isDigit, isLetter, isLower, isUpper}
+use Rattle.octets.specs.Text.{same, standsAt}
+use Rattle.rules.specs.Address.{addressOf, calleeEnd, calleeRule, callerEnd, callerRule, userEnd}
+use Rattle.rules.specs.Classes.{holds}
+use Rattle.rules.specs.Date.{dateRule, daysIn, leap}
+use Rattle.rules.specs.Fields.{isIn, methodAsks, tagAsks}
+use Rattle.rules.specs.Pieces as pieces
+use Rattle.rules.specs.Pieces.{digits, wordNumberFrom, reads, runLength, decimalAt, within}
+use Rattle.rules.specs.Sequence as sequence
+use Rattle.rules.specs.Sequence.{numberEnd, sequenceOf, sequenceRule}
+use Rattle.rules.specs.Status.{statusRule}
+use Rattle.rules.specs.Texts.{callIdRule, destinationRule, hostRule, organizationRule, unescaped}
+use Rattle.utf8.specs.Rfc3629.{begins, charAt, goesOn, octets}
+use lib.ListN.{replicate}
+use mathlib.Core.Bool.{false, true}
+use mathlib.Core.List.{List, [], _++_}
+use mathlib.Core.Path.{_≡_, refl}
+
+-- row 2: no bytes, and over 32,768; as many as that go on to row 4
+pub lengths : (reading [] ≡ Refused 2 0) × (reading (replicate 32768 120) ≡ Refused 4 0) × (reading (replicate 32769 120) ≡ Refused 2 0)
+unfolding reading octets charAt begins goesOn among from walk step isWs begin isDigit
+lengths = (refl, refl, refl)
+
+-- a message of this tag, with this Status or none, of this method, from one address to another; its other fields keep their rules
+abbrev told : List ℕ → List ℕ → List ℕ → List ℕ → List ℕ
+told begun method from to =
+    begun
+    ++ (ascii "\"CSeq\":\"7 "
+    ++ (method
+    ++ (ascii "\",\"From\":\"net119:"
+    ++ (from
+    ++ (ascii "\",\"To\":\"net119:"
+    ++ (to
+    ++ ascii "\",\"Date\":\"2024-02-29T23:59:59+0900\",\"Call-ID\":\"A1\",\"Via\":[{\"host\":\"h\",\"destination\":\"d\",\"organization\":\"og\"}]}]"))))))
+
+pub rows :
+    -- row 7: a known name twice, at the opening quote of the repeat; `date` is none
+    (reading (ascii "[\"ping\",{\"Date\":0,\"date\":0,\"Date\":0}]") ≡ Refused 7 27)
+    -- row 8: 4 and 25 are missing
+    × (reading (ascii "[\"ping\",{\"Via\":0}]") ≡ Refused 8 4)
+    -- row 9: none is missing, and all break their rules
+    × (reading (ascii "[\"ping\",{\"Via\":0,\"Date\":0,\"Destination\":0}]") ≡ Refused 9 24)
+    -- row 8 again, on the method's fields: a NOTIFY without 9 and 10
+    × (reading (told (ascii "[\"request\",{") (ascii "NOTIFY") (ascii "u1@nishi.caller") (ascii "fire@kita.callee")) ≡ Refused 8 9)
+    -- row 10: From and To on the same side, in a request and in a response
+    × (reading (told (ascii "[\"request\",{") (ascii "BYE") (ascii "u1@nishi.caller") (ascii "u2@kita.caller")) ≡ Refused 10 0)
+    × (reading (told (ascii "[\"response\",{\"Status\":\"200 OK\",") (ascii "BYE") (ascii "fire@kita.callee") (ascii "fire@nishi.callee")) ≡ Refused 10 0)
+unfolding reading octets charAt begins goesOn from walk step isWs begin opens point expo ends stops shaped tagOf tagAt objectOf elements elementsFrom more follows past spaces
+    behind size left unmarked isMark isOpen isShut raw closing part wordNumberFrom same standsAt members membersFrom memberAt valueOf next known repeated has numberAt note noted
+    judged checked lacks breaks lowest tagAsks methodAsks isIn keeps ruled freely isString isArray textOf textAt viaRule isHop hopPlaces hopRule hopKeeps
+    addressRule statusField statusRule dateRule daysIn leap callerRule calleeRule sequenceRule callIdRule destinationRule hostRule organizationRule unescaped reads runLength
+    decimalAt
+    digits within holds all among isAlnum isDigit isLetter isLower isUpper pieces.hasPiece pieces.behind settingOf methodOf numberOf contentAt sequenceOf numberEnd
+    sequence.cseqNumber sequence.cseqMethod settled agreed disagrees sidesDisagree sameSide fromCaller toCaller addressOf userEnd callerEnd calleeEnd
+rows = (refl, refl, refl, refl, refl, refl)
+
+-- so many objects of Via, and a comma behind each
+abbrev hops : ℕ → List ℕ
+hops zero = []
+hops (suc n) = ascii "{\"host\":\"h\",\"destination\":\"d\",\"organization\":\"og\"}," ++ hops n
+
+-- Via of one object more than that
+abbrev viaOf : ℕ → List ℕ
+viaOf n = ascii "[" ++ (hops n ++ ascii "{\"host\":\"h\",\"destination\":\"d\",\"organization\":\"og\"}]")
+
+-- Via: 1–16 objects
+pub via-counts : (viaRule (ascii "[]") ≡ false) × (viaRule (viaOf 0) ≡ true) × (viaRule (viaOf 15) ≡ true) × (viaRule (viaOf 16) ≡ false)
+unfolding viaRule isArray elements elementsFrom more follows past spaces behind size left isOpen isShut isWs isHop hopPlaces hopRule hopKeeps noted repeated has note numberAt
+    members membersFrom memberAt valueOf next raw closing part wordNumberFrom same ruled freely isString textOf unescaped hostRule destinationRule organizationRule reads
+    pieces.hasPiece pieces.behind runLength within holds among all isAlnum isDigit isLetter isLower isUpper
+via-counts = (refl, refl, refl, refl)
