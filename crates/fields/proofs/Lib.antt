@@ -5,6 +5,7 @@ pub mod FieldLaws
 pub mod ChainLaws
 pub mod JudgingLaws
 pub mod GatherLaws
+pub mod ClosingLaws
 pub mod HopLaws
 pub mod ViaLaws
 pub mod TrailLaws

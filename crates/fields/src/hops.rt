@@ -1,12 +1,16 @@
 // An object of Via: its three members, gathered in one walk; and by its own bytes where its host and its destination stand in it.
+use json::Member;
 use json::member_at;
 use json::part;
 use json::skip;
+use octets::and;
 use octets::byte;
-ghost use Rattle.fields.specs.inner.Gathering.{endsIn, placesIn, Gathered, endsOf};
-ghost use mathlib.Core.Bool.{_&&_, cond};
+use octets::or;
+ghost use Rattle.fields.specs.inner.Gathering.{endsIn, placesIn, plain, Gathered, endsOf};
+ghost use mathlib.Core.Bool.{_&&_, cond, true};
 ghost use mathlib.Core.Path.{_≡_};
-ghost use Prim.Native.Nat.{_<_};
+ghost use Prim.Native.Nat.{_+_, _<_};
+ghost use Rattle.json.specs.Places.{behind};
 ghost use lib.Dec.{eqb, ltb};
 ghost use lib.ListN.{getD, length, set};
 ghost use Rattle.fields.specs.Hop.{hopOf};
@@ -102,24 +106,57 @@ fn repeating(m: Members, q: usize) -> Members
     }
 }
 
-// The three members of the object that opens at o.
-pub fn hop_members(v: &[u8], o: usize) -> Members
+// Whether the member x has a colon, and a value that opens with a quote or a bracket: behind it as many brackets are open as before it.
+fn is_plain(v: &[u8], x: Member) -> bool
+    ensures { λ r. ⌜ r ≡ plain (now (v .entry)) (x .name) (x .value) ⌝ }
+{
+    let colon = byte(v, skip(v, x.name));
+    let b = byte(v, x.value);
+    and(colon == b':', or(b == b'"', or(b == b'[', b == b'{')))
+}
+
+// Where the object ends whose members end at p: behind the brace there; 0 where that is not known.
+fn shut_at(v: &[u8], known: bool, p: usize) -> usize
+    ensures { λ r. ⌜ (0 < r → (known ≡ true) × ((getD (now (v .entry)) p 0 ≡ 125) × (r ≡ p + 1))) ⌝ }
+{
+    if !known {
+        return 0;
+    }
+    if byte(v, p) != b'}' {
+        return 0;
+    }
+    p + 1
+}
+
+// The members of an object, and where it is shut; 0 where the walk over them does not tell.
+pub struct Shut {
+    pub members: Members,
+    pub end: usize,
+}
+
+// The three members of the object that opens at o, and its end, in one walk.
+pub fn hop_members(v: &[u8], o: usize) -> Shut
     requires { ⌜ o < length (now v) ⌝ }
-    ensures { λ r. ⌜ Gathered hopMembers (now (v .entry)) o (r .twice) (placesIn r) × (endsIn r ≡ endsOf (now (v .entry)) (placesIn r)) ⌝ }
+    ensures { λ r. ⌜ (Gathered hopMembers (now (v .entry)) o (r .members .twice) (placesIn (r .members)) × (endsIn (r .members) ≡ endsOf (now (v .entry)) (placesIn (r .members)))) × (0 < r .end → r .end ≡ behind (now (v .entry)) o) ⌝ }
 {
     let mut m = no_members();
+    let mut known = byte(v, o) == b'{';
     let mut p = o + 1;
     let mut n = v.len();
     while 0 < n {
         let q = skip(v, p);
         if byte(v, q) != b'"' {
-            return m;
+            return Shut { members: m, end: 0 };
         }
         let x = member_at(v, q);
         let name = x.name;
         let k = rules::hop_member(part(v, q + 1, name - 1));
         if has_member(m, k) {
-            return repeating(m, q);
+            let twice = repeating(m, q);
+            return Shut {
+                members: twice,
+                end: 0,
+            };
         }
         m = with_member(
             m,
@@ -129,14 +166,16 @@ pub fn hop_members(v: &[u8], o: usize) -> Members
                 end: x.end,
             },
         );
+        known = and(known, is_plain(v, x));
         let then = x.then;
         if byte(v, then) != b',' {
-            return m;
+            let end = shut_at(v, known, then);
+            return Shut { members: m, end };
         }
         p = then + 1;
         n -= 1;
     }
-    m
+    Shut { members: m, end: 0 }
 }
 
 // The first bytes of the values of host and destination; 0 for one that is missing, and for both where one of the three members of an
@@ -156,7 +195,8 @@ pub fn hop_of(v: &[u8]) -> Hop
             destination: 0,
         };
     }
-    let m = hop_members(v, 0);
+    let w = hop_members(v, 0);
+    let m = w.members;
     let twice = m.twice;
     let host = m.host;
     let destination = m.destination;

@@ -10,6 +10,7 @@ use crate::values::is_array;
 use crate::values::own_text;
 use crate::values::under;
 use crate::values::value_at;
+use json::Element;
 use json::element_at;
 use json::skip;
 use octets::and;
@@ -18,6 +19,7 @@ ghost use mathlib.Core.Bool.{false, true};
 ghost use mathlib.Core.Path.{_≡_};
 ghost use Prim.Native.Nat.{_+_, _<_};
 ghost use Rattle.json.specs.Places.{behind};
+ghost use Rattle.json.specs.inner.Landing.{Cell};
 ghost use Rattle.fields.specs.inner.Judging.{viaOf};
 ghost use Rattle.fields.specs.Trail.{hostSpan};
 ghost use Rattle.fields.specs.Via.{hopKeeps, hopRule, isHop};
@@ -49,29 +51,32 @@ fn keeps_member(v: &[u8], x: Value, n: u8) -> bool
     under(w, t, is_hop_text(n, t))
 }
 
-// Whether an object keeps the rule, and then where its host stands.
+// Whether an object keeps the rule, and then where its host stands; and where it ends, 0 where the walk over its members does not tell.
 struct Object {
     good: bool,
     host: Span,
+    end: usize,
 }
 
 fn no_object() -> Object
-    ensures { λ r. ⌜ r .good ≡ false ⌝ }
+    ensures { λ r. ⌜ (r .good ≡ false) × (r .end ≡ 0) ⌝ }
 {
     Object {
         good: false,
         host: Span { start: 0, end: 0 },
+        end: 0,
     }
 }
 
 // The object of Via that opens at o, if one does.
 fn object_at(v: &[u8], o: usize) -> Object
-    ensures { λ r. ⌜ (r .good ≡ isHop (now (v .entry)) o) × (r .good ≡ true → r .host ≡ hostSpan (now (v .entry)) o) ⌝ }
+    ensures { λ r. ⌜ (r .good ≡ isHop (now (v .entry)) o) × ((r .good ≡ true → r .host ≡ hostSpan (now (v .entry)) o) × (0 < r .end → r .end ≡ behind (now (v .entry)) o)) ⌝ }
 {
     if byte(v, o) != b'{' {
         return no_object();
     }
-    let m = hop_members(v, o);
+    let w = hop_members(v, o);
+    let m = w.members;
     let twice = m.twice;
     let host = m.host;
     let destination = m.destination;
@@ -88,6 +93,7 @@ fn object_at(v: &[u8], o: usize) -> Object
             ),
         ),
         host: text_span(v, host.at, host.end),
+        end: w.end,
     }
 }
 
@@ -95,6 +101,18 @@ fn object_at(v: &[u8], o: usize) -> Object
 pub enum Via {
     Kept(Trail),
     Broken(usize),
+}
+
+// The element at q, which ends at e; e is 0 where the end is not known.
+fn element_from(v: &[u8], q: usize, e: usize) -> Element
+    requires { ⌜ (0 < e → e ≡ behind (now v) q) ⌝ }
+    ensures { λ r. ⌜ Cell (now (v .entry)) q (r .end) (r .then) ⌝ }
+{
+    if e == 0 {
+        return element_at(v, q);
+    }
+    let then = skip(v, e);
+    Element { end: e, then }
 }
 
 // r with one object more, which begins at q and ends at e; h is where the host of r's last object stands, now the last but one.
@@ -136,7 +154,7 @@ pub fn judge_via(v: &[u8]) -> Via
         if !good {
             return Via::Broken(0);
         }
-        let e = element_at(v, q);
+        let e = element_from(v, q, x.end);
         let then = e.then;
         r = onward(r, h, q, e.end);
         h = host;

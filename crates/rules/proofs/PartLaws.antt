@@ -52,10 +52,10 @@ further-le : (t : Bool) (n m : ℕ) → n ≤ m → further t n ≤ suc m
 further-le true n m h = omega arith
 further-le false n m h = omega arith
 
-pub span-le : (k : Class) (s : List ℕ) → runLength k s ≤ length s
+pub run-le : (k : Class) (s : List ℕ) → runLength k s ≤ length s
 unfolding runLength
-span-le k [] = omega arith
-span-le k (x ∷ s) = further-le (holds k x) (runLength k s) (length s) (span-le k s)
+run-le k [] = omega arith
+run-le k (x ∷ s) = further-le (holds k x) (runLength k s) (length s) (run-le k s)
 
 -- the bytes that are counted are the same bytes once they are cut out
 step-cut : (k : Class) (x : ℕ) (s : List ℕ) (t : Bool) → holds k x ≡ t → runLength k (take (runLength k s) s) ≡ runLength k s
@@ -64,10 +64,10 @@ unfolding runLength
 step-cut k x s true e h = rw e (ap suc h)
 step-cut k x s false e h = refl
 
-pub span-cut : (k : Class) (s : List ℕ) → runLength k (take (runLength k s) s) ≡ runLength k s
+pub run-cut : (k : Class) (s : List ℕ) → runLength k (take (runLength k s) s) ≡ runLength k s
 unfolding runLength
-span-cut k [] = refl
-span-cut k (x ∷ s) = step-cut k x s (holds k x) refl (span-cut k s)
+run-cut k [] = refl
+run-cut k (x ∷ s) = step-cut k x s (holds k x) refl (run-cut k s)
 
 module _ (lo hi : ℕ) (k e : Class) (s : List ℕ) (at end : ℕ) (some : 1 ≤ lo) (q : end ≡ at + runLength k (drop at s)) (h : within lo hi e s at end ≡ true) where
   pub run-in : (lo ≤ end - at) × (end - at ≤ hi)
@@ -83,7 +83,7 @@ module _ (lo hi : ℕ) (k e : Class) (s : List ℕ) (at end : ℕ) (some : 1 ≤
   last-edge = and-parts (holds e (getD s at 0)) (holds e (getD s (end - 1) 0)) (and-parts (among lo hi (end - at)) (holds e (getD s at 0) && holds e (getD s (end - 1) 0)) h .1) .1
 
   cut-length : length (take (end - at) (drop at s)) ≡ end - at
-  cut-length = length-take-le (end - at) (drop at s) (omega (arith, span-le k (drop at s)))
+  cut-length = length-take-le (end - at) (drop at s) (omega (arith, run-le k (drop at s)))
 
   cut-first : getD (take (end - at) (drop at s)) 0 0 ≡ getD s at 0
   cut-first =
@@ -95,10 +95,10 @@ module _ (lo hi : ℕ) (k e : Class) (s : List ℕ) (at end : ℕ) (some : 1 ≤
       getD-take (end - at) (drop at s) (end - at - 1) 0 (omega (arith, run-in)) ∙ getD-drop at s (end - at - 1) 0
       ∙ ap (λ (i : ℕ). getD s i 0) (let z : at + (end - at - 1) ≡ end - 1 = omega (arith, run-in) in z)
 
-  cut-span : 0 + runLength k (drop 0 (take (end - at) (drop at s))) ≡ end - at
-  cut-span =
+  run-whole : 0 + runLength k (drop 0 (take (end - at) (drop at s))) ≡ end - at
+  run-whole =
       let z : end - at ≡ runLength k (drop at s) = omega arith in
-      rw z (zero-add _ ∙ span-cut k (drop at s))
+      rw z (zero-add _ ∙ run-cut k (drop at s))
 
   -- a run in the middle of a text is a text of its own
   pub cut-run : reads (run lo hi k e ∷ []) (take (end - at) (drop at s)) 0 ≡ true
@@ -106,7 +106,7 @@ module _ (lo hi : ℕ) (k e : Class) (s : List ℕ) (at end : ℕ) (some : 1 ≤
   cut-run =
       let z : end - at - 0 ≡ end - at = omega arith in
       rw (
-        cut-span,
+        run-whole,
         z,
         cut-length,
         cut-first,

@@ -19,17 +19,17 @@ use Rattle.rules.specs.Texts.{begins, memoRule, points, unescaped}
 use Rattle.rules.specs.declared.classes.Class.{Class}
 
 module _ (k : Class) (s : List ℕ) (i : ℕ) where
-  pub span-more : i < length s → holds k (getD s i 0) ≡ true → i + runLength k (drop i s) ≡ (i + 1) + runLength k (drop (i + 1) s)
+  pub run-more : i < length s → holds k (getD s i 0) ≡ true → i + runLength k (drop i s) ≡ (i + 1) + runLength k (drop (i + 1) s)
   unfolding runLength
-  span-more h e = rw (add-one, drop-cons s i 0, e) (omega arith)
+  run-more h e = rw (add-one, drop-cons s i 0, e) (omega arith)
 
-  pub span-stops : i < length s → holds k (getD s i 0) ≡ false → i + runLength k (drop i s) ≡ i
+  pub run-stops : i < length s → holds k (getD s i 0) ≡ false → i + runLength k (drop i s) ≡ i
   unfolding runLength
-  span-stops h e = rw (drop-cons s i 0, e) (omega arith)
+  run-stops h e = rw (drop-cons s i 0, e) (omega arith)
 
-  pub span-ends : length s ≤ i → i + runLength k (drop i s) ≡ i
+  pub run-ends : length s ≤ i → i + runLength k (drop i s) ≡ i
   unfolding runLength
-  span-ends h = rw (drop-of-length-le s h) (omega arith)
+  run-ends h = rw (drop-of-length-le s h) (omega arith)
 
 no-points : (n : ℕ) → n + points [] ≡ n
 unfolding points

@@ -1,7 +1,7 @@
 // To and From.
 use crate::classes::Class;
 use crate::pieces::mark;
-use crate::pieces::span;
+use crate::pieces::run_end;
 use crate::pieces::within;
 use octets::and;
 use octets::stands_at;
@@ -50,12 +50,12 @@ fn is_callee(s: &[u8], fire: usize) -> bool
 pub fn address_of(s: &[u8]) -> Address
     ensures { λ r. ⌜ r ≡ addressOf (now (s .entry)) ⌝ }
 {
-    let user = span(s, 7, Class::Alnum);
-    let fire = span(s, user + 1, Class::Fire);
+    let user = run_end(s, 7, Class::Alnum);
+    let fire = run_end(s, user + 1, Class::Fire);
     if is_caller(s, user, fire) {
         return Address::Caller(user, fire);
     }
-    let end = span(s, 12, Class::Fire);
+    let end = run_end(s, 12, Class::Fire);
     if is_callee(s, end) {
         return Address::Callee(end);
     }

@@ -15,7 +15,7 @@ ghost use Rattle.octets.specs.Text.{standsAt};
 ghost use Rattle.rules.specs.Pieces.{digits, hasPiece, number, reads, run, runLength, decimalAt, within};
 
 // Where the bytes of a class that stand from `at` on end.
-pub fn span(s: &[u8], at: usize, class: Class) -> usize
+pub fn run_end(s: &[u8], at: usize, class: Class) -> usize
     ensures { λ r. ⌜ (r ≡ at + runLength class (drop at (now (s .entry)))) × ((at ≤ r) × (r ≤ at + (length (now (s .entry)) - at))) ⌝ }
 {
     let mut i = at;
@@ -53,7 +53,7 @@ pub fn within(s: &[u8], at: usize, end: usize, lo: usize, hi: usize, edge: Class
 pub fn is_run(s: &[u8], lo: usize, hi: usize, class: Class, edge: Class) -> bool
     ensures { λ r. ⌜ r ≡ reads (run lo hi class edge ∷ []) (now (s .entry)) 0 ⌝ }
 {
-    let end = span(s, 0, class);
+    let end = run_end(s, 0, class);
     let n = s.len();
     and(within(s, 0, end, lo, hi, edge), end == n)
 }

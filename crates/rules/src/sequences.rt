@@ -3,7 +3,7 @@ use crate::classes::Class;
 use crate::names::method;
 use crate::pieces::count;
 use crate::pieces::mark;
-use crate::pieces::span;
+use crate::pieces::run_end;
 use octets::byte;
 ghost use mathlib.Core.Path.{_≡_};
 ghost use Rattle.rules.specs.Sequence.{sequenceOf};
@@ -18,7 +18,7 @@ pub enum Sequence {
 pub fn sequence_of(s: &[u8]) -> Sequence
     ensures { λ r. ⌜ r ≡ sequenceOf (now (s .entry)) ⌝ }
 {
-    let end = span(s, 0, Class::Digit);
+    let end = run_end(s, 0, Class::Digit);
     if !mark(s, end, b' ') {
         return Sequence::Broken;
     }

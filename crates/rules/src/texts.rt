@@ -2,7 +2,7 @@
 use crate::classes::Class;
 use crate::pieces::is_run;
 use crate::pieces::mark;
-use crate::pieces::span;
+use crate::pieces::run_end;
 use crate::pieces::within;
 use octets::among;
 use octets::and;
@@ -65,7 +65,7 @@ pub fn is_language(s: &[u8]) -> bool
 pub fn is_desk(s: &[u8]) -> bool
     ensures { λ r. ⌜ r ≡ deskRule (now (s .entry)) ⌝ }
 {
-    let end = span(s, 0, Class::Fire);
+    let end = run_end(s, 0, Class::Fire);
     let n = s.len();
     let side = and(stands_at(s, end, b".callee"), end + 7 == n);
     and(within(s, 0, end, 2, 15, Class::Small), side)
@@ -75,8 +75,8 @@ pub fn is_desk(s: &[u8]) -> bool
 fn message_tail(s: &[u8]) -> bool
     ensures { λ r. ⌜ r ≡ reads messageTail (now (s .entry)) 7 ⌝ }
 {
-    let fire = span(s, 7, Class::Fire);
-    let end = span(s, fire + 1, Class::Alnum);
+    let fire = run_end(s, 7, Class::Fire);
+    let end = run_end(s, fire + 1, Class::Alnum);
     let n = s.len();
     let own = and(
         mark(s, fire, b'-'),

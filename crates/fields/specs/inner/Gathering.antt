@@ -1,12 +1,14 @@
 -- What a walk over an object's members keeps: the places of the known ones up to the first repeat, and where their values end. `all` of `Gathered`, with
--- `over` and `goes-on` of proofs/GatherLaws.antt, ties it to `noted` and `repeated` in Known.antt. Assumes nothing.
-use Prim.Native.Nat.{ℕ, _<_}
+-- `over` and `goes-on` of proofs/GatherLaws.antt, ties it to `noted` and `repeated` in Known.antt; and where the object is shut, by the brackets that are open
+-- (`shut` of proofs/ClosingLaws.antt). Assumes nothing.
+use Prim.Native.Char.{code}
+use Prim.Native.Nat.{ℕ, _+_, _<_}
 use Rattle.fields.specs.Known.{empty, has, note, noted, repeated}
 use Rattle.fields.specs.declared.hops.Members.{Members}
-use Rattle.json.specs.Places.{behind, members}
+use Rattle.json.specs.Places.{behind, left, members, outside, past}
 use lib.Dec.{eqb}
-use lib.ListN.{getD, replicate}
-use mathlib.Core.Bool.{cond}
+use lib.ListN.{drop, getD, replicate}
+use mathlib.Core.Bool.{Bool, _&&_, _||_, cond}
 use mathlib.Core.List.{List, [], _∷_, map}
 use mathlib.Core.Path.{_≡_}
 
@@ -39,3 +41,13 @@ placesIn m = 0 ∷ (m .host .at ∷ (m .destination .at ∷ (m .organization .at
 
 abbrev pub endsIn : Members → List ℕ
 endsIn m = 0 ∷ (m .host .end ∷ (m .destination .end ∷ (m .organization .end ∷ replicate 23 0)))
+
+-- of the object that opens at o nothing but its own brace is open at p
+pub record Open (v : List ℕ) (o p : ℕ) : Type 0 where
+  pub to-go : behind v o ≡ p + left (drop p v) outside 1
+
+-- a member has a colon behind its name, and a value that opens with a quote or a bracket
+unfoldable pub plain : List ℕ → ℕ → ℕ → Bool
+plain v name value =
+    eqb (getD v (past v name) 0) (code ":")
+    && (eqb (getD v value 0) (code "\"") || (eqb (getD v value 0) (code "[") || eqb (getD v value 0) (code "{")))

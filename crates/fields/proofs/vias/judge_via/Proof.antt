@@ -62,6 +62,9 @@ returns-4 c =
     (walk-broken (at-loop .loop .inv .1 .1) (at-loop-test .loop-test .taken) (at-skip2 .skip2 .ensures .is)
     (sym (c .before .before .object-at .ensures .0) ∙ not-true _ (c .if4 .taken)))
 
+element-from-requires : tie.Need-element-from-requires Inv-loop μ-loop
+element-from-requires c κs = c .before .before .object-at .ensures .1 .1
+
 onward-requires : tie.Need-onward-requires Inv-loop μ-loop
 onward-requires c κs = omega (arith, c .before .before .before .before .before .before .before .before .loop .inv .1 .1 .few)
 
@@ -76,8 +79,8 @@ returns-5 c =
     let start = at-loop .before .before .before .before .before .before .before .before in
     via-kept (start .args .v .now)
     (walk-shut (at-loop .loop .inv .1 .1) (at-loop-test .loop-test .taken) (at-skip2 .skip2 .ensures .is) (at-if3 .if3 .left)
-    (sym (at-object-at .object-at .ensures .0) ∙ not-false _ (at-if4 .if4 .left)) (at-object-at .object-at .ensures .1 (not-false _ (at-if4 .if4 .left)))
-    (c .before .before .before .element-at .ensures) (c .before .before .onward .ensures)
+    (sym (at-object-at .object-at .ensures .0) ∙ not-false _ (at-if4 .if4 .left)) (at-object-at .object-at .ensures .1 .0 (not-false _ (at-if4 .if4 .left)))
+    (c .before .before .before .element-from .ensures) (c .before .before .onward .ensures)
     (λ e. c .if5 .taken (c .before .byte2 .ensures ∙ e)))
 
 add-p : tie.Need-add-p Inv-loop μ-loop
@@ -87,7 +90,7 @@ add-p c =
     omega (
       arith,
       at-loop .loop .inv .1 .0 .1,
-      there (start .args .v .now) (c .before .before .before .element-at .result .then) 43 (sym (c .before .byte2 .ensures) ∙ c .if5 .left),
+      there (start .args .v .now) (c .before .before .before .element-from .result .then) 43 (sym (c .before .byte2 .ensures) ∙ c .if5 .left),
     )
 
 loop-again : tie.Need-loop-again Inv-loop μ-loop
@@ -100,12 +103,12 @@ loop-again c =
     let at-loop = at-loop-test .before in
     let start = at-loop .before .before .before .before .before .before .before .before in
     let b = sym (c .before .byte2 .ensures) ∙ c .if5 .left in (
-      omega (arith, there (start .args .v .now) (c .before .before .before .element-at .result .then) 43 b),
+      omega (arith, there (start .args .v .now) (c .before .before .before .element-from .result .then) 43 b),
       (
         at-loop .loop .inv .1 .0,
         walk-again (at-loop .loop .inv .1 .1) (at-loop-test .loop-test .taken) (at-skip2 .skip2 .ensures .is) (at-if3 .if3 .left)
-            (sym (at-object-at .object-at .ensures .0) ∙ not-false _ (at-if4 .if4 .left)) (at-object-at .object-at .ensures .1 (not-false _ (at-if4 .if4 .left)))
-            (c .before .before .before .element-at .ensures) (c .before .before .onward .ensures) b,
+            (sym (at-object-at .object-at .ensures .0) ∙ not-false _ (at-if4 .if4 .left)) (at-object-at .object-at .ensures .1 .0 (not-false _ (at-if4 .if4 .left)))
+            (c .before .before .before .element-from .ensures) (c .before .before .onward .ensures) b,
       ),
     )
 
@@ -134,7 +137,7 @@ judge-via-spec =
     returns-3
     (λ c κs. search needs)
     returns-4
-    (λ c κs. search needs)
+    element-from-requires
     onward-requires
     (λ c κs. search needs)
     returns-5

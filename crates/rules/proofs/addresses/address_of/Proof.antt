@@ -8,9 +8,9 @@ use Rattle.rules.proofs.addresses.address_of.Tie as tie
 
 is-caller-requires : tie.Need-is-caller-requires
 is-caller-requires c κs = (
-  user-end (c .before .before .before .args .s .now) (c .before .span .result) (c .before .span .ensures .0),
+  user-end (c .before .before .before .args .s .now) (c .before .run-end .result) (c .before .run-end .ensures .0),
   (
-    caller-end (c .before .before .before .args .s .now) (c .before .span .result) (c .before .span .ensures .0) (c .span2 .result) (c .span2 .ensures .0),
+    caller-end (c .before .before .before .args .s .now) (c .before .run-end .result) (c .before .run-end .ensures .0) (c .run-end2 .result) (c .run-end2 .ensures .0),
     (omega arith, (omega arith, omega arith)),
   ),
 )
@@ -18,18 +18,18 @@ is-caller-requires c κs = (
 returns : tie.Need-returns
 returns c =
     let start = c .before .before .before .before .before in
-    caller-address (start .args .s .now) _ _ (user-end (start .args .s .now) (c .before .before .before .span .result) (c .before .before .before .span .ensures .0))
-    (caller-end (start .args .s .now) (c .before .before .before .span .result) (c .before .before .before .span .ensures .0) (c .before .before .span2 .result)
-    (c .before .before .span2 .ensures .0)) (sym (c .before .is-caller .ensures) ∙ c .if1 .taken)
+    caller-address (start .args .s .now) _ _ (user-end (start .args .s .now) (c .before .before .before .run-end .result) (c .before .before .before .run-end .ensures .0))
+    (caller-end (start .args .s .now) (c .before .before .before .run-end .result) (c .before .before .before .run-end .ensures .0) (c .before .before .run-end2 .result)
+    (c .before .before .run-end2 .ensures .0)) (sym (c .before .is-caller .ensures) ∙ c .if1 .taken)
 
 is-callee-requires : tie.Need-is-callee-requires
-is-callee-requires c κs = (callee-end (c .before .before .before .before .before .before .args .s .now) (c .span3 .result) (c .span3 .ensures .0), (omega arith, omega arith))
+is-callee-requires c κs = (callee-end (c .before .before .before .before .before .before .args .s .now) (c .run-end3 .result) (c .run-end3 .ensures .0), (omega arith, omega arith))
 
 returns-2 : tie.Need-returns-2
 returns-2 c =
     let at-is-caller = c .before .before .before .before in
     let start = at-is-caller .before .before .before .before in
-    callee-address (start .args .s .now) _ (callee-end (start .args .s .now) (c .before .before .span3 .result) (c .before .before .span3 .ensures .0))
+    callee-address (start .args .s .now) _ (callee-end (start .args .s .now) (c .before .before .run-end3 .result) (c .before .before .run-end3 .ensures .0))
     (sym (at-is-caller .is-caller .ensures) ∙ c .before .before .before .if1 .left) (sym (c .before .is-callee .ensures) ∙ c .if2 .taken)
 
 returns-3 : tie.Need-returns-3
