@@ -13,6 +13,7 @@ use Rattle.call.specs.declared.events.Side.{Side}
 use Rattle.call.specs.declared.records.Call.{Call}
 use Rattle.message.specs.declared.facts.Message.{Message}
 use Rattle.table.specs.declared.numbers.Fields.{Fields}
+use Rattle.rules.specs.Numbers.{tagRequest}
 use lib.Dec.{eqb}
 use mathlib.Core.Bool.{Bool, true, false, cond}
 
@@ -74,6 +75,6 @@ fieldsFrom c =
 -- a request (tag 1) or a response, whose user and Fire-IDs are the record's or not
 unfoldable pub eventOf : Message → Bool → Event
 eventOf m agrees =
-    cond (eqb (m .tag) 1)
+    cond (eqb (m .tag) tagRequest)
     (Asks (record { method = methodOfCode (m .method); number = m .number; from = sideOf (m .caller); secure = m .secure }) agrees)
     (Replies (record { method = methodOfCode (m .method); number = m .number; from = sideOf (m .caller); status = m .status }) agrees)

@@ -22,7 +22,7 @@ pub enum Next {
 fn mark(met: u8, b: u8) -> u8
     ensures { λ r. ⌜ (r ≡ 0 → (met ≡ 0) × (b ≡ 10 → ⊥)) ⌝ }
 {
-    if b == 10 { 1 } else { met }
+    if b == b'\n' { 1 } else { met }
 }
 
 // Whether a line feed is among the 32 bytes from `at` on. No early exit, so that it is made of a few instructions on whole

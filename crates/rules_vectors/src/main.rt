@@ -310,7 +310,7 @@ fn main() {
     let mut a: usize = 0;
     let mut i: usize = 0;
     while i < n {
-        if buffer[i] == 10 {
+        if buffer[i] == b'\n' {
             let t = &buffer[a..i];
             tell(t);
             a = i + 1;

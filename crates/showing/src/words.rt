@@ -77,7 +77,7 @@ fn zeros(word: &[u8]) -> usize
 {
     let mut i: usize = 0;
     while 20 < word.len() - i {
-        if word[i] != 48 {
+        if word[i] != b'0' {
             return i;
         }
         i += 1;

@@ -9,6 +9,7 @@ use Rattle.rules.specs.Texts.{hostRule, destinationRule, organizationRule}
 use Rattle.writing.specs.Outcome.{Outcome, refuse, write, onRead}
 use Rattle.writing.specs.Objects.{objects, isOurs, some}
 use Rattle.writing.specs.declared.answers.Refusal.the-variants.{Path, Kind, Loop, Full}
+use Rattle.rules.specs.Numbers.{tagRequest}
 use lib.Dec.{eqb}
 use lib.ListN.{length}
 use mathlib.Core.Bool.{Bool, not, _&&_, cond}
@@ -32,7 +33,7 @@ pathRule host destination organization = hostRule host && (destinationRule desti
 -- 30 (not a request), 34 (our host and destination in one Via object), 35 (sixteen objects), and the entry right after the last Via object
 unfoldable pub addTo : List ℕ → Message → List ℕ → List ℕ → List ℕ → Outcome
 addTo s m host destination organization =
-    cond (not (eqb (m .tag) 1)) (refuse Kind)
+    cond (not (eqb (m .tag) tagRequest)) (refuse Kind)
     (cond (some (isOurs host destination) (objects s (m .via))) (refuse Loop)
     (cond (eqb (length (elements s (m .via))) 16) (refuse Full)
     (write (added s (m .via) (entry host destination organization)))))

@@ -17,6 +17,7 @@ use Rattle.writing.specs.declared.answers.Removed.the-variants as remova
 use Rattle.writing.specs.declared.answers.Removed.{Removed}
 use Rattle.writing.specs.declared.answers.Written.the-variants as writings
 use Rattle.writing.specs.declared.answers.Written.{Written}
+use Rattle.rules.specs.Numbers.{tagResponse}
 use lib.Dec.{eqb, ltb}
 use lib.ListN.{length}
 use mathlib.Core.Bool.{not, cond}
@@ -27,7 +28,7 @@ use mathlib.Core.Path.{_≡_}
 -- from the end of the last but one Via object to the end of the last
 unfoldable pub removeFrom : List ℕ → Message → List ℕ → List ℕ → Outcome
 removeFrom s m host destination =
-    cond (not (eqb (m .tag) 2)) (refuse Kind)
+    cond (not (eqb (m .tag) tagResponse)) (refuse Kind)
     (cond (ltb (length (elements s (m .via))) 2) (refuse Few)
     (cond (not (isOurs host destination (bytes s (lastOf (elements s (m .via)))))) (refuse Foreign)
     (write (removed s (m .via)))))

@@ -8,6 +8,7 @@ use Rattle.rules.specs.Date.{dateRule}
 use Rattle.rules.specs.Status.{listed, statusText}
 use Rattle.writing.specs.Outcome.{Outcome, refuse, write, onRead}
 use Rattle.writing.specs.declared.answers.Refusal.the-variants.{Kind, Code, Date}
+use Rattle.rules.specs.Numbers.{methodAck, tagRequest}
 use lib.Dec.{eqb}
 use mathlib.Core.Bool.{Bool, not, _&&_, _||_, cond}
 use mathlib.Core.List.{List, _++_}
@@ -38,7 +39,7 @@ replyOf s m code date =
 
 -- 30: not a request (tag 1), or an ACK (method 4)
 unfoldable pub unanswered : Message → Bool
-unanswered m = not (eqb (m .tag) 1) || eqb (m .method) 4
+unanswered m = not (eqb (m .tag) tagRequest) || eqb (m .method) methodAck
 
 -- 31: code not listed, or 202 without REFER (method 7)
 unfoldable pub wrongCode : ℕ → ℕ → Bool

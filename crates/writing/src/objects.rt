@@ -28,7 +28,7 @@ pub fn has_ours(s: &[u8], v: usize, host: &[u8], destination: &[u8]) -> bool
     requires { ⌜ v < length (now s) ⌝ }
     ensures { λ r. ⌜ r ≡ some (isOurs (now (host .entry)) (now (destination .entry))) (objects (now (s .entry)) v) ⌝ }
 {
-    if byte(s, skip(s, v + 1)) == 93 {
+    if byte(s, skip(s, v + 1)) == b']' {
         return false;
     }
     let mut p = v + 1;
@@ -40,7 +40,7 @@ pub fn has_ours(s: &[u8], v: usize, host: &[u8], destination: &[u8]) -> bool
             return true;
         }
         let then = e.then;
-        if byte(s, then) != 44 {
+        if byte(s, then) != b',' {
             return false;
         }
         p = then + 1;
