@@ -1,5 +1,6 @@
 -- The rule keeps a record sound: whatever an event does to a sound record, what is set is sound, and so is what an INVITE opens.
 -- By the rows of the rule, each of which sets one of few things. Assumes nothing.
+use Rattle.octets.proofs.TestLaws.{clash}
 use Prim.Native.Nat.{ℕ, _≤_, _<_}
 use Rattle.answers.specs.Answer.{quietWord, isQuiet}
 use Rattle.call.specs.Rule.{waiting, requestUnheld, firstChecks, decidedHeld, decidedUnheld, decided}
@@ -35,17 +36,13 @@ use Rattle.call.specs.declared.requests.Admitted.{Admitted}
 use borrow.Author.Tests.{ltb-false, leb-false}
 use lib.Dec.{eqb, leb, ltb}
 use mathlib.Core.Bool.{Bool, true, false, cond, _&&_}
-use mathlib.Core.Path.{_≡_, refl, sym, ap, _∙_}
+use mathlib.Core.Path.{_≡_, refl}
 use native.Mathlib.Omega.{arith}
 
 -- an outcome that sets nothing but a sound record, and nothing where its answer says so
 pub record Fine (o : Outcome) : Type 0 where
   pub fine : SoundAfter (o .after)
   pub still : isQuiet (o .answer) ≡ true → o .after ≡ Same
-
--- an answer is not of both kinds
-loud : {A : Type 0} {b : Bool} → b ≡ false → b ≡ true → A
-loud p q = absurd (let z : _≡_ {A = ℕ} 0 1 = ap {B = ℕ} (λ (b : Bool). cond b 1 0) (sym p ∙ q) in omega arith)
 
 either : (t : Bool) (a b : Outcome) → Fine a → Fine b → Fine (cond t a b)
 either true a b p q = p
@@ -107,10 +104,10 @@ module _ (c : Call) (now : ℕ) (s : Sound c) (later : Timely (c .last) now) whe
   entered-sound x = timed-sound c x now now (chatOnEntering x now (c .chat)) s (later .clock) (omega arith) (entered-chat x)
 
   stays-fine : (w : Word) → quietWord w ≡ false → Fine (stays w now c)
-  stays-fine w l = record { fine = heard-sound; still = loud l }
+  stays-fine w l = record { fine = heard-sound; still = λ e. clash e l }
 
   goes-fine : (w : Word) (x : State) → quietWord w ≡ false → Fine (goes w x now c)
-  goes-fine w x l = record { fine = entered-sound x; still = loud l }
+  goes-fine w x l = record { fine = entered-sound x; still = λ e. clash e l }
 
 refused-fine : (r : Reason) (w : Waiting) → Fine (refused r w)
 refused-fine r w = record { fine = tt; still = λ e. refl }
@@ -248,7 +245,7 @@ module _ (c : Call) (now : ℕ) (s : Sound c) (later : Timely (c .last) now) whe
   request-fine bye- r fits = within-fine r _ fits (λ d t l. goes-fine d now t l Pass Ended refl)
   request-fine Cancel r fits = either (eqb (r .number) (c .invite)) _ _ (cancel-fine (c .state)) (refused-fine WrongNumber Requester)
   request-fine Ack r fits = either (eqb (r .number) (c .invite)) _ _ (ack-fine (c .state)) (refused-fine WrongNumber Nobody)
-  request-fine Message r fits = within-fine r _ fits (λ d t l. record { fine = chatted-sound d now t l; still = loud refl })
+  request-fine Message r fits = within-fine r _ fits (λ d t l. record { fine = chatted-sound d now t l; still = λ e. clash e refl })
   request-fine Callback r fits = callback-fine (c .state)
   request-fine Refer r fits = within-fine r _ fits (λ d t l. either (d .secure) _ _ (stays-fine d now t l Pass refl) (refused-fine NotSecure Requester))
   request-fine Notify r fits = within-fine r _ fits (λ d t l. stays-fine d now t l Pass refl)
@@ -327,7 +324,7 @@ module _ (c : Call) (now : ℕ) (s : Sound c) (later : Timely (c .last) now) whe
   tick-fine Ringing = either (leb 150000 (since now (c .entry))) _ _ (go Timeout Ended refl) (unchanged-fine None c)
   tick-fine Answered = either (leb 1800000 (since now (c .chat))) _ _ (go Idle Ended refl) (unchanged-fine None c)
   tick-fine Talking = either (leb 1800000 (since now (c .chat))) _ _ (go Idle Ended refl) (unchanged-fine None c)
-  tick-fine Ended = either (ltb 3600000 (since now (c .entry))) _ _ (record { fine = tt; still = loud refl }) (unchanged-fine None c)
+  tick-fine Ended = either (ltb 3600000 (since now (c .entry))) _ _ (record { fine = tt; still = λ e. clash e refl }) (unchanged-fine None c)
   tick-fine Cancelling = either (leb 15000 (since now (c .entry))) _ _ (go Timeout Ended refl) (unchanged-fine None c)
 
 -- the checks 21 and 22 before them
@@ -361,7 +358,7 @@ new-call-sound number secure now h fits t =
     }
 
 request-unheld-fine : (m : Method) (r : Request) (now : ℕ) → 1 ≤ r .number → r .number < 4294967296 → now < 18446744073709551616 → Fine (requestUnheld m r now)
-request-unheld-fine Invite r now h fits t = record { fine = new-call-sound (r .number) (r .secure) now h fits t; still = loud refl }
+request-unheld-fine Invite r now h fits t = record { fine = new-call-sound (r .number) (r .secure) now h fits t; still = λ e. clash e refl }
 request-unheld-fine bye- r now h fits t = refused-fine NoCall Requester
 request-unheld-fine Cancel r now h fits t = refused-fine NoCall Requester
 request-unheld-fine Ack r now h fits t = refused-fine NoCall Nobody

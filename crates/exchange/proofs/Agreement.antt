@@ -14,7 +14,7 @@ use Rattle.call.specs.declared.records.Held.the-variants.{Nothing as Unheld, Is
 use Rattle.call.specs.declared.records.Outcome.{Outcome}
 use Rattle.exchange.proofs.Parts.{opened, altered, toOld, rule, isAt, ours}
 use Rattle.exchange.proofs.Rules.{first-is, first-none}
-use Rattle.exchange.specs.Sequence.{Time, Event, message, tick, step, nameOf, recordIn, recordNamed}
+use Rattle.exchange.specs.Sequence.{Time, Event, message, tick, eventStep, nameOf, recordIn, recordNamed}
 use Rattle.keeper.specs.Facts.{eventOf}
 use Rattle.keeper.specs.Keeping.{Step, tableAfter, callAt, recordFor, takenAt, taken, agreesAt, askedAt, tickedAt, onReading, onMessage, onTick}
 use Rattle.lifting.specs.inner.First.{first}
@@ -27,7 +27,7 @@ use Rattle.message.specs.declared.reading.Reading.{Reading}
 use Rattle.rules.specs.Texts.{callIdRule}
 use Rattle.table.proofs.ImageLaws.{with-itself}
 use Rattle.table.proofs.LookupLaws.{found, not-found, free-found}
-use Rattle.table.specs.Image.{size, recordAt, withRecord}
+use Rattle.table.specs.Image.{recordCount, recordAt, withRecord}
 use Rattle.table.specs.Record.{isFree, isNamed}
 use Rattle.table.specs.Search.{placeNamed, freePlace}
 use Rattle.table.specs.WellFormed.{wellFormed}
@@ -43,13 +43,14 @@ use mathlib.Core.Path.{_≡_, refl}
 -- the same place, and the same record, by either search
 module _ (id t : List ℕ) where
   place-at : (k : ℕ) → placeNamed id t ≡ At k → lifted.place ours id t ≡ k
-  place-at k e = first-is (λ j. isNamed id (recordAt t j)) (size t) k (found id t k e)
+  place-at k e = first-is (λ j. isNamed id (recordAt t j)) (recordCount t) k (found id t k e)
 
   look-at : (k : ℕ) → placeNamed id t ≡ At k → lifted.look ours id t ≡ some (recordAt t k)
-  look-at k e = rw (place-at k e, lt-ltb k (size t) (found id t k e .inside))
+  look-at k e = rw (place-at k e, lt-ltb k (recordCount t) (found id t k e .inside))
 
   look-none : placeNamed id t ≡ Nothing → lifted.look ours id t ≡ none
-  look-none e = rw (le-ltb (first (λ j. isNamed id (recordAt t j)) (size t)) (size t) (first-none (λ j. isNamed id (recordAt t j)) (size t) (not-found id t e)))
+  look-none e = rw (le-ltb (first (λ j. isNamed id (recordAt t j)) (recordCount t)) (recordCount t)
+      (first-none (λ j. isNamed id (recordAt t j)) (recordCount t) (not-found id t e)))
 
   pub look-is : lifted.look ours id t ≡ recordNamed id t
   unfolding recordNamed
@@ -66,7 +67,7 @@ pub record Agrees (t : List ℕ) (e : Event) (s : Step) : Type 0 where
 
 module _ (t : List ℕ) (e : Event) (id : List ℕ) (by : nameOf e ≡ some id) where
   -- on the call's record
-  store-kept : (k h : ℕ) (b : Bool) → k < size t → (after : After) → lifted.store ours t k h (some (recordAt t k)) (altered (recordAt t k) after) b ≡ tableAfter t k after
+  store-kept : (k h : ℕ) (b : Bool) → k < recordCount t → (after : After) → lifted.store ours t k h (some (recordAt t k)) (altered (recordAt t k) after) b ≡ tableAfter t k after
   store-kept k h b i Same = with-itself t k i
   store-kept k h b i (Set c) = refl
   store-kept k h b i Free = refl
@@ -90,7 +91,7 @@ module _ (t : List ℕ) (e : Event) (id : List ℕ) (by : nameOf e ≡ some id) 
       → Agrees t e (record { answer = a; table = withRecord t k x })
   unfolding lifted.answer lifted.next lifted.answerTo lifted.nextTo
   on-room a x k p r f =
-      let h : lifted.hole ours t ≡ k = first-is (λ j. isFree (recordAt t j)) (size t) k (free-found t k f) in
+      let h : lifted.hole ours t ≡ k = first-is (λ j. isFree (recordAt t j)) (recordCount t) k (free-found t k f) in
       record { answers = rw (by, look-none id t p, r, f); tables = rw (by, look-none id t p, r, f, h) }
 
   on-full : (a : Answer) (x : List ℕ) → placeNamed id t ≡ Nothing → rule e none ≡ (a, some x) → freePlace t ≡ Nothing
@@ -151,6 +152,6 @@ on-tick t now id w = go (callIdRule id) refl
     go false e = rw (w, e) (on-mute t (tick now id) _ (rw e) refl)
 
 -- on a well-formed table both say the same
-pub agrees : (t : List ℕ) (e : Event) → wellFormed t ≡ true → Agrees t e (step t e)
+pub agrees : (t : List ℕ) (e : Event) → wellFormed t ≡ true → Agrees t e (eventStep t e)
 agrees t (message now s) w = on-message t now s w
 agrees t (tick now id) w = on-tick t now id w

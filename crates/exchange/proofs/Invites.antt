@@ -7,7 +7,7 @@ use Rattle.message.specs.Checks.{lacks, breaks, lowest, checked}
 use Rattle.fields.specs.Field.{oneOf, addressRule, keeps}
 use Rattle.fields.specs.Known.{numberAt, has, note, noted, repeated}
 use Rattle.message.specs.Message.{numberOf, methodOf, fromCaller, toCaller, contentAt, codeOf, secureOf, settingOf, messageOf}
-use Rattle.message.specs.Message.{sameSide, wrongSide, wrongNumber, sidesDisagree, callbackTraining, requestDisagrees, disagrees, callerAt, calleeAt}
+use Rattle.message.specs.Message.{sameSide, wrongSide, wrongNumber, sidesDisagree, callbackTraining, requestDisagrees, disagrees, callerPlace, calleePlace}
 use Rattle.message.specs.Reading.{agreed, settled, judged, known, shaped, reading}
 use Rattle.fields.specs.Trail.{trailOf, trailIn, moved}
 use Rattle.message.specs.Shape.{tagAt, tagOf, objectOf}
@@ -22,12 +22,12 @@ use Rattle.octets.specs.Text.{same, standsAt}
 use Rattle.rules.specs.Address.{callerRule, calleeRule, userEnd, callerEnd, calleeEnd, addressOf}
 use Rattle.rules.specs.Classes.{holds}
 use Rattle.rules.specs.Date.{leap, daysIn, dateRule}
-use Rattle.rules.specs.Fields.{isIn, tagAsks, methodAsks}
+use Rattle.rules.specs.Asks.{isIn, tagAsks, methodAsks}
 use Rattle.rules.specs.Pieces as pieces
 use Rattle.rules.specs.Pieces.{runLength, digits, decimalAt, wordNumberFrom, within, reads}
 use Rattle.rules.specs.Sequence as sequence
 use Rattle.rules.specs.Sequence.{sequenceRule, numberEnd, sequenceOf}
-use Rattle.rules.specs.Texts.{callIdRule, hostRule, destinationRule, organizationRule, languageRule, unescaped}
+use Rattle.rules.specs.Texts.{callIdRule, hostRule, destinationRule, organizationRule, languageRule, noBackslash}
 use Rattle.utf8.specs.Rfc3629.{begins, goesOn, charAt, octets}
 use mathlib.Core.Bool.{true, false}
 use mathlib.Core.List.{List, _++_}
@@ -68,9 +68,9 @@ pub invites-read : (reading (inviteOf (ascii "A1.nx")) ≡ Read invite) × (read
 unfolding among isDigit isLower isUpper isLetter isAlnum all same standsAt begins goesOn charAt octets isWs opens begin due ends step stops walk from point expo
     part spaces past isOpen isShut isMark left unmarked size behind closing raw next valueOf follows more memberAt membersFrom members elementsFrom elements
     sequenceRule numberEnd sequenceOf runLength digits decimalAt wordNumberFrom within reads leap daysIn dateRule callerRule calleeRule userEnd callerEnd calleeEnd addressOf
-    callIdRule hostRule destinationRule organizationRule languageRule unescaped holds isIn tagAsks methodAsks textAt spanIn textSpan numberOf methodOf
-    fromCaller toCaller contentAt codeOf secureOf settingOf sameSide wrongSide wrongNumber sidesDisagree callbackTraining requestDisagrees disagrees callerAt
-    calleeAt messageOf agreed settled judged known shaped reading lacks breaks lowest checked isString isArray isObject textOf freely ruled tagAt tagOf objectOf
-    oneOf addressRule keeps hopPlaces hopRule hopKeeps isHop viaRule numberAt has note noted repeated pieces.behind
+    callIdRule hostRule destinationRule organizationRule languageRule noBackslash holds isIn tagAsks methodAsks textAt spanIn textSpan numberOf methodOf
+    fromCaller toCaller contentAt codeOf secureOf settingOf sameSide wrongSide wrongNumber sidesDisagree callbackTraining requestDisagrees disagrees callerPlace
+    calleePlace messageOf agreed settled judged known shaped reading lacks breaks lowest checked isString isArray isObject textOf freely ruled tagAt tagOf objectOf
+    oneOf addressRule keeps hopPlaces hopRule hopKeeps isHop viaRule numberAt has note noted repeated pieces.pieceEnd
     pieces.hasPiece sequence.cseqNumber sequence.cseqMethod lastOf prevOf trailOf trailIn moved
 invites-read = (refl, refl)

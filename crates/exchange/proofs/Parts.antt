@@ -21,8 +21,8 @@ use Rattle.message.specs.Reading.{reading}
 use Rattle.message.specs.declared.facts.Message.{Message}
 use Rattle.message.specs.declared.reading.Reading.the-variants as readings
 use Rattle.message.specs.declared.reading.Reading.{Reading}
-use Rattle.table.specs.Image.{size, recordAt, recordSize, withRecord, freeRecord}
-use Rattle.table.specs.Record.{fieldsOf, isFree, isNamed, sameParties, withFields}
+use Rattle.table.specs.Image.{recordCount, recordAt, recordSize, withRecord, freeRecord}
+use Rattle.table.specs.Record.{recordFields, isFree, isNamed, sameParties, withFields}
 use Rattle.table.specs.Search.{freePlace}
 use Rattle.table.specs.WellFormed.{frameSound, recordSound}
 use Rattle.table.specs.declared.searching.Found.the-variants.{At, Nothing}
@@ -64,11 +64,11 @@ abbrev pub ruleRead : ℕ → List ℕ → Reading → Option (List ℕ) → Ans
 ruleRead now s (readings.Refused n p) r = (Refused (Unread n p), r)
 ruleRead now s (readings.Read m) none = toNew s m (decided Unheld (eventOf m false) now)
 ruleRead now s (readings.Read m) (some r) =
-    toOld r (decided (Is (callOf (fieldsOf r))) (eventOf m (sameParties (userOf s m) (callerFireOf s m) (calleeFireOf s m) r)) now)
+    toOld r (decided (Is (callOf (recordFields r))) (eventOf m (sameParties (userOf s m) (callerFireOf s m) (calleeFireOf s m) r)) now)
 
 abbrev pub ruleTick : ℕ → Option (List ℕ) → Answer × Option (List ℕ)
 ruleTick now none = (decided Unheld Tick now .answer, none)
-ruleTick now (some r) = toOld r (decided (Is (callOf (fieldsOf r))) Tick now)
+ruleTick now (some r) = toOld r (decided (Is (callOf (recordFields r))) Tick now)
 
 abbrev pub rule : Event → Option (List ℕ) → Answer × Option (List ℕ)
 rule (message now s) r = ruleRead (now .milliseconds) s (reading s) r
@@ -83,7 +83,7 @@ isAt Nothing = false
 pub record Fit (r : List ℕ) : Type 0 where
   pub long : length r ≡ recordSize
   pub sound : recordSound r ≡ true
-  pub fitting : Fitting (fieldsOf r)
+  pub fitting : Fitting (recordFields r)
 
 abbrev pub ours : Keeper
 ours =
@@ -93,7 +93,7 @@ ours =
       Id = List ℕ;
       Ev = Event;
       Ans = Answer;
-      size = size;
+      size = recordCount;
       at = recordAt;
       put = withRecord;
       free = isFree;

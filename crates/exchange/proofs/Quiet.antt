@@ -14,7 +14,7 @@ use Rattle.exchange.proofs.Parts.{ours}
 use Rattle.exchange.proofs.Rules.{old-sound}
 use Rattle.exchange.specs.Sequence.{Time}
 use Rattle.keeper.proofs.FactLaws.{numbered}
-use Rattle.keeper.proofs.StepLaws.{read-named}
+use Rattle.message.proofs.Accepted.{read-named}
 use Rattle.keeper.specs.Facts.{eventOf}
 use Rattle.keeper.specs.Keeping.{Step, tableAfter, callAt, takenAt, taken, agreesAt, askedAt, tickedAt, onReading, onMessage, onTick}
 use Rattle.lifting.specs.inner.Keeper as lifted
@@ -67,11 +67,11 @@ module _ (t : List ℕ) (g : lifted.Good ours t) where
       let n = read-named s m e (ltb-false _ _ l) in
       let b = agreesAt t s m k in
       kept-quiet k (decided (Is (callAt t k)) (eventOf m b) (now .milliseconds))
-      (decided-still (Is (callAt t k)) (eventOf m b) (now .milliseconds) (sound-at (callIdOf s m) k p) (numbered m b (n .low) (n .high)) (now .fits))
+      (decided-still (Is (callAt t k)) (eventOf m b) (now .milliseconds) (sound-at (callIdOf s m) k p) (numbered m b (n .number-low) (n .number-high)) (now .fits))
   asked-quiet now s m e l Nothing p =
       let n = read-named s m e (ltb-false _ _ l) in
       taken-quiet s m (decided Unheld (eventOf m false) (now .milliseconds) .answer) (decided Unheld (eventOf m false) (now .milliseconds) .after)
-      (decided-still Unheld (eventOf m false) (now .milliseconds) tt (numbered m false (n .low) (n .high)) (now .fits))
+      (decided-still Unheld (eventOf m false) (now .milliseconds) tt (numbered m false (n .number-low) (n .number-high)) (now .fits))
 
   read-quiet : (now : Time) (s : List ℕ) (r : Reading) → reading s ≡ r → Quiet t (onReading t (now .milliseconds) s r)
   read-quiet now s (readings.Refused n p) e = record { stays = λ w. refl }

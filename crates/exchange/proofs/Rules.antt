@@ -11,11 +11,12 @@ use Rattle.call.specs.declared.records.Held.the-variants.{Nothing as Unheld, Is
 use Rattle.exchange.proofs.Parts.{Fit, opened, altered, rule, isAt, ours}
 use Rattle.exchange.specs.Sequence.{Event, message, tick, nameRead, nameOf}
 use Rattle.keeper.proofs.FactLaws.{sound-call, sound-fields, fit-fields, numbered}
-use Rattle.keeper.proofs.StepLaws.{named-used, read-named}
+use Rattle.keeper.proofs.StepLaws.{named-used}
+use Rattle.message.proofs.Accepted.{read-named}
 use Rattle.keeper.specs.Facts.{callOf, fieldsFrom, eventOf}
 use Rattle.keeper.specs.inner.Known.{Fitting}
 use Rattle.keeper.specs.Keeping.{recordFor}
-use Rattle.keeper.specs.inner.Known.{Named}
+use Rattle.message.specs.inner.Named.{Named}
 use Rattle.lifting.proofs.FirstLaws.{first-before, first-hit}
 use Rattle.lifting.specs.inner.First.{first, count, bit}
 use Rattle.lifting.specs.inner.Keeper as lifted
@@ -37,9 +38,9 @@ use Rattle.table.proofs.RecordLaws.{length-withFields, length-newRecord}
 use Rattle.table.proofs.RoomLaws.{zeros-are}
 use Rattle.table.proofs.SearchLaws.{Is as Lowest, Searched, at, nowhere, searched}
 use Rattle.table.proofs.SoundLaws.{record-used}
-use Rattle.table.specs.Image.{size, recordAt, recordSize, withRecord, freeRecord}
-use Rattle.table.specs.Record.{recordCallId as idOf, fieldsOf, isFree, isNamed, newRecord, sameParties, withFields}
-use Rattle.table.specs.Search.{freePlace, lowest}
+use Rattle.table.specs.Image.{recordCount, recordAt, recordSize, withRecord, freeRecord}
+use Rattle.table.specs.Record.{recordCallId as idOf, recordFields, isFree, isNamed, newRecord, sameParties, withFields}
+use Rattle.table.specs.Search.{freePlace, lowestFound}
 use Rattle.table.specs.WellFormed.{zeros, usedSound, recordSound, frameSound}
 use Rattle.table.specs.declared.numbers.Fields.{Fields}
 use borrow.Author.Tests.{ltb-false, lt-ltb}
@@ -62,7 +63,7 @@ same-id a b = go (same a b) refl
 
 -- Records.
 
-frame-with : (t : List ℕ) (k : ℕ) (x : List ℕ) → frameSound t ≡ true → k < size t → Fit x → frameSound (withRecord t k x) ≡ true
+frame-with : (t : List ℕ) (k : ℕ) (x : List ℕ) → frameSound t ≡ true → k < recordCount t → Fit x → frameSound (withRecord t k x) ≡ true
 unfolding frameSound
 frame-with t k x f h fit = rw (length-with t k h x (fit .long), with-header t k h x (fit .long)) f
 
@@ -93,16 +94,16 @@ named-id i r p = same-eq (idOf r) i (and-parts (not (isFree r)) _ p .1)
 fitting : (f : Fields) → Fits f → Fitting f
 fitting f h = record { caller = h .caller; callee = h .callee; last = h .last }
 
-used-fit : (r : List ℕ) → length r ≡ recordSize → usedSound r ≡ true → Fitting (fieldsOf r) → Fit r
+used-fit : (r : List ℕ) → length r ≡ recordSize → usedSound r ≡ true → Fitting (recordFields r) → Fit r
 used-fit r l u f =
     record { long = l; sound = sym (record-used r (λ w. clash (rw w) (used-not-free r u)) (sym u)); fitting = f }
 
 blank-fit : Fit freeRecord
-unfolding fieldsOf onto
+unfolding recordFields onto
 blank-fit =
-    let a : fieldsOf freeRecord .caller ≡ 0 = refl in
-    let b : fieldsOf freeRecord .callee ≡ 0 = refl in
-    let d : fieldsOf freeRecord .last ≡ 0 = refl in
+    let a : recordFields freeRecord .caller ≡ 0 = refl in
+    let b : recordFields freeRecord .callee ≡ 0 = refl in
+    let d : recordFields freeRecord .last ≡ 0 = refl in
     record {
       long = length-replicate {A = ℕ} recordSize 0;
       sound = free-sound;
@@ -148,9 +149,9 @@ module _ (i r : List ℕ) (fit : Fit r) (own : isNamed i r ≡ true) where
   used : usedSound r ≡ true
   used = sound-used r (fit .sound) (named-used i r own)
 
-  pub old-sound : Sound (callOf (fieldsOf r))
+  pub old-sound : Sound (callOf (recordFields r))
   unfolding usedSound
-  old-sound = sound-call (fieldsOf r) (and-parts _ _ used .0) (fit .fitting)
+  old-sound = sound-call (recordFields r) (and-parts _ _ used .0) (fit .fitting)
 
   set-fit : (c : Call) → Sound c → Fit (withFields r (fieldsFrom c)) × (isNamed i (withFields r (fieldsFrom c)) ≡ true)
   set-fit c sound =
@@ -190,7 +191,7 @@ new-own (message now s) i x w r =
     let m = y .said in
     let n = read-named s m (y .read) (y .low) in
     rw (sym (y .is)) (opened-own s m n (decided Unheld (eventOf m false) (now .milliseconds) .after)
-    (decided-sound Unheld (eventOf m false) (now .milliseconds) tt (numbered m false (n .low) (n .high)) (now .fits)) x (rw (y .read) at r))
+    (decided-sound Unheld (eventOf m false) (now .milliseconds) tt (numbered m false (n .number-low) (n .number-high)) (now .fits)) x (rw (y .read) at r))
 new-own (tick now id) i x w r = none-some r
 
 keep-own : (e : Event) (i r x : List ℕ) → nameOf e ≡ some i → Fit r → isNamed i r ≡ true → rule e (some r) .1 ≡ some x → Fit x × (isNamed i x ≡ true)
@@ -200,13 +201,14 @@ keep-own (message now s) i r x w fit own q =
     let m = y .said in
     let n = read-named s m (y .read) (y .low) in
     let b = sameParties (userOf s m) (callerFireOf s m) (calleeFireOf s m) r in
-    altered-own i r fit own (decided (Is (callOf (fieldsOf r))) (eventOf m b) (now .milliseconds) .after)
-    (decided-sound (Is (callOf (fieldsOf r))) (eventOf m b) (now .milliseconds) (old-sound i r fit own) (numbered m b (n .low) (n .high)) (now .fits)) x (rw (y .read) at q)
+    altered-own i r fit own (decided (Is (callOf (recordFields r))) (eventOf m b) (now .milliseconds) .after)
+    (decided-sound (Is (callOf (recordFields r))) (eventOf m b) (now .milliseconds) (old-sound i r fit own) (numbered m b (n .number-low) (n .number-high)) (now .fits)) x
+    (rw (y .read) at q)
 keep-own (tick now id) i r x w fit own q =
-    altered-own i r fit own (decided (Is (callOf (fieldsOf r))) Tick (now .milliseconds) .after)
-    (decided-sound (Is (callOf (fieldsOf r))) Tick (now .milliseconds) (old-sound i r fit own) tt (now .fits)) x q
+    altered-own i r fit own (decided (Is (callOf (recordFields r))) Tick (now .milliseconds) .after)
+    (decided-sound (Is (callOf (recordFields r))) Tick (now .milliseconds) (old-sound i r fit own) tt (now .fits)) x q
 
--- The two searches, `lowest` of the table and `first` of `lifting`, find the same.
+-- The two searches, `lowestFound` of the table and `first` of `lifting`, find the same.
 
 pub first-is : (p : ℕ → Bool) (n k : ℕ) → Lowest p n k → first p n ≡ k
 first-is p n k l = go (decLt (first p n) k) (decLt k (first p n))
@@ -237,21 +239,22 @@ count-some p (suc n) k h e = go (count-some p n k) (ℕ-discrete k n)
     go ih (yes w) = let q : bit (p n) ≡ 1 = rw (sym w, e) in omega (arith, q)
     go ih (no w) = let q = ih (omega arith) e in omega arith
 
-admits-room : (t : List ℕ) (e : Event) → isAt (freePlace t) ≡ true → first (λ k. isFree (recordAt t k)) (size t) < size t
+admits-room : (t : List ℕ) (e : Event) → isAt (freePlace t) ≡ true → first (λ k. isFree (recordAt t k)) (recordCount t) < recordCount t
 unfolding freePlace
-admits-room t e w = go (searched (λ k. isFree (recordAt t k)) (size t))
+admits-room t e w = go (searched (λ k. isFree (recordAt t k)) (recordCount t))
   where
-    go : Searched (λ k. isFree (recordAt t k)) (size t) → first (λ k. isFree (recordAt t k)) (size t) < size t
-    go (at i q l) = rw (first-is (λ k. isFree (recordAt t k)) (size t) i l) (l .inside)
+    go : Searched (λ k. isFree (recordAt t k)) (recordCount t) → first (λ k. isFree (recordAt t k)) (recordCount t) < recordCount t
+    go (at i q l) = rw (first-is (λ k. isFree (recordAt t k)) (recordCount t) i l) (l .inside)
     go (nowhere q f) = absurd (clash w (rw q))
 
-admits-count : (t : List ℕ) → isAt (freePlace t) ≡ ltb 0 (count (λ k. isFree (recordAt t k)) (size t))
+admits-count : (t : List ℕ) → isAt (freePlace t) ≡ ltb 0 (count (λ k. isFree (recordAt t k)) (recordCount t))
 unfolding freePlace
-admits-count t = go (searched (λ k. isFree (recordAt t k)) (size t))
+admits-count t = go (searched (λ k. isFree (recordAt t k)) (recordCount t))
   where
-    go : Searched (λ k. isFree (recordAt t k)) (size t) → isAt (lowest (λ k. isFree (recordAt t k)) (size t)) ≡ ltb 0 (count (λ k. isFree (recordAt t k)) (size t))
-    go (at i q l) = rw (q, lt-ltb 0 _ (count-some (λ k. isFree (recordAt t k)) (size t) i (l .inside) (l .passes)))
-    go (nowhere q f) = rw (q, count-none (λ k. isFree (recordAt t k)) (size t) f)
+    go : Searched (λ k. isFree (recordAt t k)) (recordCount t)
+        → isAt (lowestFound (λ k. isFree (recordAt t k)) (recordCount t)) ≡ ltb 0 (count (λ k. isFree (recordAt t k)) (recordCount t))
+    go (at i q l) = rw (q, lt-ltb 0 _ (count-some (λ k. isFree (recordAt t k)) (recordCount t) i (l .inside) (l .passes)))
+    go (nowhere q f) = rw (q, count-none (λ k. isFree (recordAt t k)) (recordCount t) f)
 
 admits-alike : (t u : List ℕ) (e : Event) → lifted.Good ours t → lifted.Good ours u → lifted.Alike ours t u → isAt (freePlace t) ≡ isAt (freePlace u)
 admits-alike t u e gt gu s = admits-count t ∙ ap (ltb 0) (s .tallies isFree) ∙ sym (admits-count u)

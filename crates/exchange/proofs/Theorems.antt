@@ -8,7 +8,7 @@ use Rattle.exchange.proofs.Parts.{ours}
 use Rattle.exchange.proofs.Quiet.{Quiet, message-quiet, tick-quiet}
 use Rattle.exchange.proofs.Rules.{laws}
 use Rattle.exchange.specs.Paper.{refused, paperOf}
-use Rattle.exchange.specs.Sequence.{Event, message, tick, step, answer, next, afterAll, answers, nameOf, Apart, isNoRoom, Roomy, Exchanged, AllBytes}
+use Rattle.exchange.specs.Sequence.{Event, message, tick, eventStep, eventAnswer, eventTable, afterAll, answers, nameOf, Apart, isNoRoom, Roomy, Exchanged, AllBytes}
 use Rattle.keeper.specs.inner.Known.{Fitting}
 use Rattle.keeper.specs.Keeping.{onMessage, onTick}
 use Rattle.lifting.proofs.Exchange as exchanges
@@ -22,8 +22,8 @@ use Rattle.octets.specs.Text.{same}
 use Rattle.table.proofs.ImageLaws.{length-record, byte-at}
 use Rattle.table.proofs.KeepLaws.{frame-of, distinct-of, record-of, one-record}
 use Rattle.table.proofs.SearchLaws.{all-every}
-use Rattle.table.specs.Image.{size, recordAt, recordSize, headerSize, headerOf}
-use Rattle.table.specs.Record.{recordCallId, fieldsOf, isFree, isNamed}
+use Rattle.table.specs.Image.{recordCount, recordAt, recordSize, headerSize, headerOf}
+use Rattle.table.specs.Record.{recordCallId, recordFields, isFree, isNamed}
 use Rattle.table.specs.WellFormed.{apart, apartBefore, distinct, frameSound, recordsSound, recordSound, wellFormed}
 use borrow.Author.Tests.{eqb-true}
 use lib.Dec.{eqb}
@@ -37,7 +37,7 @@ use native.Mathlib.Omega.{arith}
 
 -- Well-formed, in the words of `lifting` and of the table.
 
-module _ (t : List ℕ) (bytes : AllBytes t) (k : ℕ) (h : k < size t) where
+module _ (t : List ℕ) (bytes : AllBytes t) (k : ℕ) (h : k < recordCount t) where
   -- n bytes of record k are bytes
   octets : (off n : ℕ) → off + n ≤ 160 → Octets (take n (drop off (recordAt t k)))
   octets off n g =
@@ -56,8 +56,8 @@ module _ (t : List ℕ) (bytes : AllBytes t) (k : ℕ) (h : k < size t) where
       let e : length (drop off (recordAt t k)) ≡ length (recordAt t k) - off = length-drop off (recordAt t k) in
       number-below n (take n (drop off (recordAt t k))) (length-take-le n (drop off (recordAt t k)) (omega arith)) (octets off n g)
 
-  fitting : Fitting (fieldsOf (recordAt t k))
-  unfolding fieldsOf capacity
+  fitting : Fitting (recordFields (recordAt t k))
+  unfolding recordFields capacity
   fitting = record { caller = below 120 4 (omega arith); callee = below 124 4 (omega arith); last = below 128 8 (omega arith) }
 
 well-good : (t : List ℕ) → AllBytes t → wellFormed t ≡ true → lifted.Good ours t
@@ -84,18 +84,18 @@ good-well : (t : List ℕ) → lifted.Good ours t → wellFormed t ≡ true
 unfolding wellFormed recordsSound distinct apartBefore
 good-well t g =
     and-both (g .frame)
-    (and-both (all-every (λ k. recordSound (recordAt t k)) (size t) (λ k h. g .fit k h .sound))
-    (all-every (apartBefore t) (size t) (λ k h. all-every (λ l. apart (recordAt t k) (recordAt t l)) k
+    (and-both (all-every (λ k. recordSound (recordAt t k)) (recordCount t) (λ k h. g .fit k h .sound))
+    (all-every (apartBefore t) (recordCount t) (λ k h. all-every (λ l. apart (recordAt t k) (recordAt t l)) k
     (λ l i. apart-of (recordAt t k) (recordAt t l) (λ id p q. let e = g .one id k l h (omega arith) p q in omega arith)))))
 
 -- One event.
 
-step-good : (t : List ℕ) (e : Event) → lifted.Good ours t → lifted.Good ours (next t e)
+step-good : (t : List ℕ) (e : Event) → lifted.Good ours t → lifted.Good ours (eventTable t e)
 step-good t e g = rw (sym (agrees t e (good-well t g) .tables)) (steps.step ours laws t e g .good)
 
 -- an event leaves a well-formed table well-formed
-pub stays-well-formed : (t : List ℕ) (e : Event) → AllBytes t → wellFormed t ≡ true → wellFormed (next t e) ≡ true
-stays-well-formed t e b w = good-well (next t e) (step-good t e (well-good t b w))
+pub stays-well-formed : (t : List ℕ) (e : Event) → AllBytes t → wellFormed t ≡ true → wellFormed (eventTable t e) ≡ true
+stays-well-formed t e b w = good-well (eventTable t e) (step-good t e (well-good t b w))
 
 ill-message : (t : List ℕ) (now : ℕ) (s : List ℕ) → wellFormed t ≡ false → (paperOf (onMessage t now s .answer) ≡ refused 1 0 0) × (onMessage t now s .table ≡ t)
 unfolding onMessage
@@ -106,19 +106,19 @@ unfolding onTick
 ill-tick t now id w = rw w (refl, refl)
 
 -- an image that is not well-formed is answered 1, and is left as it was
-pub ill-formed : (t : List ℕ) (e : Event) → wellFormed t ≡ false → (paperOf (answer t e) ≡ refused 1 0 0) × (next t e ≡ t)
+pub ill-formed : (t : List ℕ) (e : Event) → wellFormed t ≡ false → (paperOf (eventAnswer t e) ≡ refused 1 0 0) × (eventTable t e ≡ t)
 ill-formed t (message now s) w = ill-message t (now .milliseconds) s w
 ill-formed t (tick now id) w = ill-tick t (now .milliseconds) id w
 
 -- a refusal, a repeat and a none leave the table byte for byte as it was, whatever it was
-well-quiet : (t : List ℕ) (e : Event) → lifted.Good ours t → Quiet t (step t e)
+well-quiet : (t : List ℕ) (e : Event) → lifted.Good ours t → Quiet t (eventStep t e)
 well-quiet t (message now s) g = message-quiet t g now s
 well-quiet t (tick now id) g = tick-quiet t g now id
 
-pub changes-nothing : (t : List ℕ) (e : Event) → AllBytes t → isQuiet (answer t e) ≡ true → next t e ≡ t
+pub changes-nothing : (t : List ℕ) (e : Event) → AllBytes t → isQuiet (eventAnswer t e) ≡ true → eventTable t e ≡ t
 changes-nothing t e b q = go (wellFormed t) refl
   where
-    go : (v : Bool) → wellFormed t ≡ v → next t e ≡ t
+    go : (v : Bool) → wellFormed t ≡ v → eventTable t e ≡ t
     go true w = well-quiet t e (well-good t b w) .stays q
     go false w = ill-formed t e w .1
 
@@ -127,46 +127,46 @@ changes-nothing t e b q = go (wellFormed t) refl
 runs : (t : List ℕ) (es : List Event) → lifted.Good ours t → lifted.afterAll ours t es ≡ afterAll t es
 unfolding lifted.afterAll afterAll
 runs t [] g = refl
-runs t (e ∷ es) g = ap (λ (u : List ℕ). lifted.afterAll ours u es) (agrees t e (good-well t g) .tables) ∙ runs (next t e) es (step-good t e g)
+runs t (e ∷ es) g = ap (λ (u : List ℕ). lifted.afterAll ours u es) (agrees t e (good-well t g) .tables) ∙ runs (eventTable t e) es (step-good t e g)
 
 answered : (t : List ℕ) (es : List Event) → lifted.Good ours t → lifted.answers ours t es ≡ answers t es
 unfolding lifted.answers answers
 answered t [] g = refl
 answered t (e ∷ es) g =
     let a = agrees t e (good-well t g) in
-    rw (a .answers, a .tables, answered (next t e) es (step-good t e g))
+    rw (a .answers, a .tables, answered (eventTable t e) es (step-good t e g))
 
 run-good : (t : List ℕ) (es : List Event) → lifted.Good ours t → lifted.Good ours (afterAll t es)
 unfolding afterAll
 run-good t [] g = g
-run-good t (e ∷ es) g = run-good (next t e) es (step-good t e g)
+run-good t (e ∷ es) g = run-good (eventTable t e) es (step-good t e g)
 
 -- any sequence leaves a well-formed table well-formed
 pub run-well-formed : (t : List ℕ) (es : List Event) → AllBytes t → wellFormed t ≡ true → wellFormed (afterAll t es) ≡ true
 run-well-formed t es b w = good-well (afterAll t es) (run-good t es (well-good t b w))
 
 -- In a sequence no event alters a byte of another call's record, which stays in its place.
-untouched-by : (t : List ℕ) (e : Event) → lifted.Good ours t → (k : ℕ) → k < size t → (id : List ℕ) → isNamed id (recordAt t k) ≡ true
-    → (nameOf e ≡ some id → ⊥) → recordAt (next t e) k ≡ recordAt t k
+untouched-by : (t : List ℕ) (e : Event) → lifted.Good ours t → (k : ℕ) → k < recordCount t → (id : List ℕ) → isNamed id (recordAt t k) ≡ true
+    → (nameOf e ≡ some id → ⊥) → recordAt (eventTable t e) k ≡ recordAt t k
 untouched-by t e g k h id n ne = rw (sym (agrees t e (good-well t g) .tables)) (steps.step ours laws t e g .bytes k h id ne n)
 
-pub untouched : (t : List ℕ) (xs : List Event) (e : Event) → AllBytes t → wellFormed t ≡ true → (k : ℕ) → k < size (afterAll t xs) → (id : List ℕ)
-    → isNamed id (recordAt (afterAll t xs) k) ≡ true → (nameOf e ≡ some id → ⊥) → recordAt (next (afterAll t xs) e) k ≡ recordAt (afterAll t xs) k
+pub untouched : (t : List ℕ) (xs : List Event) (e : Event) → AllBytes t → wellFormed t ≡ true → (k : ℕ) → k < recordCount (afterAll t xs) → (id : List ℕ)
+    → isNamed id (recordAt (afterAll t xs) k) ≡ true → (nameOf e ≡ some id → ⊥) → recordAt (eventTable (afterAll t xs) e) k ≡ recordAt (afterAll t xs) k
 untouched t xs e b w k h id n ne = untouched-by (afterAll t xs) e (run-good t xs (well-good t b w)) k h id n ne
 
-header-of : (t : List ℕ) → frameSound t ≡ true → (take headerSize t ≡ headerOf (size t)) × (length t ≡ headerSize + recordSize * size t)
+header-of : (t : List ℕ) → frameSound t ≡ true → (take headerSize t ≡ headerOf (recordCount t)) × (length t ≡ headerSize + recordSize * recordCount t)
 unfolding frameSound
 header-of t f =
-    let a = and-parts (eqb (length t) (headerSize + recordSize * size t)) (among 1 255 (size t) && same (take headerSize t) (headerOf (size t))) f in
-    let b = and-parts (among 1 255 (size t)) (same (take headerSize t) (headerOf (size t))) (a .1) in
-    (same-eq (take headerSize t) (headerOf (size t)) (b .1), eqb-true (length t) (headerSize + recordSize * size t) (a .0))
+    let a = and-parts (eqb (length t) (headerSize + recordSize * recordCount t)) (among 1 255 (recordCount t) && same (take headerSize t) (headerOf (recordCount t))) f in
+    let b = and-parts (among 1 255 (recordCount t)) (same (take headerSize t) (headerOf (recordCount t))) (a .1) in
+    (same-eq (take headerSize t) (headerOf (recordCount t)) (b .1), eqb-true (length t) (headerSize + recordSize * recordCount t) (a .0))
 
-size-run : (t : List ℕ) (es : List Event) → lifted.Good ours t → size (afterAll t es) ≡ size t
+size-run : (t : List ℕ) (es : List Event) → lifted.Good ours t → recordCount (afterAll t es) ≡ recordCount t
 unfolding afterAll
 size-run t [] g = refl
 size-run t (e ∷ es) g =
-    let s : size (next t e) ≡ size t = rw (sym (agrees t e (good-well t g) .tables)) (steps.step ours laws t e g .size-kept) in
-    size-run (next t e) es (step-good t e g) ∙ s
+    let s : recordCount (eventTable t e) ≡ recordCount t = rw (sym (agrees t e (good-well t g) .tables)) (steps.step ours laws t e g .size-kept) in
+    size-run (eventTable t e) es (step-good t e g) ∙ s
 
 -- nor does a sequence alter the header, or the table's length
 pub header-kept : (t : List ℕ) (es : List Event) → AllBytes t → wellFormed t ≡ true → (take headerSize (afterAll t es) ≡ take headerSize t) × (length (afterAll t es) ≡ length t)
@@ -178,7 +178,7 @@ header-kept t es b w =
     (q .0 ∙ ap headerOf s ∙ sym (p .0), q .1 ∙ ap (λ n. headerSize + recordSize * n) s ∙ sym (p .1))
 
 -- an event that is turned away is answered 'no room'
-away-no-room : (t : List ℕ) (e : Event) → lifted.Good ours t → lifted.Away ours t e → isNoRoom (answer t e) ≡ true
+away-no-room : (t : List ℕ) (e : Event) → lifted.Good ours t → lifted.Away ours t e → isNoRoom (eventAnswer t e) ≡ true
 unfolding lifted.answer lifted.answerTo
 away-no-room t e g a =
     let r : lifted.answer ours t e ≡ ours .turned e = rw (a .by-name, a .unheld, a .opens, a .full) in
@@ -189,9 +189,9 @@ module _ (t : List ℕ) (a b : Event) (g : lifted.Good ours t) (r : Roomy t a b)
   roomy =
       record {
         first-a = λ w. clash (away-no-room t a g w) (r .first-a);
-        then-b = λ w. clash (away-no-room (next t a) b (step-good t a g) (rw (agrees t a (good-well t g) .tables) at w)) (r .then-b);
+        then-b = λ w. clash (away-no-room (eventTable t a) b (step-good t a g) (rw (agrees t a (good-well t g) .tables) at w)) (r .then-b);
         first-b = λ w. clash (away-no-room t b g w) (r .first-b);
-        then-a = λ w. clash (away-no-room (next t b) a (step-good t b g) (rw (agrees t b (good-well t g) .tables) at w)) (r .then-a);
+        then-a = λ w. clash (away-no-room (eventTable t b) a (step-good t b g) (rw (agrees t b (good-well t g) .tables) at w)) (r .then-a);
       }
 
 -- DEMAND 3: on a well-formed table, two neighbours that do not name the same Call-ID, neither of which is answered 'no room' in either

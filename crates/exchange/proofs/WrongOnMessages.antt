@@ -14,7 +14,7 @@ use Rattle.exchange.proofs.WrongOnTicks.{calling, calling-sound}
 use Rattle.exchange.specs.Paper.{refused, paperOf}
 use Rattle.json.specs.Places.{part}
 use Rattle.keeper.proofs.FactLaws.{sound-fields, fit-fields}
-use Rattle.keeper.proofs.StepLaws.{read-named}
+use Rattle.message.proofs.Accepted.{read-named}
 use Rattle.keeper.specs.Facts.{methodOfCode, eventOf, fieldsFrom}
 use Rattle.keeper.specs.Keeping.{Step, recordFor, onMessage}
 use Rattle.fields.specs.Spans.{cut}
@@ -33,9 +33,9 @@ use Rattle.table.proofs.KeepLaws.{Ruled, blank-sound, open-keeps, fields-new}
 use Rattle.table.proofs.LookupLaws.{free-found, not-found}
 use Rattle.table.proofs.RecordLaws.{length-newRecord}
 use Rattle.table.specs.Blank.{blankOf}
-use Rattle.table.specs.Image.{size, headerOf, recordAt, withRecord}
-use Rattle.table.specs.Record.{countsOf, fieldsOf, isNamed, newRecord, recordOf, slotOf, textAt, timesOf}
-use Rattle.table.specs.Search.{lowest, placeNamed, freePlace}
+use Rattle.table.specs.Image.{recordCount, headerOf, recordAt, withRecord}
+use Rattle.table.specs.Record.{countsOf, recordFields, isNamed, newRecord, recordOf, slotOf, roomText, timesOf}
+use Rattle.table.specs.Search.{lowestFound, placeNamed, freePlace}
 use Rattle.table.specs.WellFormed.{wellFormed}
 use Rattle.table.specs.declared.numbers.Fields.{Fields}
 use Rattle.table.specs.declared.searching.Found.the-variants.{At, Nothing}
@@ -48,7 +48,7 @@ use native.Mathlib.Omega.{arith}
 -- An INVITE at 1000 where its Call-ID stands in no record and record k is the lowest free one.
 
 abbrev state : List ℕ → ℕ → ℕ
-state t k = fieldsOf (recordAt t k) .state
+state t k = recordFields (recordAt t k) .state
 
 module _ (t s : List ℕ) (k : ℕ) (w : wellFormed t ≡ true) (read : reading s ≡ Read invite) (nobody : placeNamed (callIdOf s invite) t ≡ Nothing)
     (free : freePlace t ≡ At k) where
@@ -60,7 +60,7 @@ module _ (t s : List ℕ) (k : ℕ) (w : wellFormed t ≡ true) (read : reading 
       let n = read-named s invite read (omega arith) in
       record { call-id = n .call-id; user = n .user; caller-fire = n .caller-fire; callee-fire = n .callee-fire }
 
-  inside : k < size t
+  inside : k < recordCount t
   inside = free-found t k free .inside
 
   passed : onMessage t 1000 s ≡ record { answer = Accepted Pass (In Calling); table = withRecord t k r }
@@ -75,7 +75,7 @@ module _ (t s : List ℕ) (k : ℕ) (w : wellFormed t ≡ true) (read : reading 
 
   -- the record is another than it was
   before : state t k ≡ 0
-  unfolding fieldsOf
+  unfolding recordFields
   before = eqb-true _ 0 (free-found t k free .passes)
 
   after : state (withRecord t k r) k ≡ 1
@@ -85,7 +85,7 @@ module _ (t s : List ℕ) (k : ℕ) (w : wellFormed t ≡ true) (read : reading 
       let l2 = user-length _ (ruled .user) .1 in
       let l3 = fire-length _ (ruled .caller-fire) .1 in
       let l4 = fire-length _ (ruled .callee-fire) .1 in
-      ap (λ (x : List ℕ). fieldsOf x .state) (with-same t k inside r (length-newRecord _ _ _ _ (fieldsFrom calling) l1 l2 l3 l4))
+      ap (λ (x : List ℕ). recordFields x .state) (with-same t k inside r (length-newRecord _ _ _ _ (fieldsFrom calling) l1 l2 l3 l4))
       ∙ ap (λ (x : Fields). x .state) (fields-new _ _ _ _ (fieldsFrom calling) l1 l2 l3 l4 (fit-fields calling calling-sound))
 
   altered : withRecord t k r ≡ t → ⊥
@@ -116,7 +116,7 @@ w0 = blank-sound 2 (omega arith) (omega arith)
 
 -- neither Call-ID stands where its INVITE comes, and which record is free then
 searched : ((placeNamed (callIdOf s1 invite) t0 ≡ Nothing) × (freePlace t0 ≡ At 0)) × ((placeNamed (callIdOf s2 invite) t1 ≡ Nothing) × (freePlace t1 ≡ At 1))
-unfolding placeNamed freePlace lowest isNamed same blankOf headerOf bytesOf splice recordFor newRecord recordOf fieldsFrom textAt slotOf countsOf timesOf
+unfolding placeNamed freePlace lowestFound isNamed same blankOf headerOf bytesOf splice recordFor newRecord recordOf fieldsFrom roomText slotOf countsOf timesOf
     callIdOf userOf callerFireOf calleeFireOf cut part
 searched = ((refl, refl), (refl, refl))
 

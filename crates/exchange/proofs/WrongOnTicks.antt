@@ -27,16 +27,16 @@ use Rattle.octets.specs.Text.{same}
 use Rattle.octets.proofs.TestLaws.{clash}
 use Rattle.rules.proofs.PartLaws.{call-id-length, user-length, fire-length}
 use Rattle.rules.specs.Classes.{holds}
-use Rattle.rules.specs.Pieces.{behind, hasPiece, reads, runLength, within}
+use Rattle.rules.specs.Pieces.{pieceEnd, hasPiece, reads, runLength, within}
 use Rattle.rules.specs.Texts.{callIdRule, userRule, fireRule}
 use Rattle.table.proofs.ImageLaws.{with-same, size-with}
 use Rattle.table.proofs.KeepLaws.{Ruled, blank-sound, open-keeps, store-keeps, call-id-kept, call-id-new, fields-new, fields-stored, new-sound, stored-sound, used-not-free}
 use Rattle.table.proofs.LookupLaws.{named-own, place-kept, place-new, not-found}
 use Rattle.table.proofs.RecordLaws.{length-newRecord, length-withFields}
 use Rattle.table.specs.Blank.{blankOf}
-use Rattle.table.specs.Image.{size, headerOf, recordAt, recordSize, withRecord, freeRecord}
-use Rattle.table.specs.Record.{countsOf, fieldsOf, isNamed, newRecord, recordOf, slotOf, timesOf, withFields}
-use Rattle.table.specs.Search.{lowest, placeNamed}
+use Rattle.table.specs.Image.{recordCount, headerOf, recordAt, recordSize, withRecord, freeRecord}
+use Rattle.table.specs.Record.{countsOf, recordFields, isNamed, newRecord, recordOf, slotOf, timesOf, withFields}
+use Rattle.table.specs.Search.{lowestFound, placeNamed}
 use Rattle.table.specs.WellFormed.{usedSound, wellFormed}
 use Rattle.table.specs.declared.numbers.Fields.{Fields}
 use Rattle.table.specs.declared.searching.Found.the-variants.{At, Nothing}
@@ -61,7 +61,7 @@ abbrev b : List ℕ
 b = ascii "kita"
 
 ruled : Ruled i u a b
-unfolding callIdRule userRule fireRule reads hasPiece behind within runLength holds among isAlnum isDigit isLetter isLower isUpper
+unfolding callIdRule userRule fireRule reads hasPiece pieceEnd within runLength holds among isAlnum isDigit isLetter isLower isUpper
 ruled = record { call-id = refl; user = refl; caller-fire = refl; callee-fire = refl }
 
 abbrev pub calling : Call
@@ -112,21 +112,21 @@ long0 = length-newRecord i u a b f0 l1 l2 l3 l4
 long1 : length r1 ≡ recordSize
 long1 = length-withFields r0 f1 long0
 
-one : size (blankOf 1) ≡ 1
+one : recordCount (blankOf 1) ≡ 1
 unfolding blankOf headerOf bytesOf
 one = refl
 
 nobody : placeNamed i (blankOf 1) ≡ Nothing
-unfolding placeNamed lowest isNamed blankOf headerOf bytesOf
+unfolding placeNamed lowestFound isNamed blankOf headerOf bytesOf
 nobody = refl
 
 -- the call stands at record 0 of a well-formed table
 record Stands (t r : List ℕ) (c : Call) : Type 0 where
   well : wellFormed t ≡ true
-  inside : 0 < size t
+  inside : 0 < recordCount t
   place : placeNamed i t ≡ At 0
   record-is : recordAt t 0 ≡ r
-  fields : fieldsOf r ≡ fieldsFrom c
+  fields : recordFields r ≡ fieldsFrom c
 
 used0 : usedSound r0 ≡ true
 used0 = new-sound i u a b f0 ruled (sound-fields calling calling-sound) (fit-fields calling calling-sound)
@@ -134,7 +134,7 @@ used0 = new-sound i u a b f0 ruled (sound-fields calling calling-sound) (fit-fie
 named0 : isNamed i r0 ≡ true
 named0 = named-own i r0 (used-not-free r0 used0) (call-id-new i u a b f0 l1 l2 l3 l4)
 
-below : 0 < size (blankOf 1)
+below : 0 < recordCount (blankOf 1)
 below = rw one (omega arith)
 
 stands0 : Stands t0 r0 calling
@@ -173,7 +173,7 @@ stands1 =
 ticked : (t r : List ℕ) (c : Call) (now : ℕ) → Stands t r c → callOf (fieldsFrom c) ≡ c → onTick t now i ≡ stepOf t 0 (decided (Is c) Tick now)
 unfolding onTick
 ticked t r c now s back =
-    let e : callAt t 0 ≡ c = ap (λ (x : List ℕ). callOf (fieldsOf x)) (s .record-is) ∙ ap callOf (s .fields) ∙ back in
+    let e : callAt t 0 ≡ c = ap (λ (x : List ℕ). callOf (recordFields x)) (s .record-is) ∙ ap callOf (s .fields) ∙ back in
     rw (s .well, ruled .call-id, s .place, e)
 
 times-out : onTick t0 16000 i ≡ record { answer = Accepted Timeout (In Ended); table = withRecord t0 0 (withFields (recordAt t0 0) f1) }
@@ -186,19 +186,19 @@ frees = ticked t1 r1 ended 3616001 stands1 refl
 
 -- the table after the first tick is another, and after the second another again
 abbrev state : List ℕ → ℕ
-state t = fieldsOf (recordAt t 0) .state
+state t = recordFields (recordAt t 0) .state
 
 state0 : state t0 ≡ 1
-unfolding fieldsFrom fieldsOf
-state0 = ap (λ (x : List ℕ). fieldsOf x .state) (stands0 .record-is) ∙ ap (λ (x : Fields). x .state) (stands0 .fields)
+unfolding fieldsFrom recordFields
+state0 = ap (λ (x : List ℕ). recordFields x .state) (stands0 .record-is) ∙ ap (λ (x : Fields). x .state) (stands0 .fields)
 
 state1 : state t1 ≡ 5
-unfolding fieldsFrom fieldsOf
-state1 = ap (λ (x : List ℕ). fieldsOf x .state) (stands1 .record-is) ∙ ap (λ (x : Fields). x .state) (stands1 .fields)
+unfolding fieldsFrom recordFields
+state1 = ap (λ (x : List ℕ). recordFields x .state) (stands1 .record-is) ∙ ap (λ (x : Fields). x .state) (stands1 .fields)
 
 state2 : state (withRecord t1 0 freeRecord) ≡ 0
-unfolding fieldsOf
-state2 = ap (λ (x : List ℕ). fieldsOf x .state) (with-same t1 0 (stands1 .inside) freeRecord (length-replicate {A = ℕ} recordSize 0))
+unfolding recordFields
+state2 = ap (λ (x : List ℕ). recordFields x .state) (with-same t1 0 (stands1 .inside) freeRecord (length-replicate {A = ℕ} recordSize 0))
 
 first-table : onTick t0 16000 i .table ≡ t1
 first-table = ap (λ (s : Step). s .table) times-out ∙ ap (λ (x : List ℕ). withRecord t0 0 (withFields x f1)) (stands0 .record-is)

@@ -31,24 +31,24 @@ pub data Event : Type 0 where
   tick : Time → List ℕ → Event
 
 -- what the public entry does with it
-abbrev pub step : List ℕ → Event → Step
-step t (message now s) = onMessage t (now .milliseconds) s
-step t (tick now id) = onTick t (now .milliseconds) id
+abbrev pub eventStep : List ℕ → Event → Step
+eventStep t (message now s) = onMessage t (now .milliseconds) s
+eventStep t (tick now id) = onTick t (now .milliseconds) id
 
-abbrev pub answer : List ℕ → Event → Answer
-answer t e = step t e .answer
+abbrev pub eventAnswer : List ℕ → Event → Answer
+eventAnswer t e = eventStep t e .answer
 
-abbrev pub next : List ℕ → Event → List ℕ
-next t e = step t e .table
+abbrev pub eventTable : List ℕ → Event → List ℕ
+eventTable t e = eventStep t e .table
 
 -- one event after the other: the table at the end, and every answer
 unfoldable pub afterAll : List ℕ → List Event → List ℕ
 afterAll t [] = t
-afterAll t (e ∷ es) = afterAll (next t e) es
+afterAll t (e ∷ es) = afterAll (eventTable t e) es
 
 unfoldable pub answers : List ℕ → List Event → List Answer
 answers t [] = []
-answers t (e ∷ es) = answer t e ∷ answers (next t e) es
+answers t (e ∷ es) = eventAnswer t e ∷ answers (eventTable t e) es
 
 -- the Call-ID that an event names: that of a request or a response that is read, or a tick's, where it keeps the Call-ID rule; else none
 abbrev pub nameRead : List ℕ → Reading → Option (List ℕ)
@@ -78,10 +78,10 @@ isNoRoom (Refused f) = eqb (refusalNumber f) 27
 
 -- neither order answers 'no room' to either of the two
 pub record Roomy (t : List ℕ) (a b : Event) : Type 0 where
-  pub first-a : isNoRoom (answer t a) ≡ false
-  pub then-b : isNoRoom (answer (next t a) b) ≡ false
-  pub first-b : isNoRoom (answer t b) ≡ false
-  pub then-a : isNoRoom (answer (next t b) a) ≡ false
+  pub first-a : isNoRoom (eventAnswer t a) ≡ false
+  pub then-b : isNoRoom (eventAnswer (eventTable t a) b) ≡ false
+  pub first-b : isNoRoom (eventAnswer t b) ≡ false
+  pub then-a : isNoRoom (eventAnswer (eventTable t b) a) ≡ false
 
 -- what the exchange of a and b, after xs and before ys, leaves: every answer, and each call's final record
 pub record Exchanged (t : List ℕ) (xs : List Event) (a b : Event) (ys : List Event) : Type 0 where

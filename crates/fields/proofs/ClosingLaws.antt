@@ -1,13 +1,14 @@
--- Where an object ends, by its members: a member whose value opens with a quote or a bracket leaves as many brackets open as there were, so the brace
+-- Where an object ends, by its members: a member whose value opens with a quote or a bracket leaves as many brackets open as closed-there were, so the brace
 -- behind the last of them closes the object. Assumes nothing.
+use Rattle.json.proofs.PlaceLaws.{left-none}
+use Rattle.json.proofs.TurnLaws.{there}
 use Prim.Native.Nat.{ℕ, zero, suc, _+_, _-_, _<_}
 use Rattle.fields.specs.inner.Gathering.{Open, plain}
-use Rattle.json.proofs.TurnLaws.{inside}
 use Rattle.json.specs.Places.{Inside, outside, quoted, escaped, turn, depth, left, size, spaces, past, next, behind, valueOf, follows, isWs, isOpen, isShut}
 use Rattle.json.specs.inner.Landing.{Row}
 use Rattle.octets.proofs.TestLaws.{and-parts, or-split}
 use borrow.Author.Tests.{eqb-true, lt-ltb}
-use lib.Dec.{eqb, ltb}
+use lib.Dec.{eqb}
 use lib.ListN.{length, getD, drop}
 use lib.Seq.{drop-cons, drop-drop}
 use mathlib.Core.Bool.{Bool, true, false, _&&_, _||_, cond}
@@ -90,17 +91,12 @@ value-left b l (object e) = rw e (omega (arith, over l outside 1 1))
 
 colon-next : (v : List ℕ) (p : ℕ) → getD v p 0 ≡ 58 → next v p ≡ p + 1
 unfolding next
-colon-next v p e = rw (lt-ltb p (length v) (inside v p 57 e))
+colon-next v p e = rw (lt-ltb p (length v) (there v p 57 e))
 
-there : (v : List ℕ) (a : ℕ) → Closed (getD v a 0) → a < length v
-there v a (string e) = inside v a 33 e
-there v a (array e) = inside v a 90 e
-there v a (object e) = inside v a 122 e
-
-left-none : (l : List ℕ) → left l outside 0 ≡ 0
-unfolding left
-left-none [] = refl
-left-none (b ∷ l) = refl
+closed-there : (v : List ℕ) (a : ℕ) → Closed (getD v a 0) → a < length v
+closed-there v a (string e) = there v a 33 e
+closed-there v a (array e) = there v a 90 e
+closed-there v a (object e) = there v a 122 e
 
 shut-left : (l : List ℕ) → left (125 ∷ l) outside 1 ≡ 1
 unfolding left isOpen isShut
@@ -129,31 +125,31 @@ module _ (v : List ℕ) (o : ℕ) where
   -- behind a comma, or a colon
   pub open-comma : {p : ℕ} → getD v p 0 ≡ 44 → Open v o p → Open v o (p + 1)
   unfolding isOpen isShut
-  open-comma {p} e f = open-next (inside v p 43 e) (known (getD v p 0) 44 e (neutral 44 refl refl refl)) f
+  open-comma {p} e f = open-next (there v p 43 e) (known (getD v p 0) 44 e (neutral 44 refl refl refl)) f
 
   open-colon : {p : ℕ} → getD v p 0 ≡ 58 → Open v o p → Open v o (next v p)
   unfolding isOpen isShut
-  open-colon {p} e f = rw (colon-next v p e) (open-next (inside v p 57 e) (known (getD v p 0) 58 e (neutral 58 refl refl refl)) f)
+  open-colon {p} e f = rw (colon-next v p e) (open-next (there v p 57 e) (known (getD v p 0) 58 e (neutral 58 refl refl refl)) f)
 
   -- a member: its name, a colon, and a value that opens with a quote or a bracket
   pub open-member : {p q name value end then : ℕ} → q ≡ past v p → getD v q 0 ≡ 34 → Row v q name value end then → getD v (past v name) 0 ≡ 58
       → Closed (getD v value 0) → Open v o p → Open v o then
   unfolding valueOf follows
   open-member {p} {q} {name} {value} {end} {then} e quote row colon closed f =
-      let named = open-behind (inside v q 33 quote) (string quote) (row .named .is) (open-past e f) in
+      let named = open-behind (there v q 33 quote) (string quote) (row .named .is) (open-past e f) in
       let valued = open-past (row .begins .is ∙ rw (← (row .named .is))) (open-colon colon (open-past refl named)) in
-      let ended = open-behind (there v value closed) closed (row .ends .is ∙ ap (behind v) (sym (row .begins .is))) valued in
+      let ended = open-behind (closed-there v value closed) closed (row .ends .is ∙ ap (behind v) (sym (row .begins .is))) valued in
       open-past (row .goes .is ∙ rw (← (row .ends .is))) ended
 
   -- its own brace
   pub shut : {p : ℕ} → getD v p 0 ≡ 125 → Open v o p → p + 1 ≡ behind v o
   shut {p} e f =
-      let x : left (drop p v) outside 1 ≡ 1 = rw (drop-cons v p 0 (inside v p 124 e), e) (shut-left (drop (suc p) v)) in
+      let x : left (drop p v) outside 1 ≡ 1 = rw (drop-cons v p 0 (there v p 124 e), e) (shut-left (drop (suc p) v)) in
       sym (f .to-go ∙ rw x)
 
   pub opened : getD v o 0 ≡ 123 → Open v o (o + 1)
   unfolding behind size isOpen
-  opened e = record { to-go = rw (drop-cons v o 0 (inside v o 122 e), e, add-one) (omega arith) }
+  opened e = record { to-go = rw (drop-cons v o 0 (there v o 122 e), e, add-one) (omega arith) }
 
   plain-parts : (name value : ℕ) → plain v name value ≡ true → (getD v (past v name) 0 ≡ 58) × Closed (getD v value 0)
   unfolding plain

@@ -1,7 +1,7 @@
 -- What the answers of `rules` say of a text's rule. Assumes nothing.
+use Rattle.json.proofs.TurnLaws.{no-elements, some-elements}
 use Prim.Native.Nat.{ℕ}
 use Rattle.json.specs.Places.{past, elements, elementsFrom}
-use Rattle.fields.proofs.ElementLaws.{no-elements, some-elements}
 use Rattle.fields.specs.Field.{addressRule, stringsField}
 use Rattle.fields.specs.Value.{isArray}
 use Rattle.octets.specs.Class.{all}
@@ -15,7 +15,7 @@ use Rattle.rules.specs.declared.statuses.Status.the-variants as statuses
 use lib.Dec.{eqb}
 use lib.ListN.{length, getD}
 use mathlib.Core.Bool.{Bool, true, false, cond, _||_}
-use mathlib.Core.List.{List}
+use mathlib.Core.List.{List, [], _∷_}
 use mathlib.Core.Path.{_≡_, refl}
 
 -- CSeq
@@ -102,3 +102,17 @@ module _ (v : List ℕ) where
     pub list-from : (getD v q 0 ≡ 93 → ⊥) → stringsField v ≡ all (quotes v) (elementsFrom (length v) v 1)
     unfolding stringsField
     list-from g = let els : elements v 0 ≡ elementsFrom (length v) v 1 = some-elements v 0 f g in rw (e, els)
+
+-- a test of every element, one element at a time
+module _ (f : ℕ → Bool) (s : List ℕ) (q : ℕ) (rest : List ℕ) where
+  pub every-more : f q ≡ true → all f (q ∷ rest) ≡ all f rest
+  unfolding all
+  every-more e = rw e
+
+  pub every-stops : f q ≡ false → all f (q ∷ rest) ≡ false
+  unfolding all
+  every-stops e = rw e
+
+pub every-none : (f : ℕ → Bool) → all f [] ≡ true
+unfolding all
+every-none f = refl

@@ -1,52 +1,20 @@
 -- The walk over the members of an object, one member at a time: what is gathered so far, and that the rest decides the rest.
 -- Assumes nothing.
 use Rattle.fields.specs.inner.Gathering.{notedOnce, endAt, endsOf, Gathered, Ended}
-use Prim.Native.Nat.{ℕ, zero, suc, _+_, _-_, _≤_, _<_}
-use Rattle.json.specs.Places.{behind, raw, past, valueOf, follows, more, memberAt, membersFrom, members}
+use Prim.Native.Nat.{ℕ, zero, suc, _+_, _-_, _<_}
+use Rattle.json.specs.Places.{behind, raw, valueOf, membersFrom, members}
 use Rattle.fields.specs.Known.{numberAt, empty, has, note, noted, repeated}
 use Rattle.octets.specs.Text.{same}
 use Rattle.rules.specs.Names.{hopMembers}
 use Rattle.rules.specs.Pieces.{wordNumber, wordNumberFrom}
-use borrow.Author.Tests.{eq-eqb, ne-eqb}
+use borrow.Author.Tests.{ne-eqb}
 use lib.Dec.{eqb, ltb}
-use lib.ListN.{length, getD, set, replicate, List·getD-eq-default, List·getD-map}
+use lib.ListN.{length, getD, set, replicate, List·getD-map}
 use mathlib.Core.Bool.{Bool, true, false, _&&_, cond}
 use mathlib.Core.List.{List, [], _∷_, map}
 use mathlib.Core.Path.{_≡_, refl, sym, ap, _∙_}
-use native.Mathlib.Decide.{decLt, ℕ-discrete}
+use native.Mathlib.Decide.{ℕ-discrete}
 use native.Mathlib.Omega.{arith}
-
--- The members from a place on.
-
-module _ (s : List ℕ) (n p : ℕ) where
-  pub no-more : {q : ℕ} → q ≡ past s p → (getD s q 0 ≡ 34 → ⊥) → membersFrom n s p ≡ []
-  unfolding membersFrom memberAt
-  no-more {q} e ne = by n
-    where
-      by : (n : ℕ) → membersFrom n s p ≡ []
-      by zero = refl
-      by (suc n) = rw (← e, ne-eqb _ _ ne)
-
-  pub one-more : {q : ℕ} → 0 < n → q ≡ past s p → getD s q 0 ≡ 34 → membersFrom n s p ≡ q ∷ more s (membersFrom (n - 1) s) (valueOf s q)
-  unfolding membersFrom memberAt
-  one-more {q} h e f = by n h
-    where
-      by : (n : ℕ) → 0 < n → membersFrom n s p ≡ q ∷ more s (membersFrom (n - 1) s) (valueOf s q)
-      by zero h = absurd (omega arith)
-      by (suc n) h = let z : suc n - 1 ≡ n = omega arith in rw (← e, eq-eqb _ _ f, z)
-
-pub spent : (s : List ℕ) (n p : ℕ) → n ≤ 0 → membersFrom n s p ≡ []
-unfolding membersFrom
-spent s zero p h = refl
-spent s (suc n) p h = absurd (omega arith)
-
-pub no-comma : (s : List ℕ) (f : ℕ → List ℕ) (v : ℕ) {j : ℕ} → j ≡ follows s v → (getD s j 0 ≡ 44 → ⊥) → more s f v ≡ []
-unfolding more
-no-comma s f v e ne = rw (← e, ne-eqb _ _ ne)
-
-pub comma : (s : List ℕ) (f : ℕ → List ℕ) (v : ℕ) {j : ℕ} → j ≡ follows s v → getD s j 0 ≡ 44 → more s f v ≡ f (j + 1)
-unfolding more
-comma s f v e g = rw (← e, eq-eqb _ _ g)
 
 -- What is gathered, with the members qs still to come.
 
@@ -132,14 +100,6 @@ nought-at (suc k) (suc n) = nought-at k n
 -- none is known
 pub ended-none : (s t : List ℕ) → Ended s t empty
 ended-none s t = record { ends = λ n h. absurd (omega (arith, nought-at 27 n)) }
-
--- a byte that is not 0 stands inside the text
-pub there : (s : List ℕ) (i b : ℕ) → getD s i 0 ≡ suc b → i < length s
-there s i b e = by (decLt i (length s))
-  where
-    by : Dec (i < length s) → i < length s
-    by (yes a) = a
-    by (no a) = absurd (let z : getD s i 0 ≡ 0 = List·getD-eq-default s 0 {n = i} (omega arith) in omega arith)
 
 -- a name's number is at most how many names there are
 pick-few : (t : Bool) (a b c : ℕ) → a < c → b < c → cond t a b < c

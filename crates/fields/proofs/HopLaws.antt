@@ -1,11 +1,12 @@
 -- An object of Via: the walk over its members, one member at a time; and where its host and destination stand by its own bytes. One law for each way
 -- that the code goes. Assumes nothing.
+use Rattle.json.proofs.TurnLaws.{one-more, comma, no-comma}
 use Rattle.fields.specs.inner.Gathering.{endsIn, placesIn, Gathered, endsOf}
 use Rattle.json.specs.inner.Landing.{Row}
 use Prim.Native.Nat.{ℕ, _+_, _-_, _<_}
 use Rattle.json.proofs.PlaceLaws.{closing-is, raw-is}
 use Rattle.json.specs.Places.{part, past, behind, valueOf, more, members, membersFrom}
-use Rattle.fields.proofs.GatherLaws.{Sofar, started, over, repeats, goes-on, one-more, comma, no-comma, has-is, note-is, number-is, no-ends, note-ends}
+use Rattle.fields.proofs.GatherLaws.{Sofar, started, over, repeats, goes-on, has-is, note-is, number-is, no-ends, note-ends}
 use Rattle.fields.specs.Hop.{hopOf}
 use Rattle.fields.specs.Known.{empty, noted, numberAt, repeated}
 use Rattle.fields.specs.Via.{hopPlaces}
@@ -26,8 +27,8 @@ pub no-number : (k : ℕ) → k < 4 → (k ≡ 1 → ⊥) → (k ≡ 2 → ⊥) 
 no-number k h a b c = omega (arith, h, a, b, c)
 
 -- what is found of the members of the object at o: the first repeat, the places and the ends
-abbrev Found : List ℕ → ℕ → Members → Type 0
-Found v o m = Gathered hopMembers v o (m .twice) (placesIn m) × (endsIn m ≡ endsOf v (placesIn m))
+abbrev MembersFound : List ℕ → ℕ → Members → Type 0
+MembersFound v o m = Gathered hopMembers v o (m .twice) (placesIn m) × (endsIn m ≡ endsOf v (placesIn m))
 
 -- the walk over the members of the object at o: p is behind the brace or a comma, n members at most are to come
 pub record Walking (v : List ℕ) (o : ℕ) (m : Members) (n p : ℕ) : Type 0 where
@@ -38,7 +39,7 @@ pub record Walking (v : List ℕ) (o : ℕ) (m : Members) (n p : ℕ) : Type 0 w
 pub walk-starts : (v : List ℕ) (o : ℕ) {m : Members} → (m .twice ≡ 0) × ((placesIn m ≡ empty) × (endsIn m ≡ empty)) → Walking v o m (length v) (o + 1)
 walk-starts v o e = record { none = e .0; sofar = rw (e .1 .0) (started hopMembers v o); ends = rw (e .1 .0, e .1 .1) (no-ends v) }
 
-pub walk-over : {v : List ℕ} {o : ℕ} {m : Members} {n p : ℕ} → Walking v o m n p → membersFrom n v p ≡ [] → Found v o m
+pub walk-over : {v : List ℕ} {o : ℕ} {m : Members} {n p : ℕ} → Walking v o m n p → membersFrom n v p ≡ [] → MembersFound v o m
 walk-over f e = rw (f .none) (over (f .sofar) e, f .ends)
 
 module _ {v : List ℕ} {o : ℕ} {m : Members} {n p : ℕ} (f : Walking v o m n p) (some : 0 < n) {q : ℕ} (at-q : q ≡ past v p) (quote : getD v q 0 ≡ 34) {e a w t : ℕ}
@@ -51,7 +52,7 @@ module _ {v : List ℕ} {o : ℕ} {m : Members} {n p : ℕ} (f : Walking v o m n
   next = one-more v n p some at-q quote
 
   -- a repeat
-  pub walk-twice : {m′ : Members} → r ≡ true → (m′ .twice ≡ q) × ((placesIn m′ ≡ placesIn m) × (endsIn m′ ≡ endsIn m)) → Found v o m′
+  pub walk-twice : {m′ : Members} → r ≡ true → (m′ .twice ≡ q) × ((placesIn m′ ≡ placesIn m) × (endsIn m′ ≡ endsIn m)) → MembersFound v o m′
   walk-twice h g = rw (g .0, g .1 .0, g .1 .1)
       (repeats (f .sofar) q (more v (membersFrom (n - 1) v) (valueOf v q)) next (λ z. omega arith) (sym (has-is hopMembers v (placesIn m) q number seen) ∙ h), f .ends)
 
@@ -74,7 +75,7 @@ module _ {v : List ℕ} {o : ℕ} {m : Members} {n p : ℕ} (f : Walking v o m n
       ends = next-ends;
     }
 
-    pub walk-shut : (getD v t 0 ≡ 44 → ⊥) → Found v o m′
+    pub walk-shut : (getD v t 0 ≡ 44 → ⊥) → MembersFound v o m′
     walk-shut b = rw (put .0 ∙ f .none) (over (next-sofar [] (no-comma v (membersFrom (n - 1) v) (valueOf v q) (row .goes .is) b)) refl, next-ends)
 
 -- nothing stands in no bytes

@@ -1,57 +1,40 @@
 -- What the rules with facts answer, one law for each way out of the code, and what their answers say. Assumes nothing.
+use Rattle.fields.proofs.EscapeLaws.{address-safe, ruled-is}
+use Rattle.rules.proofs.EscapeLaws.{Safe, sequence-safe}
 use Prim.Native.Nat.{ℕ}
 use Rattle.fields.proofs.FieldLaws.{sequence-broken, caller-kept, callee-kept, address-broken, status-broken}
 use Rattle.fields.specs.Field.{addressRule, keeps}
-use Rattle.fields.specs.inner.Judging.{judged, cseqOf, partyOf, viaOf, statusIn}
+use Rattle.fields.specs.inner.Judging.{judgedValue, cseqOf, partyOf, viaOf, statusIn}
 use Rattle.fields.specs.Trail.{noTrail, trailIn, trailOf}
 use Rattle.fields.specs.Value.{isString, textOf, freely, ruled}
 use Rattle.fields.specs.Via.{viaRule}
 use Rattle.fields.specs.declared.judging.CSeq.the-variants as cseqs
-use Rattle.fields.specs.declared.judging.CSeq.{CSeq}
 use Rattle.fields.specs.declared.judging.Judged.the-variants as judgeds
-use Rattle.fields.specs.declared.judging.Judged.{Judged}
 use Rattle.fields.specs.declared.judging.Party.the-variants as parties
-use Rattle.fields.specs.declared.judging.Party.{Party}
 use Rattle.fields.specs.declared.judging.Setting.{Setting}
 use Rattle.fields.specs.declared.judging.Status.the-variants as statuses
-use Rattle.fields.specs.declared.judging.Status.{Status}
 use Rattle.fields.specs.declared.trails.Trail.{Trail}
 use Rattle.fields.specs.declared.vias.Via.the-variants as vias
-use Rattle.fields.specs.declared.vias.Via.{Via}
 use Rattle.json.specs.Places.{elements}
-use Rattle.octets.specs.Class.{all}
 use Rattle.rules.specs.Address.{addressOf}
 use Rattle.rules.specs.Pieces.{decimalAt}
 use Rattle.rules.specs.Sequence.{sequenceRule, sequenceOf, cseqNumber, cseqMethod}
 use Rattle.rules.specs.Status.{statusRule, statusOf}
-use Rattle.rules.specs.Texts.{unescaped}
 use Rattle.rules.specs.declared.addresses.Address.the-variants as addresses
 use Rattle.rules.specs.declared.addresses.Address.{Address}
 use Rattle.rules.specs.declared.sequences.Sequence.the-variants as sequences
 use Rattle.rules.specs.declared.statuses.Status.the-variants as codes
-use mathlib.Core.Bool.{Bool, true, false, _&&_, cond, true≢false}
+use mathlib.Core.Bool.{Bool, true, false, cond}
 use mathlib.Core.List.{List}
 use mathlib.Core.Path.{_≡_, refl, sym, ap, _∙_}
 
-and-off : (a b : Bool) → (a && (b && true)) ≡ false → (c : Bool) → (a && (b && c)) ≡ false
-and-off true true e c = absurd (true≢false e)
-and-off true false e c = refl
-and-off false b e c = refl
-
-and-on : (a b : Bool) → (a && (b && true)) ≡ true → (c : Bool) → (a && (b && c)) ≡ c
-and-on true true e c = refl
-and-on true false e c = absurd (true≢false (sym e))
-and-on false b e c = absurd (true≢false (sym e))
-
--- a string without a backslash, or not: what is left of a rule
-module _ (rule : List ℕ → Bool) (v t : List ℕ) {u : Bool} (is : t ≡ textOf v) (tested : u ≡ (isString v && (all unescaped t && true))) where
+-- a string, or not: what is left of a rule
+module _ (rule : List ℕ → Bool) (safe : Safe rule) (v t : List ℕ) {u : Bool} (is : t ≡ textOf v) (tested : u ≡ isString v) where
   not-ruled : u ≡ false → ruled rule v ≡ false
-  unfolding ruled freely
-  not-ruled e = rw (← is) (and-off (isString v) (all unescaped t) (sym tested ∙ e) (rule t))
+  not-ruled e = ruled-is rule safe v t is ∙ rw (sym tested ∙ e)
 
   by-rule : u ≡ true → ruled rule v ≡ rule t
-  unfolding ruled freely
-  by-rule e = rw (← is) (and-on (isString v) (all unescaped t) (sym tested ∙ e) (rule t))
+  by-rule e = ruled-is rule safe v t is ∙ rw (sym tested ∙ e)
 
 -- CSeq
 
@@ -59,36 +42,36 @@ of-sequence : (b : Bool) (n m n′ m′ : ℕ) → sequences.Of n m ≡ cond b (
 of-sequence true n m n′ m′ e = cc
 of-sequence false n m n′ m′ e = cc
 
-module _ (v t : List ℕ) {u : Bool} (is : t ≡ textOf v) (tested : u ≡ (isString v && (all unescaped t && true))) where
+module _ (v t : List ℕ) {u : Bool} (is : t ≡ textOf v) (tested : u ≡ isString v) where
   pub cseq-untold : u ≡ false → cseqs.Broken 0 ≡ cseqOf v
   unfolding cseqOf
-  cseq-untold e = rw (not-ruled sequenceRule v t is tested e)
+  cseq-untold e = rw (not-ruled sequenceRule sequence-safe v t is tested e)
 
   pub cseq-kept : (n m : ℕ) → u ≡ true → sequences.Of n m ≡ sequenceOf t → cseqs.Kept n m ≡ cseqOf v
   unfolding cseqOf sequenceOf
-  cseq-kept n m e f = rw (by-rule sequenceRule v t is tested e, ← is) (of-sequence (sequenceRule t) n m (cseqNumber t) (cseqMethod t) f)
+  cseq-kept n m e f = rw (by-rule sequenceRule sequence-safe v t is tested e, ← is) (of-sequence (sequenceRule t) n m (cseqNumber t) (cseqMethod t) f)
 
   pub cseq-broken : u ≡ true → sequences.Broken ≡ sequenceOf t → cseqs.Broken 0 ≡ cseqOf v
   unfolding cseqOf
-  cseq-broken e f = rw (by-rule sequenceRule v t is tested e, ← (sequence-broken t f))
+  cseq-broken e f = rw (by-rule sequenceRule sequence-safe v t is tested e, ← (sequence-broken t f))
 
   -- To and From
   pub party-untold : u ≡ false → parties.Broken 0 ≡ partyOf v
   unfolding partyOf
-  party-untold e = rw (not-ruled addressRule v t is tested e)
+  party-untold e = rw (not-ruled addressRule address-safe v t is tested e)
 
   module _ (e : u ≡ true) {a : Address} (f : a ≡ addressOf t) where
     pub party-caller : (user fire : ℕ) → a ≡ addresses.Caller user fire → parties.Kept a ≡ partyOf v
     unfolding partyOf
-    party-caller user fire g = rw (by-rule addressRule v t is tested e, ← is, ← (caller-kept t user fire (sym g ∙ f))) (ap parties.Kept f)
+    party-caller user fire g = rw (by-rule addressRule address-safe v t is tested e, ← is, ← (caller-kept t user fire (sym g ∙ f))) (ap parties.Kept f)
 
     pub party-callee : (fire : ℕ) → a ≡ addresses.Callee fire → parties.Kept a ≡ partyOf v
     unfolding partyOf
-    party-callee fire g = rw (by-rule addressRule v t is tested e, ← is, ← (callee-kept t fire (sym g ∙ f))) (ap parties.Kept f)
+    party-callee fire g = rw (by-rule addressRule address-safe v t is tested e, ← is, ← (callee-kept t fire (sym g ∙ f))) (ap parties.Kept f)
 
     pub party-broken : a ≡ addresses.Broken → parties.Broken 0 ≡ partyOf v
     unfolding partyOf
-    party-broken g = rw (by-rule addressRule v t is tested e, ← (address-broken t (sym g ∙ f)))
+    party-broken g = rw (by-rule addressRule address-safe v t is tested e, ← (address-broken t (sym g ∙ f)))
 
 -- Status of a response
 
@@ -122,12 +105,12 @@ via-kept v (a, b) = rw (b, ← a)
 
 -- any field
 module _ (k : Setting) (n : ℕ) (v : List ℕ) {b : Bool} (is : b ≡ keeps k n v) where
-  pub judged-kept : b ≡ true → judgeds.Kept ≡ judged k n v
-  unfolding judged
+  pub judged-kept : b ≡ true → judgeds.Kept ≡ judgedValue k n v
+  unfolding judgedValue
   judged-kept e = rw (← is, e)
 
-  pub judged-broken : b ≡ false → judgeds.Broken 0 ≡ judged k n v
-  unfolding judged
+  pub judged-broken : b ≡ false → judgeds.Broken 0 ≡ judgedValue k n v
+  unfolding judgedValue
   judged-broken e = rw (← is, e)
 
 -- What an answer says: broken at the first byte, or kept with its facts.
@@ -199,16 +182,16 @@ module _ (v : List ℕ) where
       go false f = (cc, cc)
 
   module _ (k : Setting) (n : ℕ) where
-    pub judged-fault : {p : ℕ} → judgeds.Broken p ≡ judged k n v → (p ≡ 0) × (keeps k n v ≡ false)
-    unfolding judged
+    pub judged-fault : {p : ℕ} → judgeds.Broken p ≡ judgedValue k n v → (p ≡ 0) × (keeps k n v ≡ false)
+    unfolding judgedValue
     judged-fault {p} e = go (keeps k n v) e
       where
         go : (b : Bool) → judgeds.Broken p ≡ cond b judgeds.Kept (judgeds.Broken 0) → (p ≡ 0) × (b ≡ false)
         go true f = (cc, cc)
         go false f = (cc, refl)
 
-    pub judged-tells : judgeds.Kept ≡ judged k n v → keeps k n v ≡ true
-    unfolding judged
+    pub judged-tells : judgeds.Kept ≡ judgedValue k n v → keeps k n v ≡ true
+    unfolding judgedValue
     judged-tells e = go (keeps k n v) e
       where
         go : (b : Bool) → judgeds.Kept ≡ cond b judgeds.Kept (judgeds.Broken 0) → b ≡ true

@@ -1,5 +1,5 @@
-pub mod ElementLaws
 pub mod TextLaws
+pub mod EscapeLaws
 pub mod ValueLaws
 pub mod FieldLaws
 pub mod ChainLaws

@@ -18,7 +18,7 @@ use native.Mathlib.Omega.{arith}
 
 -- A value's own bytes are the same value once they are cut out.
 
-left-cut : (l : List ℕ) (x : Inside) (n : ℕ) → left (take (left l x n) l) x n ≡ left l x n
+pub left-cut : (l : List ℕ) (x : Inside) (n : ℕ) → left (take (left l x n) l) x n ≡ left l x n
 unfolding left
 left-cut [] x n = refl
 left-cut (b ∷ l) outside zero = refl
@@ -93,7 +93,7 @@ take-le zero l = omega arith
 take-le (suc n) [] = omega arith
 take-le (suc n) (x ∷ l) = omega (arith, take-le n l)
 
-take-own : (n : ℕ) (l : List ℕ) → take (length (take n l)) l ≡ take n l
+pub take-own : (n : ℕ) (l : List ℕ) → take (length (take n l)) l ≡ take n l
 take-own zero l = refl
 take-own (suc n) [] = refl
 take-own (suc n) (x ∷ l) = ap (λ (t : List ℕ). x ∷ t) (take-own n l)

@@ -1,12 +1,12 @@
 -- The walk over the objects of Via, one object at a time: the trail so far, and that the objects still to come decide the rest; and the trail by the
 -- places of the message. Assumes nothing.
+use Rattle.json.proofs.PlaceLaws.{last-one, prev-two}
+use Rattle.json.proofs.TurnLaws.{some-elements, one-element, comma, no-comma, there}
 use Rattle.fields.specs.inner.Asked.{Within}
 use Rattle.json.specs.inner.Landing.{Cell}
 use Prim.Native.Nat.{ℕ, zero, suc, _+_, _-_, _≤_, _<_}
 use Rattle.json.proofs.PlaceLaws.{past-inner, behind-inner}
 use Rattle.json.specs.Places.{past, behind, bytes, follows, more, elements, elementsFrom, lastOf, prevOf}
-use Rattle.fields.proofs.ElementLaws.{some-elements, one-element}
-use Rattle.fields.proofs.GatherLaws.{comma, no-comma, there}
 use Rattle.fields.proofs.TextLaws.{bytes-short, span-within}
 use Rattle.fields.proofs.ViaLaws.{viaFrom, from-first, seventeenth, broken, further, at-end}
 use Rattle.fields.specs.Trail.{hostSpan, hostStart, hostEnd, trailOf, noTrail, trailIn}
@@ -48,14 +48,6 @@ last-skip x y qs = refl
 prev-skip : (x y z : ℕ) (qs : List ℕ) → prevOf (x ∷ (y ∷ (z ∷ qs))) ≡ prevOf (y ∷ (z ∷ qs))
 unfolding prevOf
 prev-skip x y z qs = refl
-
-last-is : (b : ℕ) → lastOf (b ∷ []) ≡ b
-unfolding lastOf
-last-is b = refl
-
-prev-is : (a b : ℕ) → prevOf (a ∷ (b ∷ [])) ≡ a
-unfolding prevOf
-prev-is a b = refl
 
 module _ (f : ℕ → ℕ) (os : List ℕ) (a b : ℕ) {qs : List ℕ} (q : ℕ) (rest : List ℕ) {c : ℕ} (e : qs ≡ q ∷ rest) (g : c ≡ f q) where
   last-on : LastBy f os b qs → LastBy f os c rest
@@ -108,11 +100,11 @@ module _ {v : List ℕ} {r : Trail} {h : Span} {qs : List ℕ} (f : Sofar v r h 
   unfolding trailIn trailOf
   over g e =
       let c : length (elements v 0) ≡ r .count = f .count ∙ rw g (omega arith) in
-      let l : lastOf (elements v 0) ≡ r .last = f .last ∙ rw g (last-is (r .last)) in
-      let n : lastOf (map (behind v) (elements v 0)) ≡ r .end = f .end ∙ rw g (last-is (r .end)) in
-      let m : prevOf (map (behind v) (elements v 0)) ≡ r .seam = f .seam ∙ rw g (prev-is (r .seam) (r .end)) in
-      let a : prevOf (map (hostStart v) (elements v 0)) ≡ r .host .start = f .start ∙ rw g (prev-is (r .host .start) (h .start)) in
-      let z : prevOf (map (hostEnd v) (elements v 0)) ≡ r .host .end = f .stop ∙ rw g (prev-is (r .host .end) (h .end)) in
+      let l : lastOf (elements v 0) ≡ r .last = f .last ∙ rw g (last-one (r .last)) in
+      let n : lastOf (map (behind v) (elements v 0)) ≡ r .end = f .end ∙ rw g (last-one (r .end)) in
+      let m : prevOf (map (behind v) (elements v 0)) ≡ r .seam = f .seam ∙ rw g (prev-two (r .seam) (r .end)) in
+      let a : prevOf (map (hostStart v) (elements v 0)) ≡ r .host .start = f .start ∙ rw g (prev-two (r .host .start) (h .start)) in
+      let z : prevOf (map (hostEnd v) (elements v 0)) ≡ r .host .end = f .stop ∙ rw g (prev-two (r .host .end) (h .end)) in
       rw (e, c, l, n, m, a, z)
 
 -- Rule and trail together: the walk over the objects of v, where p is behind the bracket or a comma and n objects at most are to come.

@@ -1,27 +1,17 @@
--- A byte of a text under a rule, and a string under one. Assumes nothing.
+-- A string under a rule, free text, and an array's first byte. Assumes nothing.
 use Prim.Native.Nat.{ℕ, _<_}
 use Rattle.fields.specs.Value.{isArray, isString, textOf, freely, ruled}
-use Rattle.octets.specs.Class.{all}
-use Rattle.rules.specs.Texts.{unescaped}
-use borrow.Author.Tests.{eq-eqb, ne-eqb}
+use Rattle.fields.proofs.EscapeLaws.{ruled-is}
+use Rattle.rules.proofs.EscapeLaws.{Safe}
 use lib.ListN.{length}
-use mathlib.Core.Bool.{Bool, true, false, _&&_}
+use mathlib.Core.Bool.{Bool, true, _&&_}
 use mathlib.Core.List.{List, [], _∷_}
-use mathlib.Core.Path.{_≡_, _∙_}
+use mathlib.Core.Path.{_≡_, _∙_, ap, sym}
 use native.Mathlib.Omega.{arith}
 
-pub escape : (b : ℕ) → b ≡ 92 → unescaped b ≡ false
-unfolding unescaped
-escape b e = simp (eq-eqb b 92 e)
-
-pub no-escape : (b : ℕ) → (b ≡ 92 → ⊥) → unescaped b ≡ true
-unfolding unescaped
-no-escape b e = simp (ne-eqb b 92 e)
-
--- what `under` answers of a value, its text and whether the text keeps the rule
-pub is-ruled : (rule : List ℕ → Bool) (v t : List ℕ) (k r : Bool) → t ≡ textOf v → k ≡ rule t → r ≡ (isString v && (all unescaped t && k)) → r ≡ ruled rule v
-unfolding ruled freely
-is-ruled rule v t k r e f g = g ∙ rw (f, e)
+-- what `under` answers of a value and whether its text keeps the rule
+pub is-ruled : (rule : List ℕ → Bool) → Safe rule → (v t : List ℕ) (k r : Bool) → t ≡ textOf v → k ≡ rule t → r ≡ (isString v && k) → r ≡ ruled rule v
+is-ruled rule safe v t k r e f g = g ∙ ap (λ (b : Bool). isString v && b) f ∙ sym (ruled-is rule safe v t e)
 
 -- what is answered of free text
 pub is-free : (rule : List ℕ → Bool) (v t : List ℕ) (k r : Bool) → t ≡ textOf v → k ≡ rule t → r ≡ (isString v && k) → r ≡ freely rule v

@@ -1,8 +1,8 @@
 -- The rule of Via, one object at a time. Assumes nothing.
+use Rattle.json.proofs.TurnLaws.{no-elements, some-elements}
 use Rattle.fields.specs.inner.Gathering.{Gathered}
 use Prim.Native.Nat.{ℕ, suc, _+_, _≤_}
 use Rattle.json.specs.Places.{past, bytes, elements, elementsFrom}
-use Rattle.fields.proofs.ElementLaws.{no-elements, some-elements}
 use Rattle.fields.specs.Trail.{hostSpan}
 use Rattle.fields.specs.Spans.{textSpan}
 use Rattle.fields.specs.Value.{isArray, ruled}
@@ -12,9 +12,9 @@ use Rattle.octets.specs.Class.{among, all}
 use Rattle.rules.specs.Names.{hopMembers}
 use borrow.Author.Tests.{eq-eqb, ne-eqb, lt-ltb, le-ltb}
 use lib.ListN.{length, getD}
-use mathlib.Core.Bool.{Bool, true, false, _&&_, true≢false}
+use mathlib.Core.Bool.{Bool, true, false, _&&_, and-false}
 use mathlib.Core.List.{List, [], _∷_}
-use mathlib.Core.Path.{_≡_, refl, sym, ap, _∙_}
+use mathlib.Core.Path.{_≡_, ap, _∙_}
 use native.Mathlib.Omega.{arith}
 
 -- An object of Via.
@@ -36,10 +36,6 @@ module _ (v : List ℕ) (o : ℕ) where
     pub host-found : twice ≡ 0 → textSpan v (getD at 1 0) ≡ hostSpan v o
     unfolding hostSpan hopPlaces
     host-found z = rw (← (g .all z))
-
--- where nothing is kept, nothing is said of the host
-pub none-kept : {X : Type 0} {b : Bool} → b ≡ false → b ≡ true → X
-none-kept e f = absurd (true≢false (sym f ∙ e))
 
 -- a value that is not there, and one that is
 pub not-there : (v : List ℕ) (p n : ℕ) → p ≡ 0 → false ≡ hopKeeps v p n
@@ -77,13 +73,9 @@ module _ (v : List ℕ) where
     unfolding viaFrom
     seventeenth e = rw (among-high 1 16 (k + suc (length rest)) (omega arith) (omega arith))
 
-    and-none : (t : Bool) → (t && false) ≡ false
-    and-none true = refl
-    and-none false = refl
-
     pub broken : isHop v q ≡ false → viaFrom v k (q ∷ rest) ≡ false
     unfolding viaFrom all
-    broken e = rw e (and-none (among 1 16 (k + suc (length rest))))
+    broken e = rw e (and-false (among 1 16 (k + suc (length rest))))
 
     pub further : isHop v q ≡ true → viaFrom v k (q ∷ rest) ≡ viaFrom v (k + 1) rest
     unfolding viaFrom all

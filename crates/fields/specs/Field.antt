@@ -14,7 +14,7 @@ use Rattle.rules.specs.Pieces.{wordNumber}
 use Rattle.rules.specs.Sequence.{sequenceRule}
 use Rattle.rules.specs.Status.{statusRule}
 use Rattle.rules.specs.Texts.{fireRule, callIdRule, deskRule, messageIdRule, imageRule, memoRule, languageRule}
-use Rattle.rules.specs.Words.{availabilities, messageTypeRule, notifyTypeRule, presences, callModes, callTests, truths, rescuees, services}
+use Rattle.rules.specs.Words.{availabilities, messageTypes, notifyTypes, presences, callModes, callTests, truths, rescuees, services}
 use lib.Dec.{eqb, ltb}
 use lib.ListN.{getD}
 use mathlib.Core.Bool.{Bool, false, _&&_, _||_, cond}
@@ -34,9 +34,9 @@ addressRule t = callerRule t || calleeRule t
 unfoldable pub statusField : ℕ → List ℕ → Bool
 statusField tag v = cond (eqb tag tagPong) (ruled (oneOf availabilities) v) (freely statusRule v)
 
--- Content-Type of a MESSAGE (5), or of a NOTIFY
+-- Content-Type of a MESSAGE, or of a NOTIFY
 unfoldable pub contentField : ℕ → List ℕ → Bool
-contentField method v = cond (eqb method methodMessage) (ruled messageTypeRule v) (ruled notifyTypeRule v)
+contentField method v = cond (eqb method methodMessage) (ruled (oneOf messageTypes) v) (ruled (oneOf notifyTypes) v)
 
 -- Body, by Content-Type: text a string; the image's a string that starts `https://`; presence `online` or `offline`; the location
 -- an object; refer as Status (any other number counts as refer: a Body is only asked about once field 9 has kept its rule)

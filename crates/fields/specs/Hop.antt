@@ -7,12 +7,11 @@ use Rattle.fields.specs.Known.{empty, repeated}
 use Rattle.fields.specs.Spans.{textAt}
 use Rattle.fields.specs.Via.{hopPlaces}
 use Rattle.fields.specs.declared.hops.Hop.{Hop}
-use Rattle.fields.specs.declared.hops.Members.{Members}
 use Rattle.rules.specs.Names.{hopMembers}
 use lib.Dec.{eqb}
-use lib.ListN.{getD, replicate}
-use mathlib.Core.Bool.{Bool, true, false, cond}
-use mathlib.Core.List.{List, _∷_}
+use lib.ListN.{getD}
+use mathlib.Core.Bool.{cond}
+use mathlib.Core.List.{List}
 
 -- where the two values stand; 0 for one that is missing, and for both where one of the three members stands twice
 unfoldable pub hopOf : List ℕ → Hop

@@ -1,13 +1,12 @@
 -- Which members of an object are known, and what stands under them (01 Reading, rows 7 and 8). It serves the message's own object, with the 26
 -- fields, and an object of Via, with its three members: ns are the known names, numbered from 1. Assumes nothing.
-use Prim.Native.Nat.{ℕ, _<_}
-use Rattle.json.specs.Places.{raw, behind, valueOf, members}
+use Prim.Native.Nat.{ℕ}
+use Rattle.json.specs.Places.{raw, valueOf}
 use Rattle.rules.specs.Pieces.{wordNumber}
 use lib.Dec.{eqb, ltb}
 use lib.ListN.{getD, set, replicate}
 use mathlib.Core.Bool.{Bool, _&&_, cond}
-use mathlib.Core.List.{List, [], _∷_, map}
-use mathlib.Core.Path.{_≡_}
+use mathlib.Core.List.{List, [], _∷_}
 
 -- the number of the member whose name opens at q, by the raw bytes of its name; 0 for an unknown one
 unfoldable pub numberAt : List (List ℕ) → List ℕ → ℕ → ℕ

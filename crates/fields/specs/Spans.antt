@@ -5,7 +5,7 @@ use Rattle.fields.specs.Value.{textOf}
 use Rattle.fields.specs.declared.spans.Span.{Span}
 use lib.Dec.{ltb}
 use lib.ListN.{length}
-use mathlib.Core.Bool.{Bool, true, false, cond}
+use mathlib.Core.Bool.{cond}
 use mathlib.Core.List.{List}
 
 -- the text of the value at v

@@ -1,14 +1,14 @@
 -- The trail, which is what the writer goes by in Via (01 Writing): how many objects there are, where the last begins, where the last two end, and where
 -- the host of the last but one stands. Places are within v, the bytes of Via's value; a value that breaks Via's rule has no trail. The
 -- contracts of `src/vias.rt` and of `message` cite these. Assumes nothing.
-use Prim.Native.Nat.{ℕ, _+_, _≤_}
+use Prim.Native.Nat.{ℕ, _+_}
 use Rattle.json.specs.Places.{behind, elements, lastOf, prevOf}
 use Rattle.fields.specs.Spans.{nowhere, textSpan}
 use Rattle.fields.specs.Via.{hopPlaces, viaRule}
 use Rattle.fields.specs.declared.trails.Trail.{Trail}
 use Rattle.fields.specs.declared.spans.Span.{Span}
 use lib.ListN.{length, getD}
-use mathlib.Core.Bool.{Bool, true, false, cond}
+use mathlib.Core.Bool.{cond}
 use mathlib.Core.List.{List, map}
 
 -- where the host of the object that opens at o stands

@@ -1,14 +1,13 @@
 -- A value by its own bytes: what kind it is, and what its text is (01 Reading). Assumes nothing.
 use Prim.Native.Char.{code}
 use Prim.Native.Nat.{ℕ}
-use Rattle.json.specs.Places.{raw, behind}
+use Rattle.json.specs.Places.{raw}
 use Rattle.octets.specs.Class.{all}
-use Rattle.rules.specs.Texts.{unescaped}
+use Rattle.rules.specs.Texts.{noBackslash}
 use lib.Dec.{eqb}
-use lib.ListN.{length, getD}
-use mathlib.Core.Bool.{Bool, true, false, _&&_, cond}
+use lib.ListN.{getD}
+use mathlib.Core.Bool.{Bool, _&&_}
 use mathlib.Core.List.{List}
-use mathlib.Core.Path.{_≡_}
 
 -- a value's first byte says its kind
 unfoldable pub isString : List ℕ → Bool
@@ -30,4 +29,4 @@ freely rule v = isString v && rule (textOf v)
 
 -- a string under a rule: a backslash breaks it
 unfoldable pub ruled : (List ℕ → Bool) → List ℕ → Bool
-ruled rule v = freely (λ t. all unescaped t && rule t) v
+ruled rule v = freely (λ t. all noBackslash t && rule t) v

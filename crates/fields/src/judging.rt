@@ -40,7 +40,7 @@ ghost use Rattle.fields.specs.inner.Asked.{Own};
 ghost use mathlib.Core.Path.{_≡_};
 ghost use Prim.Native.Nat.{_<_};
 ghost use Rattle.fields.specs.Field.{bodyField, contentField, statusField, stringsField};
-ghost use Rattle.fields.specs.inner.Judging.{cseqOf, judged, partyOf, statusIn};
+ghost use Rattle.fields.specs.inner.Judging.{cseqOf, judgedValue, partyOf, statusIn};
 ghost use Rattle.fields.specs.inner.Chain.{byKind, chain, kindRule, laterRule, textRule};
 ghost use Rattle.fields.specs.Via.{viaRule};
 ghost use Rattle.rules.specs.Status.{statusRule};
@@ -82,7 +82,7 @@ pub fn judge_cseq(v: &[u8]) -> CSeq
     ensures { λ r. ⌜ r ≡ cseqOf (now (v .entry)) ⌝ }
 {
     let t = own_text(v);
-    if !under(v, t, true) {
+    if !is_string(v) {
         return CSeq::Broken(0);
     }
     match rules::sequence_of(t) {
@@ -97,7 +97,7 @@ pub fn judge_party(v: &[u8]) -> Party
     ensures { λ r. ⌜ r ≡ partyOf (now (v .entry)) ⌝ }
 {
     let t = own_text(v);
-    if !under(v, t, true) {
+    if !is_string(v) {
         return Party::Broken(0);
     }
     let a = rules::address_of(t);
@@ -239,7 +239,7 @@ fn keeps_status(tag: u8, v: &[u8]) -> bool
 {
     let t = own_text(v);
     if tag == PONG {
-        return under(v, t, 0 < rules::availability(t));
+        return under(v, 0 < rules::availability(t));
     }
     and(is_string(v), is_status(t))
 }
@@ -250,9 +250,9 @@ fn keeps_content(method: u8, v: &[u8]) -> bool
 {
     let t = own_text(v);
     if method == MESSAGE {
-        return under(v, t, rules::is_message_type(t));
+        return under(v, 0 < rules::message_type(t));
     }
-    under(v, t, rules::is_notify_type(t))
+    under(v, 0 < rules::notify_type(t))
 }
 
 fn keeps_body(content: u8, v: &[u8]) -> bool
@@ -267,7 +267,7 @@ fn keeps_body(content: u8, v: &[u8]) -> bool
         return and(is_string(v), rules::is_image(t));
     }
     if content == PRESENCE_CONTENT {
-        return under(v, t, 0 < rules::presence(t));
+        return under(v, 0 < rules::presence(t));
     }
     if content == LOCATION_CONTENT {
         return is_object(v);
@@ -308,13 +308,13 @@ fn keeps_rule(k: Setting, n: usize, v: &[u8]) -> bool
         return is_kind(n, v);
     }
     let t = own_text(v);
-    under(v, t, is_text(n, t))
+    under(v, is_text(n, t))
 }
 
 // The rule of field n, from 4 on.
 pub fn judge(k: Setting, n: usize, v: &[u8]) -> Judged
     requires { ⌜ Own (now v) × ((3 < n) × (n < 27)) ⌝ }
-    ensures { λ r. ⌜ r ≡ judged k n (now (v .entry)) ⌝ }
+    ensures { λ r. ⌜ r ≡ judgedValue k n (now (v .entry)) ⌝ }
 {
     if keeps_rule(k, n, v) {
         Judged::Kept

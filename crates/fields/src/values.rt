@@ -9,8 +9,6 @@ ghost use mathlib.Core.Bool.{_&&_};
 ghost use mathlib.Core.Path.{_≡_};
 ghost use Prim.Native.Nat.{_<_};
 ghost use Rattle.json.specs.Places.{behind, bytes};
-ghost use Rattle.octets.specs.Class.{all};
-ghost use Rattle.rules.specs.Texts.{unescaped};
 ghost use Rattle.fields.specs.Spans.{textAt};
 ghost use Rattle.fields.specs.Value.{isArray, isObject, isString, textOf};
 
@@ -74,23 +72,10 @@ pub fn text_at(s: &[u8], v: usize, e: usize) -> &[u8]
     own_text(value_at(s, v, e))
 }
 
-// Whether no backslash stands in a text.
-pub fn is_unescaped(t: &[u8]) -> bool
-    ensures { λ r. ⌜ r ≡ all unescaped (now (t .entry)) ⌝ }
+// A string v under a rule: `kept` says whether its text keeps it. Nobody looks for a backslash, which breaks a text under a rule: the rules
+// have none.
+pub fn under(v: &[u8], kept: bool) -> bool
+    ensures { λ r. ⌜ r ≡ (isString (now (v .entry)) && kept) ⌝ }
 {
-    let mut i: usize = 0;
-    while i < t.len() {
-        if t[i] == b'\\' {
-            return false;
-        }
-        i += 1;
-    }
-    true
-}
-
-// A string v whose text t is under a rule: `kept` says whether t keeps it, and a backslash breaks it.
-pub fn under(v: &[u8], t: &[u8], kept: bool) -> bool
-    ensures { λ r. ⌜ r ≡ (isString (now (v .entry)) && (all unescaped (now (t .entry)) && kept)) ⌝ }
-{
-    and(is_string(v), and(is_unescaped(t), kept))
+    and(is_string(v), kept)
 }

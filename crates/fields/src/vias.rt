@@ -48,7 +48,7 @@ fn keeps_member(v: &[u8], x: Value, n: u8) -> bool
     }
     let w = value_at(v, p, x.end);
     let t = own_text(w);
-    under(w, t, is_hop_text(n, t))
+    under(w, is_hop_text(n, t))
 }
 
 // Whether an object keeps the rule, and then where its host stands; and where it ends, 0 where the walk over its members does not tell.

@@ -2,6 +2,7 @@
 -- (`grown-elements`, `less-elements`), and that taking off undoes adding (`removed-added`). The array may stand in any text (`added-framed`,
 -- `removed-framed`: editing it there is editing it by itself). Its elements are strings, arrays or objects (`Solids`), which end by themselves.
 -- Cited by `writing` for our Via entry; Forwarding puts it into a whole message. Assumes nothing.
+use Rattle.json.proofs.PlaceLaws.{last-one, prev-two}
 use mathlib.Core.Path.{_≡_, refl, sym, ap, _∙_}
 use mathlib.Core.List.{List, [], _∷_, _++_, append-assoc, map}
 use Prim.Native.Nat.{ℕ, _+_}
@@ -71,10 +72,6 @@ grow-values i [] x = refl
 grow-values i (j ∷ js) x = ap (λ (l : List (List ℕ)). i .v ∷ l) (grow-values j js x)
 
 -- where they end
-last-one : (x : ℕ) → lastOf (x ∷ []) ≡ x
-unfolding lastOf
-last-one x = refl
-
 last-skip : (x b : ℕ) (j : Item) (js : List Item) → lastOf (x ∷ stopsAt b j js) ≡ lastOf (stopsAt b j js)
 unfolding lastOf stopsAt
 last-skip x b j [] = refl
@@ -141,11 +138,6 @@ module _ (d : ℕ) (p : List ℕ) (i : Item) (is : List Item) (t : List ℕ) (h 
 module _ (d : ℕ) (p : List ℕ) (i : Item) (is : List Item) (t : List ℕ) (h : Solids d i is) (x : List ℕ) (g : Piece d x) where
   grown-stops : stopsOf (p ++ (91 ∷ items (grow₁ i is) (grow i is x) t)) (length p) ≡ stopsAt (length p + 1) i is ++ ((length p + 1 + length (front i is) + 1 + length x) ∷ [])
   grown-stops = stops-are d p (grow₁ i is) (grow i is x) t (grow-solid d i is x h g) ∙ stops-grow (length p + 1) i is x
-
-  -- the elements are the old ones and the new one
-  pub grown-elements : map (bytes (added (p ++ (91 ∷ items i is t)) (length p) x)) (elements (added (p ++ (91 ∷ items i is t)) (length p) x) (length p)) ≡ values (i ∷ is)
-      ++ (x ∷ [])
-  grown-elements = rw (added-is d p i is t h x) (array-elements d p (grow₁ i is) (grow i is x) t (grow-solid d i is x h g) ∙ grow-values i is x)
 
   -- and taking it off restores the text
   pub removed-added : removed (added (p ++ (91 ∷ items i is t)) (length p) x) (length p) ≡ p ++ (91 ∷ items i is t)
@@ -222,10 +214,6 @@ unfolding prevOf stopsAt
 prev-skip x b j k [] = refl
 prev-skip x b j k (l ∷ ls) = refl
 
-prev-two : (x y : ℕ) → prevOf (x ∷ (y ∷ [])) ≡ x
-unfolding prevOf
-prev-two x y = refl
-
 stops-prior : (a : ℕ) (i j : Item) (js : List Item) → prevOf (stopsAt a i (j ∷ js)) ≡ a + length (prior i j js)
 unfolding stopsAt prior
 stops-prior a i j [] = prev-two _ _ ∙ simp length-append (omega arith)
@@ -246,8 +234,3 @@ module _ (d : ℕ) (p : List ℕ) (i j : Item) (js : List Item) (t : List ℕ) (
       ∙ ap (λ (x : List ℕ). (p ++ (91 ∷ x)) ++ (back i (j ∷ js) ++ (93 ∷ t))) (front-gap i j js) ∙ simp append-assoc in
       ap (λ (r : List ℕ). take (prevOf (stopsOf s (length p))) r ++ drop (lastOf (stopsOf s (length p))) r) c ∙ take-out f (gap i j js) (back i (j ∷ js) ++ (93 ∷ t)) _ _ e₂ e₁
       ∙ simp (append-assoc, items-shrink i j js t)
-
-  -- the elements left are the old ones but the last
-  pub less-elements : map (bytes (removed (p ++ (91 ∷ items i (j ∷ js) t)) (length p))) (elements (removed (p ++ (91 ∷ items i (j ∷ js) t)) (length p)) (length p)) ≡ butLast
-      (values (i ∷ j ∷ js))
-  less-elements = rw removed-is (array-elements d p (shrink₁ i j js) (shrink i j js) t (shrink-solid d i j js h) ∙ shrink-values i j js)

@@ -1,18 +1,17 @@
 -- A compact object of given names and values, written into any text, has exactly those members with exactly those bytes (`compact-members`); it is a
--- piece (`compact-piece`), so it ends with its own brace, and a text that is an array of a tag and such an object is accepted (`tagged-accepted`), with
--- those two elements (`tagged-elements`) and, in the object, those members (`tagged-members`). Cited by `writing` for a reply and for our Via entry.
+-- piece (`compact-piece`), so it ends with its own brace, and a text that is an array of a tag and such an object is accepted (`tagged-accepted`).
+-- Cited by `writing` for a reply and for our Via entry.
 -- Assumes nothing.
 use mathlib.Core.Path.{_≡_, refl, sym, ap, subst, _∙_}
 use mathlib.Core.Bool.{true}
 use mathlib.Core.List.{List, [], _∷_, _++_, append-assoc, map}
-use Prim.Native.Nat.{ℕ, suc, _+_}
+use Prim.Native.Nat.{ℕ, _+_}
 use native.Mathlib.Omega.{arith}
-use lib.ListN.{length, drop, length-append}
-use lib.Seq.{drop-append-seam}
+use lib.ListN.{length, drop}
 use Rattle.json.specs.inner.Machine.{text, answer, value, after}
-use Rattle.json.specs.Places.{members, elements, spell, bytes}
+use Rattle.json.specs.Places.{members, spell}
 use Rattle.json.specs.declared.Walked.the-variants.{End}
-use Rattle.json.proofs.Listing.{Field, entry, body, Fine, Fines, Item, item, items, Goods, readAll, object-read, array-read, array-starts, startsAt}
+use Rattle.json.proofs.Listing.{Field, entry, body, Fine, Fines, Item, item, items, Goods, readAll, object-read}
 use Rattle.frame.proofs.Standing.{Reach, Val, Piece, piece-val}
 use Rattle.frame.proofs.Written.{Named, plainly, plain-name, inQuotes, text-piece, body-append, object-piece, array-goes, whole}
 
@@ -84,10 +83,6 @@ module _ (d : ℕ) (p : Pair) (ps : List Pair) (h : Sounds d p ps) where
 unfoldable pub tagged : List ℕ → Pair → List Pair → List ℕ
 tagged tag p ps = 91 ∷ (34 ∷ (tag ++ (34 ∷ (44 ∷ compact p ps (93 ∷ [])))))
 
--- where its object stands
-abbrev pub objectAt : List ℕ → ℕ
-objectAt tag = length tag + 4
-
 module _ (tag : List ℕ) (p : Pair) (ps : List Pair) (ht : plainly tag ≡ true) (h : Sounds 6 p ps) where
   tagItem : Item
   tagItem = record { w = []; v = inQuotes tag; u = [] }
@@ -111,26 +106,3 @@ module _ (tag : List ℕ) (p : Pair) (ps : List Pair) (ht : plainly tag ≡ true
   pub tagged-accepted : answer (tagged tag p ps) ≡ End (length (tagged tag p ps))
   tagged-accepted = whole (tagged tag p ps)
       (subst (λ (s : List ℕ). Reach s value (text 8) [] after (text 8)) (sym tagged-items) (array-goes 7 tagItem (objectItem ∷ []) [] (text 8) both-good (omega arith)))
-
-  -- its elements stand behind the bracket and at the object's place, and are the tag and the object
-  pub tagged-places : elements (tagged tag p ps) 0 ≡ 1 ∷ objectAt tag ∷ []
-  unfolding tagItem objectItem startsAt
-  tagged-places =
-      let z : 0 + 1 + 0 + suc (length (tag ++ (34 ∷ []))) + 0 + 1 + 0 ≡ length tag + 4 = simp length-append (omega arith) in
-      array-starts (Val 7) (λ v r x. x .sized) (tagged tag p ps) 0 tagItem (objectItem ∷ []) [] both-good tagged-items ∙ ap (λ (n : ℕ). 1 ∷ (n ∷ [])) z
-
-  pub tagged-elements : map (bytes (tagged tag p ps)) (elements (tagged tag p ps) 0) ≡ inQuotes tag ∷ compact p ps [] ∷ []
-  unfolding tagItem objectItem
-  tagged-elements = array-read (Val 7) (λ v r x. x .sized) (tagged tag p ps) 0 tagItem (objectItem ∷ []) [] both-good tagged-items
-
-  object-there : drop (objectAt tag) (tagged tag p ps) ≡ compact p ps (93 ∷ [])
-  unfolding tagged
-  object-there =
-      let e : tagged tag p ps ≡ (91 ∷ (34 ∷ (tag ++ (34 ∷ (44 ∷ []))))) ++ compact p ps (93 ∷ []) = simp append-assoc in
-      let z : length tag + 4 ≡ length (91 ∷ (34 ∷ (tag ++ (34 ∷ (44 ∷ []))))) = simp length-append (omega arith) in
-      ap (λ (n : ℕ). drop n (tagged tag p ps)) z ∙ ap (drop (length (91 ∷ (34 ∷ (tag ++ (34 ∷ (44 ∷ []))))))) e
-      ∙ drop-append-seam (91 ∷ (34 ∷ (tag ++ (34 ∷ (44 ∷ []))))) (compact p ps (93 ∷ []))
-
-  -- and the object's members those written
-  pub tagged-members : map (spell (tagged tag p ps)) (members (tagged tag p ps) (objectAt tag)) ≡ map told (p ∷ ps)
-  tagged-members = compact-members 6 p ps h (tagged tag p ps) (93 ∷ []) (objectAt tag) object-there

@@ -14,7 +14,7 @@ use lib.Dec.{eqb}
 use Rattle.json.specs.inner.Machine.{Stack, alone, levels, Mode, value, after, Next, live, step, ends, over, takes, walk, from, one}
 use Rattle.json.specs.Places.{behind, bytes, isWs}
 use Rattle.json.specs.declared.Walked.the-variants.{End}
-use Rattle.json.proofs.Listing.{Sized, Starts, behind-is, bytes-is, at-skip}
+use Rattle.json.proofs.Listing.{Sized, Starts, behind-is, bytes-is}
 use Rattle.json.proofs.OwnBytes.{run, walk-on, run-around, split}
 use Rattle.json.proofs.ScanLaws.{Opener, Opened, opened-whole}
 use Rattle.json.proofs.EndLaws.{walk-over, opened-at}
@@ -69,27 +69,13 @@ piece-run d v k p l = run-around d v k (p .runs) l
 pub piece-val : (d : ℕ) (v t : List ℕ) → Piece d v → Val d v t
 piece-val d v t p = record { sized = piece-sized d v t p; goes = λ k l. ran v t value k (piece-run d v k p l) }
 
--- with more levels left it is a piece too
-pub piece-more : (d d′ : ℕ) (v : List ℕ) → Piece d v → d ≤ d′ → Piece d′ v
-piece-more d d′ v p l = record { opened = p .opened; runs = piece-run d v (alone d′) p l }
-
 -- At any place of any text.
 module _ (d : ℕ) (v t s : List ℕ) (a : ℕ) (p : Piece d v) (e : drop a s ≡ v ++ t) where
-  pub piece-from : (k : Stack) → d ≤ levels k → from s a value k ≡ from s (a + length v) after k
-  unfolding from
-  piece-from k l =
-      let q : drop (a + length v) s ≡ t = at-skip v t s a e in
-      ap (λ (l : List ℕ). walk l value k a) e ∙ walk-on v t a value k (piece-run d v k p l) ∙ ap (λ (l : List ℕ). walk l after k (a + length v)) (sym q)
-
   pub piece-behind : behind s a ≡ a + length v
   piece-behind = behind-is s v t a (piece-sized d v t p) e
 
   pub piece-bytes : bytes s a ≡ v
   piece-bytes = bytes-is s v t a (piece-sized d v t p) e
-
-pub piece-one : (d d′ : ℕ) (v t s : List ℕ) (a : ℕ) → Piece d v → d ≤ d′ → drop a s ≡ v ++ t → one d′ s a ≡ End (a + length v)
-unfolding from
-piece-one d d′ v t s a p l e = piece-from d v t s a p e (alone d′) l ∙ walk-over (drop (a + length v) s) d′ (a + length v)
 
 -- Back: bytes that begin with a string, an array or an object that ends.
 pub record Cut (d : ℕ) (bs : List ℕ) (i e : ℕ) : Type 0 where

@@ -12,8 +12,8 @@ unfoldable pub digitOf : ℕ → ℕ
 digitOf n = cond (ltb n 10) (code "0" + n) (code "a" - 10 + n)
 
 -- 0 to 9 and a to f
-unfoldable pub isHexDigit : ℕ → Bool
-isHexDigit b = among (code "0") (code "9") b || among (code "a") (code "f") b
+unfoldable pub isLowerHex : ℕ → Bool
+isLowerHex b = among (code "0") (code "9") b || among (code "a") (code "f") b
 
 -- what a digit stands for; 0 for any other byte
 unfoldable pub worthOf : ℕ → ℕ
@@ -21,7 +21,7 @@ worthOf b = cond (among (code "0") (code "9") b) (b - code "0") (cond (among (co
 
 -- digits alone, two for each byte
 unfoldable pub isHex : List ℕ → Bool
-isHex s = eqb (length s % 2) 0 && all isHexDigit s
+isHex s = eqb (length s % 2) 0 && all isLowerHex s
 
 -- the bytes that pairs of digits stand for
 unfoldable pub decoded : List ℕ → List ℕ

@@ -6,14 +6,14 @@ use octets::or;
 ghost use mathlib.Core.Path.{_≡_};
 ghost use Prim.Native.Nat.{_*_, _/_, _<_, _≤_};
 ghost use lib.ListN.{length};
-ghost use Rattle.hex.specs.Digits.{decoded, digitOf, encoded, isHex, isHexDigit, worthOf};
+ghost use Rattle.hex.specs.Digits.{decoded, digitOf, encoded, isHex, isLowerHex, worthOf};
 ghost use Rattle.octets.specs.Splice.{written};
 
 // The digit a is ten.
 const TEN_BELOW_A: u8 = b'a' - 10;
 
 fn is_hex_digit(b: u8) -> bool
-    ensures { λ r. ⌜ r ≡ isHexDigit b ⌝ }
+    ensures { λ r. ⌜ r ≡ isLowerHex b ⌝ }
 {
     or(among(b'0', b'9', b), among(b'a', b'f', b))
 }

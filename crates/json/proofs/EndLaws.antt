@@ -42,6 +42,9 @@ unmark b l h₁ h₂ h₃ = simp (
   ne-eqb b 125 h₃,
 )
 
+pub letter : (b : ℕ) → 97 ≤ b → b ≤ 122 → isMark b ≡ false
+letter b l u = unmark b (omega arith) (omega arith) (omega arith) (omega arith)
+
 abbrev Scalar : Mode → Type 0
 Scalar value = ⊥
 Scalar first = ⊥
@@ -128,9 +131,6 @@ module _ (d b : ℕ) where
   plain-step exp s = or-else (isDigit b) (at-digit power tt) (λ _. or-else (isSign b) plain-sign (λ _. refused))
   plain-step sign s = or-else (isDigit b) (at-digit power tt) (λ _. refused)
   plain-step power s = or-else (isDigit b) (at-digit power tt) (λ _. plain-ends)
-
-  letter : (c : ℕ) → 97 ≤ c → c ≤ 122 → isMark c ≡ false
-  letter c l u = unmark c (omega arith) (omega arith) (omega arith) (omega arith)
 
   plain-begin : eqb b 34 ≡ false → eqb b 91 ≡ false → eqb b 123 ≡ false → Plainly d b (begin (alone d) b)
   unfolding begin due

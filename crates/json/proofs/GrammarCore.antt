@@ -17,7 +17,7 @@ use Rattle.json.proofs.PlaceLaws.{left-none}
 use Rattle.json.proofs.StepLaws.{not-ws}
 use Rattle.json.proofs.Listing.{Ink, Blank, Starts, Sized, Label, starts-ink, ws-34, ws-91, ws-93, ws-123, ws-125}
 use Rattle.json.proofs.ScanLaws.{left-closes}
-use Rattle.json.proofs.EndLaws.{Unmarked, Marked, unmark, plain-size}
+use Rattle.json.proofs.EndLaws.{Unmarked, Marked, letter, unmark, plain-size}
 use Rattle.json.proofs.GrammarScan.{Passes, p-ws, p-chars, p-quote, p-values, p-members, p-end-93, p-end-125, p-value, _and-then_}
 
 -- White space that is derived is blank.
@@ -218,9 +218,6 @@ scalar-core d v f u x =
 
 literal-core : (d b : ℕ) (t : List ℕ) → 34 < b → (b ≡ 91 → ⊥) → (b ≡ 93 → ⊥) → (b ≡ 123 → ⊥) → Unmarked (b ∷ t) → (v : List ℕ) → Bytes (b ∷ t) v → value d v → Core d v
 literal-core d b t l h₁ h₂ h₃ u v it x = scalar-core d (b ∷ t) (front b t l h₁ h₂ h₃) u x
-
-letter : (b : ℕ) → 97 ≤ b → b ≤ 122 → isMark b ≡ false
-letter b l u = unmark b (omega arith) (omega arith) (omega arith) (omega arith)
 
 false-core : (d : ℕ) (v : List ℕ) → False v → value d v → Core d v
 false-core d v x y = literal-core d 0x66 _ (omega arith) (omega arith) (omega arith) (omega arith) (

@@ -1,12 +1,12 @@
 -- For readers that go from place to place: white space before the machine's next byte, what a byte behind a value says of its end; and what a string or a
 -- member that passes, or does not, says of the machine's answer, whatever stands around. Assumes nothing.
+use Rattle.json.proofs.TurnLaws.{there}
 use Prim.Native.Nat.{ℕ, suc, _+_, _≤_, _<_}
 use Rattle.json.proofs.AroundLaws.{string-around, value-around, one-ends}
 use Rattle.json.proofs.EndLaws.{ws-mark, ends-at, ends-open}
 use Rattle.json.proofs.MoveLaws.{moves, short-arr, short-obj, lone, onward-alone}
 use Rattle.json.proofs.PlaceLaws.{past-low, past-inner, past-stop, next-is}
 use Rattle.json.proofs.StepLaws.{ws-value, ws-colon, ws-obj, name-quote, colon-hit, colon-miss, value-quote, obj-miss}
-use Rattle.json.proofs.TurnLaws.{inside}
 use Rattle.json.proofs.Walked.{the-type}
 use Rattle.json.specs.inner.Machine.{Stack, alone, arr, obj, Role, label, plain, Mode, value, name, colon, after, str, live, dead, Next, closed, levels}
 use Rattle.json.specs.inner.Machine.{step, takes, walk, from, one, onward, place, Leaf, Nest, Pass}
@@ -284,12 +284,12 @@ module _ (left : ℕ) (s : List ℕ) (q : ℕ) (h : q < length s) (quote : getD 
 
     module _ (v w : ℕ) (colon-there : getD s c 0 ≡ 58) (at-v : v ≡ past s (c + 1)) (at-w : w ≡ passed left s v) where
       v-high : v ≤ length s
-      v-high = omega (arith, at-v, past-inner s (c + 1) (let z = inside s c 57 colon-there in omega arith))
+      v-high = omega (arith, at-v, past-inner s (c + 1) (let z = there s c 57 colon-there in omega arith))
 
       to-value : (k : Stack) → levels (obj k) ≡ left → from s q name (obj k) ≡ onward s after (obj k) (one left s v)
       to-value k d =
           to-colon k
-          ∙ moves s c colon (obj k) (live value (obj k)) (inside s c 57 colon-there) (colon-hit (obj k) (getD s c 0) colon-there)
+          ∙ moves s c colon (obj k) (live value (obj k)) (there s c 57 colon-there) (colon-hit (obj k) (getD s c 0) colon-there)
           ∙ past-same value (obj k) (ws-value (obj k)) s (c + 1)
           ∙ ap (λ (i : ℕ). from s i value (obj k)) (sym at-v)
           ∙ value-around s left (obj k) d v
@@ -323,14 +323,14 @@ module _ (left : ℕ) (s : List ℕ) (q : ℕ) (h : q < length s) (quote : getD 
           nexts = next-by (eqb (getD s t 0) 44) (eqb (getD s t 0) 125) (getD s t 0) refl refl follow
 
           t-inside : (getD s t 0 ≡ 44) ⊎ (getD s t 0 ≡ 125) → t < length s
-          t-inside (inl f) = inside s t 43 f
-          t-inside (inr f) = inside s t 124 f
+          t-inside (inl f) = there s t 43 f
+          t-inside (inr f) = there s t 124 f
 
           value-at : valueOf s q ≡ v
           unfolding valueOf
           value-at =
               ap (λ (x : ℕ). past s (next s (past s x))) (sym (name-found .is))
-              ∙ ap (λ (x : ℕ). past s (next s x)) (sym at-c) ∙ ap (past s) (next-is s c (inside s c 57 colon-there)) ∙ sym at-v
+              ∙ ap (λ (x : ℕ). past s (next s x)) (sym at-c) ∙ ap (past s) (next-is s c (there s c 57 colon-there)) ∙ sym at-v
 
           value-ends : behind s v ≡ w
           value-ends =

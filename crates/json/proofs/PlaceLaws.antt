@@ -11,7 +11,7 @@ use lib.Dec.{eqb, leb, ltb}
 use borrow.Author.Tests.{eq-eqb, ne-eqb, lt-ltb, le-ltb, eqb-false}
 use Rattle.json.specs.inner.Machine.{isPlain}
 use Rattle.json.specs.Places.{part, spaces, past, isOpen, isShut, isMark, Inside, outside, quoted, escaped, turn, depth, left, unmarked, size, behind}
-use Rattle.json.specs.Places.{closing, raw, next, valueOf, follows, isWs}
+use Rattle.json.specs.Places.{closing, raw, next, valueOf, follows, isWs, lastOf, prevOf}
 use Rattle.json.specs.inner.Landing.{Lands}
 
 -- No count goes past the bytes.
@@ -97,6 +97,15 @@ module _ (s : List ℕ) (i : ℕ) where
   pub past-end : length s ≤ i → past s i ≡ i
   unfolding past spaces
   past-end h = rw (drop-of-length-le s h) (omega arith)
+
+-- The last of a list, and the last but one.
+pub last-one : (x : ℕ) → lastOf (x ∷ []) ≡ x
+unfolding lastOf
+last-one x = refl
+
+pub prev-two : (x y : ℕ) → prevOf (x ∷ (y ∷ [])) ≡ x
+unfolding prevOf
+prev-two x y = refl
 
 -- Strings.
 pub left-none : (l : List ℕ) → left l outside 0 ≡ 0

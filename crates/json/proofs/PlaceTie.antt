@@ -1,6 +1,6 @@
 -- The places are the grammar's. An array or an object that RFC 7159 derives, standing in any text, has as elements or members listed those of its
--- derivation, in order and with their own bytes (`array-tie`, `object-tie`); each is derived by itself, so that this holds inside it too. A value ends
--- where the grammar says (`value-tie`), and an accepted text's own value begins past its white space (`text-tie`, `accepted-tie`). Assumes nothing.
+-- derivation, in order and with their own bytes (`array-tie`, `object-tie`); each is derived by itself, so that this holds inside it too. An
+-- accepted text's own value begins past its white space (`text-tie`, `accepted-tie`). Assumes nothing.
 use mathlib.Core.Path.{_≡_, refl, sym, ap, subst, _∙_}
 use mathlib.Core.Bool.{true}
 use mathlib.Core.List.{List, [], _∷_, _++_, append-assoc, append-nil, map}
@@ -14,7 +14,7 @@ use Rattle.json.specs.Verdict.{Verdict}
 use Rattle.json.specs.declared.Walked.the-variants.{End}
 use Rattle.json.specs.inner.Derived.{valuesIn, elementsIn, memberIn, pairsIn, membersIn, bare, bared}
 use Rattle.json.proofs.Listing.{Blank, Sized, Label, Field, entry, body, Fine, Fines, Item, item, items, Good, Goods, readAll, values, past-is, past-at}
-use Rattle.json.proofs.Listing.{bytes-is, array-read, array-none, object-read, object-none, starts-ink, ws-91, ws-123}
+use Rattle.json.proofs.Listing.{array-read, array-none, object-read, object-none, starts-ink, ws-91, ws-123}
 use Rattle.json.proofs.EndLaws.{Marked, ws-mark}
 use Rattle.json.proofs.GrammarCore.{blank-of, blank-append, Core, core-bare, core-of, label-of}
 
@@ -218,19 +218,6 @@ object-tie d s v t a e (both (both {s = w} h (both {t = w₂} it h₂)) (both (p
           ∙ k .reads;
       each = k .each;
     }
-
--- A value ends where the grammar says, if a mark or nothing follows it.
-pub record ValueTie (d : ℕ) (s : List ℕ) (a : ℕ) (v : List ℕ) : Type 0 where
-  pub is : bytes s (past s a) ≡ bare v
-  pub derived : value d (bare v)
-
-pub value-tie : (d : ℕ) (s v t : List ℕ) (a : ℕ) → drop a s ≡ v ++ t → Marked t → value d v → ValueTie d s a v
-value-tie d s v t a e m x =
-    let k = core-of d v x in
-    let q : drop a s ≡ k .w ++ (k .c ++ (k .u ++ t)) = e ∙ ap (λ (l : List ℕ). l ++ t) (k .is) ∙ simp append-assoc in
-    let z = k .sized (k .u ++ t) (marked-by (k .u) t (k .behind) m) in
-    let p = past-at s (k .w) _ a (k .before) (starts-ink (k .c) (k .u ++ t) (z .starts)) q in
-    record { is = bytes-is s (k .c) (k .u ++ t) (past s a) z p ∙ sym (core-bare k); derived = subst (value d) (sym (core-bare k)) (k .derives) }
 
 -- A whole text: its value stands at a, and past the white space there is past the text's own.
 pub record TextTie (d : ℕ) (s : List ℕ) : Type 0 where

@@ -9,12 +9,12 @@ use Rattle.call.specs.declared.records.Call.{Call}
 use Rattle.keeper.proofs.FactLaws.{sound-fields, fit-fields}
 use Rattle.keeper.specs.Facts.{fieldsFrom}
 use Rattle.keeper.specs.Keeping.{tableAfter, recordFor, taken, takenAt}
-use Rattle.keeper.specs.inner.Known.{Named}
+use Rattle.message.specs.inner.Named.{Named}
 use Rattle.message.specs.Parties.{callIdOf, userOf, callerFireOf, calleeFireOf}
 use Rattle.message.specs.declared.facts.Message.{Message}
 use Rattle.table.proofs.KeepLaws.{Ruled, store-keeps, open-keeps, release-keeps}
 use Rattle.table.proofs.LookupLaws.{free-found, not-found}
-use Rattle.table.specs.Image.{size, recordAt}
+use Rattle.table.specs.Image.{recordCount, recordAt}
 use Rattle.table.specs.Record.{isFree}
 use Rattle.table.specs.Search.{placeNamed, freePlace}
 use Rattle.table.specs.WellFormed.{wellFormed}
@@ -28,7 +28,7 @@ ruled : (s : List ℕ) (m : Message) → Named s m → Ruled (callIdOf s m) (use
 ruled s m n = record { call-id = n .call-id; user = n .user; caller-fire = n .caller-fire; callee-fire = n .callee-fire }
 
 module _ (t : List ℕ) (w : wellFormed t ≡ true) where
-  pub kept-well : (k : ℕ) → k < size t → isFree (recordAt t k) ≡ false → (after : After) → SoundAfter after → wellFormed (tableAfter t k after) ≡ true
+  pub kept-well : (k : ℕ) → k < recordCount t → isFree (recordAt t k) ≡ false → (after : After) → SoundAfter after → wellFormed (tableAfter t k after) ≡ true
   kept-well k h used Same s = w
   kept-well k h used (Set c) s = store-keeps t k w h (fieldsFrom c) used (sound-fields c s) (fit-fields c s)
   kept-well k h used Free s = release-keeps t k w h

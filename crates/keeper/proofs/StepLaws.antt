@@ -1,5 +1,5 @@
 -- The ways out of a step, each as a law over what its calls answered. Assumes nothing.
-use Prim.Native.Nat.{ℕ, _≤_, _<_}
+use Prim.Native.Nat.{ℕ, _<_}
 use Rattle.call.proofs.Soundness.{decided-sound}
 use Rattle.call.specs.Rule.{decided}
 use Rattle.call.specs.inner.Sound.{Numbered, SoundAfter}
@@ -14,17 +14,14 @@ use Rattle.keeper.proofs.KeepingLaws.{kept-well, taken-well}
 use Rattle.keeper.specs.Facts.{callOf, fieldsFrom, eventOf}
 use Rattle.keeper.specs.inner.Known.{Fitting}
 use Rattle.keeper.specs.Keeping.{Step, tableAfter, callAt, roomFor, recordFor, takenAt, taken, agreesAt, askedAt, tickedAt}
-use Rattle.keeper.specs.inner.Known.{Named}
-use Rattle.message.proofs.Accepted.{facts}
+use Rattle.message.specs.inner.Named.{Named}
 use Rattle.message.specs.Parties.{callIdOf, userOf, callerFireOf, calleeFireOf}
-use Rattle.message.specs.Reading.{reading}
 use Rattle.message.specs.declared.facts.Message.{Message}
-use Rattle.message.specs.declared.reading.Reading.the-variants.{Read}
 use Rattle.octets.proofs.TestLaws.{and-parts}
 use Rattle.table.proofs.KeepLaws.{fields-of}
 use Rattle.table.proofs.LookupLaws.{found}
-use Rattle.table.specs.Image.{size, recordAt, withRecord}
-use Rattle.table.specs.Record.{fieldsOf, newRecord, sameParties, isFree, isNamed}
+use Rattle.table.specs.Image.{recordCount, recordAt, withRecord}
+use Rattle.table.specs.Record.{recordFields, newRecord, sameParties, isFree, isNamed}
 use Rattle.table.specs.Search.{placeNamed, freePlace}
 use Rattle.table.specs.WellFormed.{wellFormed}
 use Rattle.table.specs.declared.numbers.Fields.{Fields}
@@ -50,9 +47,9 @@ taken-found t s m a c place p q r v w z = rw (place, sym p, sym q, sym r, sym v,
 
 -- an event on a call's record
 module _ (t id : List ℕ) (now : ℕ) (e : Event) {t′ : List ℕ} {k : ℕ} {f : Fields} {c : Call} {o : Outcome} (w : wellFormed t ≡ true) (place : placeNamed id t ≡ At k)
-    (is-f : f ≡ fieldsOf (recordAt t k)) (is-c : c ≡ callOf f) (fit : Fitting f) (is-o : o ≡ decided (Is c) e now)
+    (is-f : f ≡ recordFields (recordAt t k)) (is-c : c ≡ callOf f) (fit : Fitting f) (is-o : o ≡ decided (Is c) e now)
     (is-t : t′ ≡ tableAfter t k (o .after)) (n : Numbered e) (clock : now < 18446744073709551616) where
-  inside : k < size t
+  inside : k < recordCount t
   inside = found id t k place .inside
 
   pub settled-is : o ≡ decided (Is (callAt t k)) e now
@@ -61,7 +58,7 @@ module _ (t id : List ℕ) (now : ℕ) (e : Event) {t′ : List ℕ} {k : ℕ} {
   sound : SoundAfter (decided (Is (callAt t k)) e now .after)
   sound =
       decided-sound (Is (callAt t k)) e now
-      (sound-call (fieldsOf (recordAt t k)) (fields-of t w k inside (named-used id (recordAt t k) (found id t k place .passes))) (rw is-f at fit)) n clock
+      (sound-call (recordFields (recordAt t k)) (fields-of t w k inside (named-used id (recordAt t k) (found id t k place .passes))) (rw is-f at fit)) n clock
 
   pub settled-well : wellFormed t′ ≡ true
   settled-well =
@@ -70,7 +67,7 @@ module _ (t id : List ℕ) (now : ℕ) (e : Event) {t′ : List ℕ} {k : ℕ} {
 -- a request or a response on its call's record
 pub asked-found : (t s : List ℕ) (m : Message) (now : ℕ) {t′ id u x y : List ℕ} {k : ℕ} {agrees : Bool} {e : Event} {f : Fields} {c : Call} {o : Outcome} → wellFormed t ≡ true
     → Named s m → id ≡ callIdOf s m → placeNamed id t ≡ At k → u ≡ userOf s m → x ≡ callerFireOf s m → y ≡ calleeFireOf s m
-    → agrees ≡ sameParties u x y (recordAt t k) → f ≡ fieldsOf (recordAt t k) → c ≡ callOf f → Fitting f → e ≡ eventOf m agrees
+    → agrees ≡ sameParties u x y (recordAt t k) → f ≡ recordFields (recordAt t k) → c ≡ callOf f → Fitting f → e ≡ eventOf m agrees
     → o ≡ decided (Is c) e now → t′ ≡ tableAfter t k (o .after) → now < 18446744073709551616
     → (o .answer ≡ askedAt t now s m (placeNamed (callIdOf s m) t) .answer) × (t′ ≡ askedAt t now s m (placeNamed (callIdOf s m) t) .table)
     × (wellFormed t′ ≡ true)
@@ -79,8 +76,8 @@ asked-found t s m now {t′} {id} {u} {x} {y} {k} {agrees} {e} {f} {c} {o} w n i
     let v : e ≡ eventOf m (agreesAt t s m k) = rw (sym a) is-e in
     let p : placeNamed (callIdOf s m) t ≡ At k = rw (sym is-id) place in
     let i : o ≡ decided (Is (callAt t k)) (eventOf m (agreesAt t s m k)) now = rw (sym v)
-    (settled-is t id now e w place is-f is-c fit is-o is-t (rw is-e (numbered m agrees (n .low) (n .high))) clock) in
-    let z : wellFormed t′ ≡ true = settled-well t id now e w place is-f is-c fit is-o is-t (rw is-e (numbered m agrees (n .low) (n .high))) clock in
+    (settled-is t id now e w place is-f is-c fit is-o is-t (rw is-e (numbered m agrees (n .number-low) (n .number-high))) clock) in
+    let z : wellFormed t′ ≡ true = settled-well t id now e w place is-f is-c fit is-o is-t (rw is-e (numbered m agrees (n .number-low) (n .number-high))) clock in
     rw p (ap (λ (o : Outcome). o .answer) i, is-t ∙ ap (λ (o : Outcome). tableAfter t k (o .after)) i, z)
 
 -- a request or a response that names no call on record
@@ -94,21 +91,15 @@ asked-new t s m now {t′} {id} {e} {o} {r} w n is-id place is-e is-o is clock =
     let i : o ≡ decided Unheld (eventOf m false) now = rw (sym is-e) is-o in
     let f : Outcome → Step = λ (o : Outcome). taken t s m (o .answer) (o .after) in
     let z : wellFormed (taken t s m (o .answer) (o .after) .table) ≡ true = taken-well t w s m n p (o .answer) (o .after)
-    (rw i (decided-sound Unheld (eventOf m false) now tt (numbered m false (n .low) (n .high)) clock)) in
+    (rw i (decided-sound Unheld (eventOf m false) now tt (numbered m false (n .number-low) (n .number-high)) clock)) in
     rw p (is .0 ∙ ap (λ (o : Outcome). f o .answer) i, is .1 ∙ ap (λ (o : Outcome). f o .table) i, rw (is .1) z)
 
 -- a tick on its call's record
 pub ticked-found : (t id : List ℕ) (now : ℕ) {t′ : List ℕ} {k : ℕ} {f : Fields} {c : Call} {o : Outcome} → wellFormed t ≡ true
-    → placeNamed id t ≡ At k → f ≡ fieldsOf (recordAt t k) → c ≡ callOf f → Fitting f
+    → placeNamed id t ≡ At k → f ≡ recordFields (recordAt t k) → c ≡ callOf f → Fitting f
     → o ≡ decided (Is c) Tick now → t′ ≡ tableAfter t k (o .after) → now < 18446744073709551616
     → (o .answer ≡ tickedAt t now (placeNamed id t) .answer) × (t′ ≡ tickedAt t now (placeNamed id t) .table) × (wellFormed t′ ≡ true)
 ticked-found t id now {t′} {k} {f} {c} {o} w place is-f is-c fit is-o is-t clock =
     let i : o ≡ decided (Is (callAt t k)) Tick now = settled-is t id now Tick w place is-f is-c fit is-o is-t tt clock in
     let z : wellFormed t′ ≡ true = settled-well t id now Tick w place is-f is-c fit is-o is-t tt clock in
     rw place (ap (λ (o : Outcome). o .answer) i, is-t ∙ ap (λ (o : Outcome). tableAfter t k (o .after)) i, z)
-
--- what the reading of a request or a response sees to
-pub read-named : (s : List ℕ) (m : Message) → reading s ≡ Read m → m .tag ≤ 2 → Named s m
-read-named s m e h =
-    let n = facts s m e .named h in
-    record { call-id = n .call-id; user = n .user; caller-fire = n .caller-fire; callee-fire = n .callee-fire; low = n .number-low; high = n .number-high }

@@ -22,7 +22,7 @@ use Rattle.message.specs.declared.reading.Reading.the-variants as readings
 use Rattle.message.specs.declared.reading.Reading.{Reading}
 use Rattle.rules.specs.Texts.{callIdRule}
 use Rattle.table.specs.Image.{recordAt, withRecord, freeRecord}
-use Rattle.table.specs.Record.{fieldsOf, withFields, newRecord, sameParties}
+use Rattle.table.specs.Record.{recordFields, withFields, newRecord, sameParties}
 use Rattle.table.specs.Search.{placeNamed, freePlace}
 use Rattle.table.specs.WellFormed.{wellFormed}
 use Rattle.table.specs.declared.searching.Found.the-variants.{At, Nothing}
@@ -51,7 +51,7 @@ stepOf t k o = record { answer = o .answer; table = tableAfter t k (o .after) }
 
 -- the call of record k
 abbrev pub callAt : List ℕ → ℕ → Call
-callAt t k = callOf (fieldsOf (recordAt t k))
+callAt t k = callOf (recordFields (recordAt t k))
 
 -- the record that a new call of the message m takes: the lowest free one, whatever m says; where there is none, it is not admitted
 abbrev pub roomFor : List ℕ → Message → Found

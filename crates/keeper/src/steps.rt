@@ -19,15 +19,15 @@ ghost use mathlib.Core.Bool.{true};
 ghost use mathlib.Core.Path.{_≡_};
 ghost use Prim.Native.Nat.{_<_};
 ghost use Rattle.keeper.specs.Keeping.{askedAt, tableAfter, onMessage, onTick, roomFor, taken, takenAt, tickedAt};
-ghost use Rattle.keeper.specs.inner.Known.{Named};
+ghost use Rattle.message.specs.inner.Named.{Named};
 ghost use Rattle.message.specs.Parties.{callIdOf};
-ghost use Rattle.table.specs.Image.{size};
+ghost use Rattle.table.specs.Image.{recordCount};
 ghost use Rattle.table.specs.Search.{placeNamed};
 ghost use Rattle.table.specs.WellFormed.{wellFormed};
 
 // Leaves in record k what becomes of it.
 fn leave(t: &mut [u8], k: usize, after: After)
-    requires { ⌜ k < size (now t) ⌝ }
+    requires { ⌜ k < recordCount (now t) ⌝ }
     ensures { λ _. ⌜ now (t .exit) ≡ tableAfter (now (t .entry)) k after ⌝ }
 {
     match after {

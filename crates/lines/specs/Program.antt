@@ -17,7 +17,7 @@ use Rattle.octets.specs.declared.decimals.Spelt.the-variants as spelt
 use Rattle.octets.specs.declared.decimals.Spelt.{Spelt}
 use lib.Dec.{leb, ltb}
 use lib.ListN.{length, take, drop}
-use mathlib.Core.Bool.{Bool, true, false, cond}
+use mathlib.Core.Bool.{Bool, cond}
 use mathlib.Core.List.{List, [], _∷_, _++_}
 
 -- how many bytes stand before the time's space

@@ -1,85 +1,52 @@
 -- What is known of a message that was read, over the definitions alone, for the layers above. The idea: whatever refuses is passed, so that the
 -- fields of the tag kept their rules and the two sides differ. Assumes nothing.
-use Rattle.message.proofs.CheckLaws.{none-lowest}
-use Prim.Native.Nat.{ℕ, zero, suc, _+_, _≤_, _<_}
-use Rattle.json.specs.inner.Machine.{answer}
-use Rattle.json.specs.Places.{bytes, part, members}
-use Rattle.json.specs.declared.Walked.the-variants as walked
-use Rattle.json.specs.declared.Walked.{Walked}
+use Prim.Native.Nat.{ℕ, _+_, _≤_, _<_}
+use Rattle.json.specs.Places.{bytes, part}
 use Rattle.fields.proofs.FieldLaws.{address-broken, sequence-broken, status-broken}
 use Rattle.fields.proofs.TextLaws.{whole-cut, span-cut}
-use Rattle.message.specs.Checks.{asks, lacks, breaks, lowest, missing, broken, brokenPlace, checked}
+use Rattle.message.specs.Checks.{checked}
 use Rattle.fields.specs.Field.{addressRule, statusField, keeps}
-use Rattle.fields.specs.Known.{empty, noted, repeated}
-use Rattle.message.specs.Message.{numberIn, methodIn, callerIn, codeIn, numberOf, methodOf, fromCaller, toCaller, codeOf, settingOf, sameSide, wrongSide, wrongNumber}
-use Rattle.message.specs.Message.{sidesDisagree, requestDisagrees, responseDisagrees, disagrees, userSpan, callerSpan, calleeSpan, callerAt, calleeAt, messageOf, probeOf}
+use Rattle.message.specs.Message.{firstSetting, numberIn, methodIn, callerIn, codeIn, numberOf, methodOf, fromCaller, toCaller, codeOf, settingOf, sameSide}
+use Rattle.message.specs.Message.{sidesDisagree, disagrees, userSpan, callerSpan, calleeSpan, callerPlace, calleePlace, messageOf}
 use Rattle.fields.specs.Spans.{textAt}
 use Rattle.fields.specs.Spans.{cut}
 use Rattle.message.specs.Parties.{callIdOf, userOf, callerFireOf, calleeFireOf}
-use Rattle.message.specs.Reading.{unless, agreed, settled, judged, known, shaped, onJson, onUtf8, reading}
-use Rattle.message.proofs.ShapeLaws.{tag-few}
-use Rattle.message.specs.Shape.{tagOf, objectOf}
+use Rattle.message.specs.Reading.{reading}
+use Rattle.message.proofs.AcceptedRows.{good-sound, is-there, is-kept, read-tag, read-taken}
+use Rattle.message.specs.inner.Named.{Named}
 use Rattle.fields.specs.Value.{isString, textOf, freely, ruled}
-use Rattle.message.specs.declared.checking.Check.the-variants.{Good, Fault}
-use Rattle.message.specs.declared.checking.Check.{Check}
+use Rattle.message.specs.declared.checking.Check.the-variants.{Good}
 use Rattle.message.specs.declared.facts.Message.{Message}
-use Rattle.fields.specs.declared.judging.Setting.{Setting}
-use Rattle.message.specs.declared.reading.Reading.the-variants.{Refused, Read}
-use Rattle.message.specs.declared.reading.Reading.{Reading}
-use Rattle.octets.proofs.TestLaws.{and-parts}
+use Rattle.message.specs.declared.reading.Reading.the-variants.{Read}
+use Rattle.octets.proofs.TestLaws.{and-parts, or-none}
 use Rattle.octets.specs.Class.{all}
 use Rattle.rules.proofs.PartLaws.{call-id-length, caller-address-parts, callee-address-parts}
 use Rattle.rules.proofs.SequenceLaws.{Ranges, sequence-ranges}
 use Rattle.rules.proofs.StatusLaws.{status-range}
 use Rattle.rules.specs.Address.{addressOf}
-use Rattle.rules.specs.Fields.{tagAsks, isIn}
-use Rattle.rules.specs.Names.{fields}
+use Rattle.rules.specs.Asks.{tagAsks, isIn}
 use Rattle.rules.specs.Sequence.{sequenceRule, sequenceOf}
 use Rattle.rules.specs.Status.{statusRule, statusOf}
-use Rattle.rules.specs.Texts.{fireRule, userRule, callIdRule, unescaped}
+use Rattle.rules.specs.Texts.{fireRule, userRule, callIdRule, noBackslash}
 use Rattle.rules.specs.declared.addresses.Address.the-variants as addresses
 use Rattle.rules.specs.declared.addresses.Address.{Address}
 use Rattle.rules.specs.declared.sequences.Sequence.the-variants as sequences
 use Rattle.rules.specs.declared.sequences.Sequence.{Sequence}
 use Rattle.rules.specs.declared.statuses.Status.the-variants as statuses
 use Rattle.rules.specs.declared.statuses.Status.{Status}
-use Rattle.utf8.specs.Rfc3629.{verdict}
-use Rattle.utf8.specs.declared.Verdict.the-variants as verdicts
-use Rattle.utf8.specs.declared.Verdict.{Verdict}
-use borrow.Author.Tests.{eqb-false, ltb-true, ltb-false, lt-ltb, not-false}
-use lib.Dec.{eqb, leb, ltb}
-use lib.ListN.{length, getD}
-use mathlib.Core.Bool.{Bool, true, false, not, _&&_, _||_, cond}
+use lib.ListN.{getD}
+use mathlib.Core.Bool.{Bool, true, false, _&&_}
 use mathlib.Core.List.{List}
 use mathlib.Core.Logic.{_⊎_, inl, inr}
-use mathlib.Core.Path.{_≡_, refl, sym, ap, _∙_}
+use mathlib.Core.Path.{_≡_, refl, sym, ap, subst, _∙_}
 use native.Mathlib.Decide.{ℕ-discrete}
 use native.Mathlib.Omega.{arith}
-
--- a request or a response: its texts keep their rules, and its numbers are in their ranges
-pub record Named (s : List ℕ) (m : Message) : Type 0 where
-  pub call-id : callIdRule (callIdOf s m) ≡ true
-  pub user : userRule (userOf s m) ≡ true
-  pub caller-fire : fireRule (callerFireOf s m) ≡ true
-  pub callee-fire : fireRule (calleeFireOf s m) ≡ true
-  pub number-low : 1 ≤ m .number
-  pub number-high : m .number < 4294967296
-  pub method-low : 1 ≤ m .method
-  pub method-high : m .method ≤ 8
-  pub status-high : m .status < 1000
-  pub status-range : m .tag ≡ 2 → (100 ≤ m .status) × (m .status ≤ 699)
 
 -- any message that was read: its tag, and what a request or a response has besides
 pub record Facts (s : List ℕ) (m : Message) : Type 0 where
   pub tag-low : 1 ≤ m .tag
   pub tag-high : m .tag ≤ 4
   pub named : m .tag ≤ 2 → Named s m
-
--- Bools
-
-or-parts : (a b : Bool) → (a || b) ≡ false → (a ≡ false) × (b ≡ false)
-or-parts true b e = (e, cc)
-or-parts false b e = (refl, e)
 
 never : {A : Type 0} → _≡_ {A = Bool} true false → A
 never e = absurd (let z : _≡_ {A = ℕ} 0 1 = cc in omega arith)
@@ -91,63 +58,12 @@ sides true false e = inl (refl, refl)
 sides false true e = inr (refl, refl)
 sides false false e = never e
 
--- What refuses is passed.
-
-passed : {m : Message} (b : Bool) (n p : ℕ) (r : Reading) → cond b (Refused n p) r ≡ Read m → (b ≡ false) × (r ≡ Read m)
-passed true n p r e = absurd (let z : _≡_ {A = ℕ} 0 1 = cc in omega arith)
-passed false n p r e = (refl, e)
-
-within : {m : Message} (b : Bool) (n p : ℕ) (r : Reading) → cond b r (Refused n p) ≡ Read m → r ≡ Read m
-within true n p r e = e
-within false n p r e = absurd (let z : _≡_ {A = ℕ} 0 1 = cc in omega arith)
-
-faultless : {m : Message} (f : Check) (r : Reading) → unless f r ≡ Read m → (f ≡ Good) × (r ≡ Read m)
-faultless Good r e = (refl, e)
-faultless (Fault n p) r e = absurd (let z : _≡_ {A = ℕ} 0 1 = cc in omega arith)
-
-json-passed : (s : List ℕ) {m : Message} (w : Walked) → onJson s w ≡ Read m → shaped s ≡ Read m
-json-passed s (walked.End e) h = h
-json-passed s (walked.Bad p) h = absurd (let z : _≡_ {A = ℕ} 0 1 = cc in omega arith)
-json-passed s (walked.Deep p) h = absurd (let z : _≡_ {A = ℕ} 0 1 = cc in omega arith)
-
-utf8-passed : (s : List ℕ) {m : Message} (v : Verdict) → onUtf8 s v ≡ Read m → shaped s ≡ Read m
-utf8-passed s verdicts.Good h = json-passed s (answer s) h
-utf8-passed s (verdicts.Bad p) h = absurd (let z : _≡_ {A = ℕ} 0 1 = cc in omega arith)
-
-reading-shaped : (s : List ℕ) {m : Message} → reading s ≡ Read m → shaped s ≡ Read m
-unfolding reading
-reading-shaped s e = utf8-passed s (verdict s) (within (leb 1 (length s) && leb (length s) 32768) 2 0 (onUtf8 s (verdict s)) e)
-
--- a run that finds nothing: each field that the tag asks for is there and keeps its rule
-
-both-good : (a b : Bool) (n p n′ p′ : ℕ) → cond a (Fault n p) (cond b (Fault n′ p′) Good) ≡ Good → (a ≡ false) × (b ≡ false)
-both-good true b n p n′ p′ e = absurd (let z : _≡_ {A = ℕ} 0 1 = cc in omega arith)
-both-good false true n p n′ p′ e = absurd (let z : _≡_ {A = ℕ} 0 1 = cc in omega arith)
-both-good false false n p n′ p′ e = (refl, refl)
-
-module _ (s : List ℕ) (run : Bool) (k : Setting) (t : List ℕ) (good : checked s run k t ≡ Good) where
-  both : (ltb 0 (missing run k t) ≡ false) × (ltb 0 (broken s run k t) ≡ false)
-  unfolding checked
-  both = both-good (ltb 0 (missing run k t)) (ltb 0 (broken s run k t)) 8 (missing run k t) 9 (brokenPlace s k t (broken s run k t)) good
-
-  -- a field that the run requires is there and keeps its rule
-  pub kept : (n : ℕ) → 1 ≤ n → n < 27 → asks run k n ≡ 1 → (0 < getD t n 0) × (keeps k n (bytes s (getD t n 0)) ≡ true)
-  unfolding lacks breaks
-  kept n h g a =
-      let l = none-lowest (lacks run k t) 26 1 n (omega arith) (let z = ltb-false 0 (missing run k t) (both .0) in omega arith) h (omega arith) in
-      let b = none-lowest (breaks s run k t) 26 1 n (omega arith) (let z = ltb-false 0 (broken s run k t) (both .1) in omega arith) h (omega arith) in
-      let there : eqb (getD t n 0) 0 ≡ false = rw a at l in
-      let some : 0 < getD t n 0 = let ne = eqb-false (getD t n 0) 0 there in omega arith in
-      let some-test : ltb 0 (getD t n 0) ≡ true = lt-ltb 0 (getD t n 0) some in
-      let rest : not (keeps k n (bytes s (getD t n 0))) ≡ false = rw (a, some-test) at b in
-      (some, not-false (keeps k n (bytes s (getD t n 0))) rest)
-
 -- the text of a string under a rule keeps it
 ruled-text : (rule : List ℕ → Bool) (v : List ℕ) → ruled rule v ≡ true → rule (textOf v) ≡ true
 unfolding ruled freely
 ruled-text rule v e =
-    let p = and-parts (isString v) (all unescaped (textOf v) && rule (textOf v)) e in
-    and-parts (all unescaped (textOf v)) (rule (textOf v)) (p .1) .1
+    let p = and-parts (isString v) (all noBackslash (textOf v) && rule (textOf v)) e in
+    and-parts (all noBackslash (textOf v)) (rule (textOf v)) (p .1) .1
 
 free-text : (rule : List ℕ → Bool) (v : List ℕ) → freely rule v ≡ true → rule (textOf v) ≡ true
 unfolding freely
@@ -184,30 +100,36 @@ coded t rule statuses.Broken e = never (sym rule ∙ sym (status-broken t (sym e
 
 -- A request or a response that passed the run of its tag, and whose sides differ.
 
-module _ (s : List ℕ) (tag : ℕ) (t : List ℕ) (two : (tag ≡ 1) ⊎ (tag ≡ 2)) (good : checked s true (record { tag = tag; method = 0; content = 0 }) t ≡ Good) where
+module _ (s : List ℕ) (tag : ℕ) (t : List ℕ) (two : (tag ≡ 1) ⊎ (tag ≡ 2)) (good : checked s true (firstSetting tag) t ≡ Good) where
+  -- a field that the tag requires is there and keeps its rule
+  kept : (n : ℕ) → 1 ≤ n → n < 27 → tagAsks tag n ≡ 1 → keeps (firstSetting tag) n (bytes s (getD t n 0)) ≡ true
+  kept n h g a =
+      let sound = good-sound s true (firstSetting tag) t good in
+      is-kept sound n h g (omega (arith, a)) (is-there sound n h g a)
+
   asked : (n : ℕ) → tagAsks 1 n ≡ 1 → tagAsks 2 n ≡ 1 → (tag ≡ 1) ⊎ (tag ≡ 2) → tagAsks tag n ≡ 1
   asked n a b (inl e) = rw e a
   asked n a b (inr e) = rw e b
 
   sequence-kept : sequenceRule (textAt s (getD t 1 0)) ≡ true
   unfolding textAt tagAsks isIn keeps
-  sequence-kept = ruled-text sequenceRule (bytes s (getD t 1 0)) (kept s true _ t good 1 (omega arith) (omega arith) (asked 1 refl refl two) .1)
+  sequence-kept = ruled-text sequenceRule (bytes s (getD t 1 0)) (kept 1 (omega arith) (omega arith) (asked 1 refl refl two))
 
   to-kept : addressRule (textAt s (getD t 2 0)) ≡ true
   unfolding textAt tagAsks isIn keeps
-  to-kept = ruled-text addressRule (bytes s (getD t 2 0)) (kept s true _ t good 2 (omega arith) (omega arith) (asked 2 refl refl two) .1)
+  to-kept = ruled-text addressRule (bytes s (getD t 2 0)) (kept 2 (omega arith) (omega arith) (asked 2 refl refl two))
 
   from-kept : addressRule (textAt s (getD t 3 0)) ≡ true
   unfolding textAt tagAsks isIn keeps
-  from-kept = ruled-text addressRule (bytes s (getD t 3 0)) (kept s true _ t good 3 (omega arith) (omega arith) (asked 3 refl refl two) .1)
+  from-kept = ruled-text addressRule (bytes s (getD t 3 0)) (kept 3 (omega arith) (omega arith) (asked 3 refl refl two))
 
   call-kept : callIdRule (textAt s (getD t 5 0)) ≡ true
   unfolding textAt tagAsks isIn keeps
-  call-kept = ruled-text callIdRule (bytes s (getD t 5 0)) (kept s true _ t good 5 (omega arith) (omega arith) (asked 5 refl refl two) .1)
+  call-kept = ruled-text callIdRule (bytes s (getD t 5 0)) (kept 5 (omega arith) (omega arith) (asked 5 refl refl two))
 
   status-kept : tag ≡ 2 → statusRule (textAt s (getD t 7 0)) ≡ true
   unfolding textAt tagAsks isIn keeps statusField
-  status-kept e = free-text statusRule (bytes s (getD t 7 0)) (rw e at (kept s true _ t good 7 (omega arith) (omega arith) (rw e refl) .1))
+  status-kept e = free-text statusRule (bytes s (getD t 7 0)) (rw e at (kept 7 (omega arith) (omega arith) (rw e refl)))
 
   code-in : tag ≡ 2 → (100 ≤ codeOf s tag (getD t 7 0)) × (codeOf s tag (getD t 7 0) ≤ 699)
   unfolding codeOf
@@ -228,7 +150,7 @@ module _ (s : List ℕ) (tag : ℕ) (t : List ℕ) (two : (tag ≡ 1) ⊎ (tag �
   -- which of the two addresses is the caller's
   parties : ((fromCaller s t ≡ true) × (toCaller s t ≡ false)) ⊎ ((fromCaller s t ≡ false) × (toCaller s t ≡ true))
       → (userRule (userOf s it) ≡ true) × ((fireRule (callerFireOf s it) ≡ true) × (fireRule (calleeFireOf s it) ≡ true))
-  unfolding messageOf userOf callerFireOf calleeFireOf callerAt calleeAt fromCaller toCaller
+  unfolding messageOf userOf callerFireOf calleeFireOf callerPlace calleePlace fromCaller toCaller
   parties (inl e) =
       let v = getD t 3 0 in
       let w = getD t 2 0 in
@@ -266,64 +188,25 @@ module _ (s : List ℕ) (tag : ℕ) (t : List ℕ) (two : (tag ≡ 1) ⊎ (tag �
         status-range = code-in;
       }
 
--- row 10 and the end
-agreed-is : (s : List ℕ) (k : Setting) (t : List ℕ) {m : Message} → agreed s k t ≡ Read m → (sameSide (fromCaller s t) (toCaller s t) ≡ false) × (messageOf s k t ≡ m)
-unfolding agreed disagrees sidesDisagree
-agreed-is s k t e =
-    let p = passed (disagrees s k t) 10 0 (Read (messageOf s k t)) e in
-    let both = sidesDisagree (k .method) (numberOf s t) (fromCaller s t) (toCaller s t) in
-    let rest = (eqb (k .tag) 1 && requestDisagrees s k t (fromCaller s t)) || (eqb (k .tag) 2 && responseDisagrees (codeOf s (k .tag) (getD t 7 0)) (k .method)) in
-    let q = or-parts both rest (p .0) in
-    (or-parts (sameSide (fromCaller s t) (toCaller s t)) (wrongSide (k .method) (fromCaller s t) || wrongNumber (k .method) (numberOf s t)) (q .0) .0, let r = p .1 in cc)
+  -- row 10 tells the sides apart
+  apart : disagrees s (settingOf s tag t) t ≡ false → sameSide (fromCaller s t) (toCaller s t) ≡ false
+  unfolding disagrees sidesDisagree
+  apart e = or-none _ _ (or-none _ _ e .0) .0
 
-settled-is : (s : List ℕ) (k : Setting) (t : List ℕ) {m : Message} → settled s k t ≡ Read m → agreed s k t ≡ Read m
-unfolding settled
-settled-is s k t {m} e = by (eqb (k .tag) 1) e
+one-or-two : (tag : ℕ) → 1 ≤ tag → tag ≤ 2 → (tag ≡ 1) ⊎ (tag ≡ 2)
+one-or-two tag l h = by (ℕ-discrete tag 1)
   where
-    by : (b : Bool) → cond b (unless (checked s false k t) (agreed s k t)) (agreed s k t) ≡ Read m → agreed s k t ≡ Read m
-    by true e = faultless (checked s false k t) (agreed s k t) e .1
-    by false e = e
+    by : Dec (tag ≡ 1) → (tag ≡ 1) ⊎ (tag ≡ 2)
+    by (yes e) = inl e
+    by (no e) = inr (omega arith)
 
-module _ (s : List ℕ) (tag : ℕ) (t : List ℕ) (low : 1 ≤ tag) (high : tag ≤ 4) where
-  one-or-two : tag ≤ 2 → (tag ≡ 1) ⊎ (tag ≡ 2)
-  one-or-two h = by (ℕ-discrete tag 1)
-    where
-      by : Dec (tag ≡ 1) → (tag ≡ 1) ⊎ (tag ≡ 2)
-      by (yes e) = inl e
-      by (no e) = inr (omega arith)
-
-  probe-facts : {m : Message} → probeOf tag ≡ m → 2 < tag → Facts s m
-  unfolding probeOf
-  probe-facts e h =
-      let f : Facts s (probeOf tag) = record { tag-low = low; tag-high = high; named = λ g. absurd (omega arith) } in
-      rw (← e) f
-
-  message-facts : {m : Message} → tag ≤ 2 → checked s true (record { tag = tag; method = 0; content = 0 }) t ≡ Good → agreed s (settingOf s tag t) t ≡ Read m → Facts s m
-  unfolding messageOf settingOf
-  message-facts h good e =
-      let a = agreed-is s (settingOf s tag t) t e in
-      let f : Facts s (messageOf s (settingOf s tag t) t) = record { tag-low = low; tag-high = high; named = λ g. is-named s tag t (one-or-two h) good (a .0) } in
-      rw (← (a .1)) f
-
-  judged-facts : {m : Message} → judged s tag t ≡ Read m → Facts s m
-  unfolding judged
-  judged-facts {m} e = by (ltb 2 tag) refl (r .1)
-    where
-      k : Setting
-      k = record { tag = tag; method = 0; content = 0 }
-
-      r : (checked s true k t ≡ Good) × (cond (ltb 2 tag) (Read (probeOf tag)) (settled s (settingOf s tag t) t) ≡ Read m)
-      r = faultless (checked s true k t) (cond (ltb 2 tag) (Read (probeOf tag)) (settled s (settingOf s tag t) t)) e
-
-      by : (b : Bool) → ltb 2 tag ≡ b → cond b (Read (probeOf tag)) (settled s (settingOf s tag t) t) ≡ Read m → Facts s m
-      by true q z = probe-facts (cc) (ltb-true 2 tag q)
-      by false q z = message-facts (ltb-false 2 tag q) (r .0) (settled-is s (settingOf s tag t) t z)
+-- a request or a response that is read
+pub read-named : (s : List ℕ) (m : Message) → reading s ≡ Read m → m .tag ≤ 2 → Named s m
+read-named s m e h =
+    let a = read-taken s m e h in
+    let two = one-or-two (m .tag) (a .accepted .kind .0) h in
+    subst (Named s) (a .is) (is-named s (m .tag) (a .t) two (a .accepted .fits) (apart s (m .tag) (a .t) two (a .accepted .fits) (a .accepted .agrees)))
 
 -- THE LAW: what is known of every message that is read
 pub facts : (s : List ℕ) (m : Message) → reading s ≡ Read m → Facts s m
-unfolding shaped known
-facts s m e =
-    let p = passed (eqb (tagOf s) 0) 6 0 (known s (tagOf s) (members s (objectOf s))) (reading-shaped s e) in
-    let qs = members s (objectOf s) in
-    let r = passed (ltb 0 (repeated fields s empty qs)) 7 (repeated fields s empty qs) (judged s (tagOf s) (noted fields s empty qs)) (p .1) in
-    judged-facts s (tagOf s) (noted fields s empty qs) (let ne = eqb-false (tagOf s) 0 (p .0) in omega arith) (tag-few s) (r .1)
+facts s m e = let k = read-tag s m e in record { tag-low = k .0; tag-high = k .1; named = read-named s m e }

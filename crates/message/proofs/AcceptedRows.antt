@@ -1,15 +1,17 @@
 -- What it means that the reading accepts a request or a response, row by row (01 Reading), and back: who shows all of it shows that a text is read.
 -- Assumes nothing.
 use Rattle.octets.proofs.TestLaws.{and-parts}
-use Prim.Native.Nat.{ℕ, zero, suc, _+_, _≤_, _<_}
+use Prim.Native.Nat.{ℕ, _≤_, _<_}
 use Rattle.json.specs.inner.Machine.{answer}
 use Rattle.json.specs.Places.{bytes, members}
 use Rattle.json.specs.declared.Walked.the-variants as walked
 use Rattle.json.specs.declared.Walked.{Walked}
-use Rattle.message.specs.Checks.{asks, lacks, breaks, lowest, missing, broken, brokenPlace, checked}
+use Rattle.message.proofs.CheckLaws.{lowest-none, none-lowest}
+use Rattle.message.proofs.ShapeLaws.{tag-few}
+use Rattle.message.specs.Checks.{asks, lacks, breaks, missing, broken, brokenPlace, checked}
 use Rattle.fields.specs.Field.{keeps}
 use Rattle.fields.specs.Known.{empty, noted, repeated}
-use Rattle.message.specs.Message.{first, settingOf, disagrees, messageOf, probeOf}
+use Rattle.message.specs.Message.{firstSetting, settingOf, disagrees, messageOf, probeOf}
 use Rattle.message.specs.Reading.{unless, agreed, settled, judged, known, shaped, onJson, onUtf8, reading}
 use Rattle.message.specs.Shape.{tagOf, objectOf}
 use Rattle.message.specs.declared.checking.Check.the-variants.{Good, Fault}
@@ -41,7 +43,7 @@ pub record Accepted (s : List ℕ) (tag : ℕ) (t : List ℕ) : Type 0 where
   pub kind : (1 ≤ tag) × (tag ≤ 2)
   pub once : repeated fields s empty (members s (objectOf s)) ≡ 0
   pub places : noted fields s empty (members s (objectOf s)) ≡ t
-  pub fits : checked s true (first tag) t ≡ Good
+  pub fits : checked s true (firstSetting tag) t ≡ Good
   pub more : tag ≡ 1 → checked s false (settingOf s tag t) t ≡ Good
   pub agrees : disagrees s (settingOf s tag t) t ≡ false
 
@@ -93,13 +95,13 @@ by-json s (walked.End e) m h = (e, (refl, h))
 by-json s (walked.Bad p) m h = read-not h
 by-json s (walked.Deep p) m h = read-not h
 
-read-tag : {a b : Message} → Read a ≡ Read b → a ≡ b
-read-tag e = cc
+pub same-message : {a b : Message} → Read a ≡ Read b → a ≡ b
+same-message e = cc
 
 -- from row 8 on
 pub record Judged (s : List ℕ) (tag : ℕ) (t : List ℕ) (m : Message) : Type 0 where
   pub low : tag ≤ 2
-  pub fits : checked s true (first tag) t ≡ Good
+  pub fits : checked s true (firstSetting tag) t ≡ Good
   pub more : tag ≡ 1 → checked s false (settingOf s tag t) t ≡ Good
   pub agrees : disagrees s (settingOf s tag t) t ≡ false
   pub is : messageOf s (settingOf s tag t) t ≡ m
@@ -111,7 +113,7 @@ record Settled (s : List ℕ) (tag : ℕ) (t : List ℕ) (m : Message) : Type 0 
 
 by-agreed : (s : List ℕ) (k : Setting) (t : List ℕ) (m : Message) → agreed s k t ≡ Read m → (disagrees s k t ≡ false) × (messageOf s k t ≡ m)
 unfolding agreed
-by-agreed s k t m e = let r = by-refuse (disagrees s k t) (Read (messageOf s k t)) 10 0 m e in (r .0, read-tag (r .1))
+by-agreed s k t m e = let r = by-refuse (disagrees s k t) (Read (messageOf s k t)) 10 0 m e in (r .0, same-message (r .1))
 
 by-settled : (s : List ℕ) (tag : ℕ) (t : List ℕ) (m : Message) (u : Bool) → eqb tag 1 ≡ u
     → cond u (unless (checked s false (settingOf s tag t) t) (agreed s (settingOf s tag t) t)) (agreed s (settingOf s tag t) t) ≡ Read m → Settled s tag t m
@@ -129,7 +131,7 @@ settled-as s tag t m e = by-settled s tag t m (eqb tag 1) refl e
 
 probe-tag : (tag : ℕ) (m : Message) → Read (probeOf tag) ≡ Read m → m .tag ≡ tag
 unfolding probeOf
-probe-tag tag m e = sym (ap (λ (x : Message). x .tag) (read-tag e))
+probe-tag tag m e = sym (ap (λ (x : Message). x .tag) (same-message e))
 
 by-probe : (s : List ℕ) (tag : ℕ) (t : List ℕ) (m : Message) (u : Bool) → m .tag ≤ 2 → ltb 2 tag ≡ u → cond u (Read (probeOf tag)) (settled s (settingOf s tag t) t) ≡ Read m
     → (tag ≤ 2) × Settled s tag t m
@@ -139,7 +141,7 @@ by-probe s tag t m false l h e = (ltb-false 2 tag h, settled-as s tag t m e)
 judged-as : (s : List ℕ) (tag : ℕ) (t : List ℕ) (m : Message) → m .tag ≤ 2 → judged s tag t ≡ Read m → Judged s tag t m
 unfolding judged
 judged-as s tag t m l e =
-    let r = by-unless (checked s true (first tag) t) (cond (ltb 2 tag) (Read (probeOf tag)) (settled s (settingOf s tag t) t)) m e in
+    let r = by-unless (checked s true (firstSetting tag) t) (cond (ltb 2 tag) (Read (probeOf tag)) (settled s (settingOf s tag t) t)) m e in
     let q = by-probe s tag t m (ltb 2 tag) l refl (r .1) in
     record { low = q .0; fits = r .0; more = q .1 .more; agrees = q .1 .agrees; is = q .1 .is }
 
@@ -153,18 +155,26 @@ message-tag : (s : List ℕ) (tag : ℕ) (t : List ℕ) (m : Message) → messag
 unfolding messageOf settingOf
 message-tag s tag t m e = ap (λ (x : Message). x .tag) e
 
+judged-tag : (s : List ℕ) (tag : ℕ) (t : List ℕ) (m : Message) → judged s tag t ≡ Read m → m .tag ≡ tag
+unfolding judged
+judged-tag s tag t m e = by (ltb 2 tag) (by-unless (checked s true (firstSetting tag) t) _ m e .1)
+  where
+    by : (u : Bool) → cond u (Read (probeOf tag)) (settled s (settingOf s tag t) t) ≡ Read m → m .tag ≡ tag
+    by true z = probe-tag tag m z
+    by false z = sym (message-tag s tag t m (settled-as s tag t m z .is))
+
 record Shown (s : List ℕ) (m : Message) : Type 0 where
   shape : tagOf s ≡ 0 → ⊥
   once : repeated fields s empty (members s (objectOf s)) ≡ 0
-  judged : Judged s (tagOf s) (noted fields s empty (members s (objectOf s))) m
+  rows : judged s (tagOf s) (noted fields s empty (members s (objectOf s))) ≡ Read m
 
-shown-as : (s : List ℕ) (m : Message) → m .tag ≤ 2 → shaped s ≡ Read m → Shown s m
+shown-as : (s : List ℕ) (m : Message) → shaped s ≡ Read m → Shown s m
 unfolding shaped known
-shown-as s m l e =
+shown-as s m e =
     let r = by-refuse (eqb (tagOf s) 0) _ 6 0 m e in
     let q = by-refuse (ltb 0 (repeated fields s empty (members s (objectOf s)))) _ 7 _ m (r .1) in
     let z : repeated fields s empty (members s (objectOf s)) ≡ 0 = omega (arith, ltb-false 0 (repeated fields s empty (members s (objectOf s))) (q .0)) in
-    record { shape = eqb-false (tagOf s) 0 (r .0); once = z; judged = judged-as s (tagOf s) _ m l (q .1) }
+    record { shape = eqb-false (tagOf s) 0 (r .0); once = z; rows = q .1 }
 
 record Gone (s : List ℕ) (m : Message) : Type 0 where
   some : 1 ≤ length s
@@ -186,12 +196,19 @@ gone-as s m e =
 pub read-short : (s : List ℕ) (m : Message) → reading s ≡ Read m → length s ≤ 32768
 read-short s m e = gone-as s m e .short
 
+-- the tag of any message that is read
+pub read-tag : (s : List ℕ) (m : Message) → reading s ≡ Read m → (1 ≤ m .tag) × (m .tag ≤ 4)
+read-tag s m e =
+    let w = shown-as s m (gone-as s m e .shown) in
+    let q = judged-tag s (tagOf s) _ m (w .rows) in
+    (omega (arith, q, w .shape), omega (arith, q, tag-few s))
+
 pub read-taken : (s : List ℕ) (m : Message) → reading s ≡ Read m → m .tag ≤ 2 → Taken s m
 read-taken s m e l =
     let g = gone-as s m e in
-    let w = shown-as s m l (g .shown) in
-    let j = w .judged in
+    let w = shown-as s m (g .shown) in
     let t = noted fields s empty (members s (objectOf s)) in
+    let j = judged-as s (tagOf s) t m l (w .rows) in
     let q = message-tag s (tagOf s) t m (j .is) in
     record {
       t = t;
@@ -213,26 +230,6 @@ read-taken s m e l =
     }
 
 -- Rows 8 and 9, field by field.
-pick-none : (b : Bool) (n r : ℕ) → 0 < n → cond b n r ≡ 0 → (b ≡ false) × (r ≡ 0)
-pick-none true n r h e = absurd (omega arith)
-pick-none false n r h e = (refl, e)
-
-lowest-none : (f : ℕ → Bool) (a k : ℕ) → 0 < a → lowest f a k ≡ 0 → (n : ℕ) → a ≤ n → n < a + k → f n ≡ false
-unfolding lowest
-lowest-none f a zero h e n l g = absurd (omega arith)
-lowest-none f a (suc k) h e n l g =
-    let p = pick-none (f a) a (lowest f (a + 1) k) h e in
-    by (eqb a n) refl (p .0) (λ q. lowest-none f (a + 1) k (omega arith) (p .1) n (omega (arith, q)) (omega arith))
-  where
-    by : (u : Bool) → eqb a n ≡ u → f a ≡ false → ((a ≡ n → ⊥) → f n ≡ false) → f n ≡ false
-    by true z y w = rw (← eqb-true a n z) y
-    by false z y w = w (eqb-false a n z)
-
-none-lowest : (f : ℕ → Bool) (a k : ℕ) → ((n : ℕ) → a ≤ n → n < a + k → f n ≡ false) → lowest f a k ≡ 0
-unfolding lowest
-none-lowest f a zero h = refl
-none-lowest f a (suc k) h = rw (h a (omega arith) (omega arith)) (none-lowest f (a + 1) k (λ n l g. h n (omega arith) (omega arith)))
-
 by-judge : (b : Bool) (n p : ℕ) (x : Check) → cond b (Fault n p) x ≡ Good → (b ≡ false) × (x ≡ Good)
 by-judge true n p x e = absurd (let z : _≡_ {A = ℕ} 0 1 = cc in omega arith)
 by-judge false n p x e = (refl, e)
@@ -250,13 +247,13 @@ module _ (s : List ℕ) (run : Bool) (k : Setting) (t : List ℕ) where
       let q = by-judge (ltb 0 (broken s run k t)) 9 (brokenPlace s k t (broken s run k t)) Good (r .1) in
       let x : missing run k t ≡ 0 = omega (arith, ltb-false 0 (missing run k t) (r .0)) in
       let y : broken s run k t ≡ 0 = omega (arith, ltb-false 0 (broken s run k t) (q .0)) in
-      record { there = λ n l g. lowest-none (lacks run k t) 1 26 (omega arith) x n l g; kept = λ n l g. lowest-none (breaks s run k t) 1 26 (omega arith) y n l g }
+      record { there = λ n l g. lowest-none (lacks run k t) 26 1 n (omega arith) x l g; kept = λ n l g. lowest-none (breaks s run k t) 26 1 n (omega arith) y l g }
 
   pub sound-good : Sound s run k t → checked s run k t ≡ Good
   unfolding checked
   sound-good h =
-      let x : missing run k t ≡ 0 = none-lowest (lacks run k t) 1 26 (λ n l g. h .there n l g) in
-      let y : broken s run k t ≡ 0 = none-lowest (breaks s run k t) 1 26 (λ n l g. h .kept n l g) in
+      let x : missing run k t ≡ 0 = none-lowest (lacks run k t) 26 1 (λ n l g. h .there n l g) in
+      let y : broken s run k t ≡ 0 = none-lowest (breaks s run k t) 26 1 (λ n l g. h .kept n l g) in
       rw (x, y)
 
 -- a field that is asked for is there and keeps its rule

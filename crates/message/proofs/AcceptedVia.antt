@@ -1,11 +1,11 @@
 -- Via of an accepted request or response keeps its rule and stands within the text (`via-kept`, `via-inside`); how long a value is (`value-short`).
 -- Assumes nothing.
+use Rattle.json.proofs.TurnLaws.{there}
 use Rattle.octets.proofs.TestLaws.{and-parts}
 use Prim.Native.Nat.{ℕ, zero, suc, _-_, _≤_, _<_}
 use Rattle.json.specs.Places.{part, bytes, behind}
 use Rattle.message.proofs.AcceptedRows.{read-short, read-taken, good-sound, is-there, is-kept}
-use Rattle.message.specs.Message.{first, messageOf, settingOf}
-use Rattle.fields.proofs.GatherLaws.{there}
+use Rattle.message.specs.Message.{firstSetting, messageOf, settingOf}
 use Rattle.fields.specs.Field.{keeps}
 use Rattle.message.specs.Reading.{reading}
 use Rattle.fields.specs.Value.{isArray}
@@ -13,7 +13,7 @@ use Rattle.fields.specs.Via.{viaRule}
 use Rattle.message.specs.declared.facts.Message.{Message}
 use Rattle.fields.specs.declared.judging.Setting.{Setting}
 use Rattle.message.specs.declared.reading.Reading.the-variants.{Read}
-use Rattle.rules.specs.Fields.{tagAsks, isIn}
+use Rattle.rules.specs.Asks.{tagAsks, isIn}
 use borrow.Author.Tests.{eqb-true}
 use lib.Dec.{eqb}
 use lib.ListN.{length, getD, take, drop, length-take, length-drop}
@@ -46,12 +46,12 @@ pub via-kept : (s : List ℕ) (m : Message) → reading s ≡ Read m → m .tag 
 via-kept s m e l =
     let a = read-taken s m e l in
     let t = a .t in
-    let g = good-sound s true (first (m .tag)) t (a .accepted .fits) in
+    let g = good-sound s true (firstSetting (m .tag)) t (a .accepted .fits) in
     let q = via-asked (m .tag) (a .accepted .kind .0) l in
     let p = is-there g 6 (omega arith) (omega arith) q in
     let k = is-kept g 6 (omega arith) (omega arith) (omega (arith, q)) p in
     ap (λ (x : Message). viaRule (bytes s (x .via))) (sym (a .is)) ∙ ap (λ (x : ℕ). viaRule (bytes s x)) (via-place s (m .tag) t)
-    ∙ sym (via-keeps (first (m .tag)) (bytes s (getD t 6 0))) ∙ k
+    ∙ sym (via-keeps (firstSetting (m .tag)) (bytes s (getD t 6 0))) ∙ k
 
 array-byte : (v : List ℕ) → viaRule v ≡ true → getD v 0 0 ≡ 91
 unfolding viaRule isArray

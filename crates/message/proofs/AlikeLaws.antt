@@ -8,18 +8,16 @@ use Rattle.message.specs.Checks.{asks, lacks, breaks}
 use Rattle.fields.specs.Field.{keeps}
 use Rattle.fields.specs.Known.{empty, noted, repeated}
 use Rattle.message.specs.Message.{methodOf, numberOf, fromCaller, toCaller, contentAt, codeIn, codeOf, secureOf, settingOf, sidesDisagree, callbackTraining, requestDisagrees}
-use Rattle.message.specs.Message.{responseDisagrees, disagrees, messageOf, first}
+use Rattle.message.specs.Message.{responseDisagrees, disagrees, messageOf, firstSetting}
 use Rattle.fields.specs.Spans.{textAt}
 use Rattle.message.specs.Shape.{tagOf, objectOf}
 use Rattle.fields.specs.Via.{viaRule}
-use Rattle.message.specs.declared.checking.Check.the-variants.{Good}
 use Rattle.message.specs.declared.facts.Message.{Message}
 use Rattle.fields.specs.declared.judging.Setting.{Setting}
 use Rattle.octets.specs.Ascii.{ascii}
 use Rattle.octets.specs.Text.{same}
-use Rattle.rules.specs.Fields.{isIn, tagAsks, methodAsks}
+use Rattle.rules.specs.Asks.{isIn, tagAsks, methodAsks}
 use Rattle.rules.specs.Names.{fields}
-use Rattle.rules.specs.Pieces.{wordNumber}
 use Rattle.rules.specs.Status.{statusOf}
 use Rattle.utf8.specs.Rfc3629.{verdict}
 use Rattle.utf8.specs.declared.Verdict.the-variants as verdicts
@@ -108,10 +106,10 @@ status-asked tag e = rw e
 
 -- the fields that are asked for are there
 pub field-there : {s t : List ℕ} {tag : ℕ} → Accepted s tag t → (n : ℕ) → 1 ≤ n → n ≤ 6 → 0 < getD t n 0
-field-there {s} {t} {tag} a n h g = is-there (good-sound s true (first tag) t (a .fits)) n h (omega arith) (tag-asks tag n (a .kind .0) (a .kind .1) h g)
+field-there {s} {t} {tag} a n h g = is-there (good-sound s true (firstSetting tag) t (a .fits)) n h (omega arith) (tag-asks tag n (a .kind .0) (a .kind .1) h g)
 
 pub status-there : {s t : List ℕ} {tag : ℕ} → Accepted s tag t → tag ≡ 2 → 0 < getD t 7 0
-status-there {s} {t} {tag} a e = is-there (good-sound s true (first tag) t (a .fits)) 7 (omega arith) (omega arith) (status-asked tag e)
+status-there {s} {t} {tag} a e = is-there (good-sound s true (firstSetting tag) t (a .fits)) 7 (omega arith) (omega arith) (status-asked tag e)
 
 -- the facts of two messages are the same, places and trail aside
 pub record SameFacts (m m′ : Message) : Type 0 where
@@ -239,7 +237,7 @@ module _ {s t s′ t′ : List ℕ} {tag : ℕ} (a : Accepted s tag t) (l : Alik
       kind = a .kind;
       once = o;
       places = p;
-      fits = sound-good s′ true (first tag) t′ (sound-as s t s′ t′ via true (first tag) l (good-sound s true (first tag) t (a .fits)));
+      fits = sound-good s′ true (firstSetting tag) t′ (sound-as s t s′ t′ via true (firstSetting tag) l (good-sound s true (firstSetting tag) t (a .fits)));
       more = λ z. rw same-setting (sound-good s′ false (settingOf s tag t) t′
           (sound-as s t s′ t′ via false (settingOf s tag t) l (good-sound s false (settingOf s tag t) t (a .more z))));
       agrees = same-disagrees ∙ a .agrees;

@@ -2,31 +2,23 @@
 use Prim.Native.Nat.{ℕ, zero, suc, _+_, _-_, _≤_, _<_}
 use Rattle.json.specs.Places.{bytes}
 use Rattle.fields.specs.Field.{keeps}
-use Rattle.fields.specs.inner.Judging.{judged}
+use Rattle.fields.specs.inner.Judging.{judgedValue}
 use Rattle.fields.specs.declared.judging.Judged.the-variants as judgeds
 use Rattle.fields.specs.declared.judging.Judged.{Judged}
-use Rattle.message.specs.Checks.{asks, lacks, breaks, lowest, missing, broken, nine, checked}
+use Rattle.message.specs.Checks.{asks, lacks, breaks, lowest, missing, nine, checked}
 use Rattle.message.specs.inner.Facts.{nineFrom, ofField}
-use Rattle.message.specs.Message.{first}
-use Rattle.rules.specs.Fields.{isIn, methodAsks, tagAsks}
+use Rattle.message.specs.Message.{firstSetting}
+use Rattle.rules.specs.Asks.{isIn, methodAsks, tagAsks}
 use Rattle.message.specs.declared.checking.Check.the-variants.{Good, Fault}
 use Rattle.fields.specs.declared.judging.Setting.{Setting}
 use borrow.Author.Tests.{ne-eqb, lt-ltb, le-ltb}
 use lib.Dec.{eqb, ltb}
 use lib.ListN.{getD}
-use mathlib.Core.Bool.{Bool, true, false, not, _&&_, cond}
+use mathlib.Core.Bool.{Bool, true, false, not, and-false, and-true, cond}
 use mathlib.Core.List.{List}
-use mathlib.Core.Path.{_≡_, refl, ap, _∙_}
+use mathlib.Core.Path.{_≡_, refl, sym, ap, _∙_}
 use native.Mathlib.Decide.{ℕ-discrete}
 use native.Mathlib.Omega.{arith}
-
-and-none : (b : Bool) → false ≡ (b && false)
-and-none true = refl
-and-none false = refl
-
-and-all : (b : Bool) → b ≡ (b && true)
-and-all true = refl
-and-all false = refl
 
 turned : (b : Bool) (x y : Judged) → cond b x y ≡ cond (not b) y x
 turned true x y = refl
@@ -35,30 +27,30 @@ turned false x y = refl
 module _ (run : Bool) (k : Setting) (t : List ℕ) (n : ℕ) where
   pub not-lacking : (getD t n 0 ≡ 0 → ⊥) → false ≡ lacks run k t n
   unfolding lacks
-  not-lacking e = rw (ne-eqb (getD t n 0) 0 e) (and-none (eqb (asks run k n) 1))
+  not-lacking e = rw (ne-eqb (getD t n 0) 0 e) (sym (and-false (eqb (asks run k n) 1)))
 
   pub absent : (s : List ℕ) → getD t n 0 ≡ 0 → judgeds.Kept ≡ ofField s run k t n
   unfolding ofField breaks
-  absent s e = rw (e, ← (and-none (ltb 0 (asks run k n))))
+  absent s e = rw (e, and-false (ltb 0 (asks run k n)))
 
   module _ {a : ℕ} (is : a ≡ asks run k n) where
     pub lacking-if : getD t n 0 ≡ 0 → eqb a 1 ≡ lacks run k t n
     unfolding lacks
-    lacking-if e = rw (is, e) (and-all (eqb (asks run k n) 1))
+    lacking-if e = rw (is, e) (sym (and-true (eqb (asks run k n) 1)))
 
     module _ (s : List ℕ) where
       pub unlisted : a ≡ 0 → judgeds.Kept ≡ ofField s run k t n
       unfolding ofField breaks
       unlisted e = rw (le-ltb 0 (asks run k n) (omega arith))
 
-      pub present : {x : List ℕ} {r : Judged} → (a ≡ 0 → ⊥) → (getD t n 0 ≡ 0 → ⊥) → x ≡ bytes s (getD t n 0) → r ≡ judged k n x → r ≡ ofField s run k t n
-      unfolding ofField breaks judged
+      pub present : {x : List ℕ} {r : Judged} → (a ≡ 0 → ⊥) → (getD t n 0 ≡ 0 → ⊥) → x ≡ bytes s (getD t n 0) → r ≡ judgedValue k n x → r ≡ ofField s run k t n
+      unfolding ofField breaks judgedValue
       present {x} {r} some e f g =
           g ∙ rw (lt-ltb 0 (asks run k n) (omega arith), lt-ltb 0 (getD t n 0) (omega arith), f) (turned (keeps k n (bytes s (getD t n 0))) judgeds.Kept (judgeds.Broken 0))
 
 -- The lowest of the numbers from n to 26.
 
-pick-none : (t : Bool) (a b : ℕ) → 0 < a → cond t a b ≡ 0 → (t ≡ false) × (b ≡ 0)
+pub pick-none : (t : Bool) (a b : ℕ) → 0 < a → cond t a b ≡ 0 → (t ≡ false) × (b ≡ 0)
 pick-none true a b h e = absurd (omega arith)
 pick-none false a b h e = (refl, e)
 
@@ -66,12 +58,17 @@ next-one : (f : ℕ → Bool) (a n : ℕ) → a ≤ n → Dec (a ≡ n) → f a 
 next-one f a n h (yes e) z g = rw (← e) z
 next-one f a n h (no e) z g = g (omega arith)
 
-pub none-lowest : (f : ℕ → Bool) (k a n : ℕ) → 0 < a → lowest f a k ≡ 0 → a ≤ n → n < a + k → f n ≡ false
+pub lowest-none : (f : ℕ → Bool) (k a n : ℕ) → 0 < a → lowest f a k ≡ 0 → a ≤ n → n < a + k → f n ≡ false
 unfolding lowest
-none-lowest f zero a n o e h g = absurd (omega arith)
-none-lowest f (suc k) a n o e h g =
+lowest-none f zero a n o e h g = absurd (omega arith)
+lowest-none f (suc k) a n o e h g =
     let p = pick-none (f a) a (lowest f (a + 1) k) o e in
-    next-one f a n h (ℕ-discrete a n) (p .0) (λ l. none-lowest f k (a + 1) n (omega arith) (p .1) l (omega arith))
+    next-one f a n h (ℕ-discrete a n) (p .0) (λ l. lowest-none f k (a + 1) n (omega arith) (p .1) l (omega arith))
+
+pub none-lowest : (f : ℕ → Bool) (k a : ℕ) → ((n : ℕ) → a ≤ n → n < a + k → f n ≡ false) → lowest f a k ≡ 0
+unfolding lowest
+none-lowest f zero a h = refl
+none-lowest f (suc k) a h = rw (h a (omega arith) (omega arith)) (none-lowest f k (a + 1) (λ n l g. h n (omega arith) (omega arith)))
 
 module _ (f : ℕ → Bool) where
   one-less : (n : ℕ) → n < 27 → 27 - n ≡ suc (27 - (n + 1))
@@ -158,7 +155,7 @@ module _ (s t : List ℕ) where
       ∙ passes s false k t 2 (omega arith) (unasked false k 2 (a .1 .0))
       ∙ passes s false k t 3 (omega arith) (unasked false k 3 (a .1 .1))
 
-  pub later-tag : (tag : ℕ) → 2 < tag → tag < 5 → nineFrom s true (first tag) t 1 ≡ nineFrom s true (first tag) t 4
+  pub later-tag : (tag : ℕ) → 2 < tag → tag < 5 → nineFrom s true (firstSetting tag) t 1 ≡ nineFrom s true (firstSetting tag) t 4
   unfolding nineFrom lowest breaks tagAsks isIn
   later-tag zero h g = absurd (omega arith)
   later-tag (suc zero) h g = absurd (omega arith)

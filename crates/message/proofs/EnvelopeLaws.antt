@@ -1,23 +1,22 @@
 -- Row 9 on the fields that a request or a response must have: each kept field passes it on, a broken one ends it; and what each tells. Assumes nothing.
 use Rattle.octets.proofs.TestLaws.{and-parts}
 use Prim.Native.Nat.{ℕ, zero, suc, _+_, _≤_, _<_}
-use Rattle.fields.proofs.JudgingLaws.{cseq-fault, cseq-tells, party-fault, party-tells, status-fault, status-tells, via-fault, via-tells, judged-fault, judged-tells}
-use Rattle.fields.specs.Field.{addressRule, keeps, statusField}
-use Rattle.fields.specs.inner.Judging.{cseqOf, judged, partyOf, statusIn, viaOf}
+use Rattle.fields.proofs.JudgingLaws.{cseq-tells, party-tells, status-tells, via-tells}
+use Rattle.fields.specs.Field.{keeps, statusField}
+use Rattle.fields.specs.inner.Judging.{cseqOf, partyOf, statusIn, viaOf}
 use Rattle.fields.specs.Spans.{textAt}
 use Rattle.fields.specs.Trail.{trailIn}
 use Rattle.fields.specs.Value.{freely, isString, ruled, textOf}
 use Rattle.fields.specs.declared.judging.CSeq.the-variants as cseqs
-use Rattle.fields.specs.declared.judging.Judged.the-variants as judgeds
 use Rattle.fields.specs.declared.judging.Party.the-variants as parties
 use Rattle.fields.specs.declared.judging.Setting.{Setting}
 use Rattle.fields.specs.declared.judging.Status.the-variants as statuses
 use Rattle.fields.specs.declared.trails.Trail.{Trail}
 use Rattle.fields.specs.declared.vias.Via.the-variants as vias
 use Rattle.json.specs.Places.{bytes}
-use Rattle.message.proofs.CheckLaws.{none-lowest, passes, stops}
+use Rattle.message.proofs.CheckLaws.{lowest-none, passes, stops}
 use Rattle.message.specs.Checks.{asks, breaks, lacks, lowest, missing}
-use Rattle.message.specs.Message.{codeOf, fieldText, methodOf, numberOf, first}
+use Rattle.message.specs.Message.{codeOf, fieldText, methodOf, numberOf, firstSetting}
 use Rattle.message.specs.declared.checking.Check.the-variants.{Good, Fault}
 use Rattle.message.specs.declared.envelopes.Envelope.the-variants as envelopes
 use Rattle.message.specs.declared.envelopes.Envelope.{Envelope}
@@ -31,30 +30,24 @@ use Rattle.message.specs.declared.facts.Facts.{Facts}
 use Rattle.message.specs.inner.Facts.{Asked, EnvelopeSays, FactsOf, OpeningSays, SentSays, ToldSays, faulty, nineFrom}
 use Rattle.octets.specs.Class.{all}
 use Rattle.rules.specs.Address.{addressOf}
-use Rattle.rules.specs.Fields.{isIn, tagAsks}
-use Rattle.rules.specs.Sequence.{cseqMethod, cseqNumber, sequenceOf, sequenceRule}
+use Rattle.rules.specs.Asks.{isIn, tagAsks}
+use Rattle.rules.specs.Sequence.{sequenceOf, sequenceRule}
 use Rattle.rules.specs.Status.{statusOf, statusRule}
-use Rattle.rules.specs.Texts.{unescaped}
+use Rattle.rules.specs.Texts.{noBackslash}
 use Rattle.rules.specs.declared.addresses.Address.{Address}
 use borrow.Author.Tests.{eq-eqb, eqb-false, lt-ltb, ne-eqb}
 use lib.Dec.{eqb, ltb}
 use lib.ListN.{getD}
-use mathlib.Core.Bool.{Bool, true, false, not, _&&_, cond}
+use mathlib.Core.Bool.{true, false, _&&_, and-false}
 use mathlib.Core.List.{List}
-use mathlib.Core.Path.{_≡_, refl, sym, ap, _∙_}
-use native.Mathlib.Decide.{ℕ-discrete}
+use mathlib.Core.Path.{_≡_, refl, ap, _∙_}
 use native.Mathlib.Omega.{arith}
-
-and-off : (a b : Bool) → (a && (b && false)) ≡ false
-and-off true true = refl
-and-off true false = refl
-and-off false b = refl
 
 -- One field, whose value is v.
 module _ (s : List ℕ) (k : Setting) (t : List ℕ) (n : ℕ) (low : 0 < n) (high : n < 27) {v : List ℕ} (is : v ≡ bytes s (getD t n 0)) where
   pub passing : keeps k n v ≡ true → nineFrom s true k t n ≡ nineFrom s true k t (n + 1)
   unfolding breaks
-  passing e = passes s true k t n high (rw (← is, e) (and-off (ltb 0 (asks true k n)) (ltb 0 (getD t n 0))))
+  passing e = passes s true k t n high (rw (← is, e, and-false (ltb 0 (getD t n 0))) (and-false (ltb 0 (asks true k n))))
 
   pub stopping : {p r : ℕ} → breaks s true k t n ≡ faulty s k t n → keeps k n v ≡ false → p ≡ 0 → r ≡ getD t n 0 + p → nineFrom s true k t n ≡ Fault 9 r
   stopping a e z w = stops s true k t n high low z w (a ∙ rw (← is, e))
@@ -63,7 +56,7 @@ module _ (s : List ℕ) (k : Setting) (t : List ℕ) (n : ℕ) (low : 0 < n) (hi
 module _ (s : List ℕ) (t : List ℕ) where
   sequence-is : (u : List ℕ) → ruled sequenceRule u ≡ true → sequenceRule (textOf u) ≡ true
   unfolding ruled freely
-  sequence-is u e = and-parts (all unescaped (textOf u)) (sequenceRule (textOf u)) (and-parts (isString u) (all unescaped (textOf u) && sequenceRule (textOf u)) e .1) .1
+  sequence-is u e = and-parts (all noBackslash (textOf u)) (sequenceRule (textOf u)) (and-parts (isString u) (all noBackslash (textOf u) && sequenceRule (textOf u)) e .1) .1
 
   module _ {v : List ℕ} (is : v ≡ bytes s (getD t 1 0)) {n m : ℕ} (e : cseqs.Kept n m ≡ cseqOf v) where
     pub number-told : n ≡ numberOf s t
@@ -98,40 +91,40 @@ module _ (s t : List ℕ) where
   there : (k : Setting) (n : ℕ) → 1 ≤ n → n < 27 → missing true k t ≡ 0 → asks true k n ≡ 1 → breaks s true k t n ≡ faulty s k t n
   unfolding lacks breaks
   there k n low high none a =
-      let l = none-lowest (lacks true k t) 26 1 n (omega arith) none low (omega arith) in
+      let l = lowest-none (lacks true k t) 26 1 n (omega arith) none low (omega arith) in
       let e : eqb (getD t n 0) 0 ≡ false = rw a at l in
       let some : 0 < getD t n 0 = let ne = eqb-false (getD t n 0) 0 e in omega arith in
       rw (a, lt-ltb 0 (getD t n 0) some)
 
-  request-asks : missing true (first 1) t ≡ 0 → Asked s 1 t
+  request-asks : missing true (firstSetting 1) t ≡ 0 → Asked s 1 t
   unfolding nineFrom lowest breaks tagAsks isIn
   request-asks none =
       record {
-        one = there (first 1) 1 (omega arith) (omega arith) none refl;
-        two = there (first 1) 2 (omega arith) (omega arith) none refl;
-        three = there (first 1) 3 (omega arith) (omega arith) none refl;
-        four = there (first 1) 4 (omega arith) (omega arith) none refl;
-        five = there (first 1) 5 (omega arith) (omega arith) none refl;
-        six = there (first 1) 6 (omega arith) (omega arith) none refl;
+        one = there (firstSetting 1) 1 (omega arith) (omega arith) none refl;
+        two = there (firstSetting 1) 2 (omega arith) (omega arith) none refl;
+        three = there (firstSetting 1) 3 (omega arith) (omega arith) none refl;
+        four = there (firstSetting 1) 4 (omega arith) (omega arith) none refl;
+        five = there (firstSetting 1) 5 (omega arith) (omega arith) none refl;
+        six = there (firstSetting 1) 6 (omega arith) (omega arith) none refl;
         seven = refl;
         others = refl;
       }
 
-  response-asks : missing true (first 2) t ≡ 0 → Asked s 2 t
+  response-asks : missing true (firstSetting 2) t ≡ 0 → Asked s 2 t
   unfolding nineFrom lowest breaks tagAsks isIn
   response-asks none =
       record {
-        one = there (first 2) 1 (omega arith) (omega arith) none refl;
-        two = there (first 2) 2 (omega arith) (omega arith) none refl;
-        three = there (first 2) 3 (omega arith) (omega arith) none refl;
-        four = there (first 2) 4 (omega arith) (omega arith) none refl;
-        five = there (first 2) 5 (omega arith) (omega arith) none refl;
-        six = there (first 2) 6 (omega arith) (omega arith) none refl;
-        seven = there (first 2) 7 (omega arith) (omega arith) none refl;
+        one = there (firstSetting 2) 1 (omega arith) (omega arith) none refl;
+        two = there (firstSetting 2) 2 (omega arith) (omega arith) none refl;
+        three = there (firstSetting 2) 3 (omega arith) (omega arith) none refl;
+        four = there (firstSetting 2) 4 (omega arith) (omega arith) none refl;
+        five = there (firstSetting 2) 5 (omega arith) (omega arith) none refl;
+        six = there (firstSetting 2) 6 (omega arith) (omega arith) none refl;
+        seven = there (firstSetting 2) 7 (omega arith) (omega arith) none refl;
         others = refl;
       }
 
-  pub asked : (tag : ℕ) → 0 < tag → tag ≤ 2 → missing true (first tag) t ≡ 0 → Asked s tag t
+  pub asked : (tag : ℕ) → 0 < tag → tag ≤ 2 → missing true (firstSetting tag) t ≡ 0 → Asked s tag t
   asked zero low high none = absurd (omega arith)
   asked (suc zero) low high none = request-asks none
   asked (suc (suc zero)) low high none = response-asks none
@@ -139,41 +132,41 @@ module _ (s t : List ℕ) where
 
 -- Field 7: of a response.
 module _ (s t : List ℕ) {tag : ℕ} (a : Asked s tag t) where
-  pub untold : (tag ≡ 2 → ⊥) → nineFrom s true (first tag) t 7 ≡ Good
-  untold ne = passes s true (first tag) t 7 (omega arith) (a .seven ∙ rw (ne-eqb tag 2 ne)) ∙ a .others
+  pub untold : (tag ≡ 2 → ⊥) → nineFrom s true (firstSetting tag) t 7 ≡ Good
+  untold ne = passes s true (firstSetting tag) t 7 (omega arith) (a .seven ∙ rw (ne-eqb tag 2 ne)) ∙ a .others
 
   module _ (two : tag ≡ 2) {v : List ℕ} (is : v ≡ bytes s (getD t 7 0)) where
-    by-status : keeps (first tag) 7 v ≡ freely statusRule v
+    by-status : keeps (firstSetting tag) 7 v ≡ freely statusRule v
     unfolding keeps statusField
     by-status = rw two
 
-    pub status-broken : {p r : ℕ} → freely statusRule v ≡ false → p ≡ 0 → r ≡ getD t 7 0 + p → nineFrom s true (first tag) t 7 ≡ Fault 9 r
-    status-broken e z w = stopping s (first tag) t 7 (omega arith) (omega arith) is (a .seven ∙ rw (eq-eqb tag 2 two)) (by-status ∙ e) z w
+    pub status-broken : {p r : ℕ} → freely statusRule v ≡ false → p ≡ 0 → r ≡ getD t 7 0 + p → nineFrom s true (firstSetting tag) t 7 ≡ Fault 9 r
+    status-broken e z w = stopping s (firstSetting tag) t 7 (omega arith) (omega arith) is (a .seven ∙ rw (eq-eqb tag 2 two)) (by-status ∙ e) z w
 
-    pub status-kept : freely statusRule v ≡ true → nineFrom s true (first tag) t 7 ≡ Good
-    status-kept e = passing s (first tag) t 7 (omega arith) (omega arith) is (by-status ∙ e) ∙ a .others
+    pub status-kept : freely statusRule v ≡ true → nineFrom s true (firstSetting tag) t 7 ≡ Good
+    status-kept e = passing s (firstSetting tag) t 7 (omega arith) (omega arith) is (by-status ∙ e) ∙ a .others
 
 -- All of them, by what the three parts say.
 module _ (s t : List ℕ) (tag : ℕ) {o : Opening} where
-  pub first-fault : {p : ℕ} → o ≡ openings.Broken p → OpeningSays s tag t o → nineFrom s true (first tag) t 1 ≡ Fault 9 p
+  pub first-fault : {p : ℕ} → o ≡ openings.Broken p → OpeningSays s tag t o → nineFrom s true (firstSetting tag) t 1 ≡ Fault 9 p
   first-fault e h = rw e at h
 
   module _ {number method : ℕ} {to from : Address} (e : o ≡ openings.Kept number method to from) (h : OpeningSays s tag t o) where
     opened : OpeningSays s tag t (openings.Kept number method to from)
     opened = rw e at h
 
-    pub second-fault : {r : Sent} {p : ℕ} → r ≡ sents.Broken p → SentSays s tag t r → nineFrom s true (first tag) t 1 ≡ Fault 9 p
+    pub second-fault : {r : Sent} {p : ℕ} → r ≡ sents.Broken p → SentSays s tag t r → nineFrom s true (firstSetting tag) t 1 ≡ Fault 9 p
     second-fault f g = opened .0 ∙ (rw f at g)
 
     module _ {r : Sent} {trail : Trail} (f : r ≡ sents.Kept trail) (g : SentSays s tag t r) where
       was-sent : SentSays s tag t (sents.Kept trail)
       was-sent = rw f at g
 
-      pub third-fault : {l : Told} {p : ℕ} → l ≡ tolds.Broken p → ToldSays s tag t l → nineFrom s true (first tag) t 1 ≡ Fault 9 p
+      pub third-fault : {l : Told} {p : ℕ} → l ≡ tolds.Broken p → ToldSays s tag t l → nineFrom s true (firstSetting tag) t 1 ≡ Fault 9 p
       third-fault i j = opened .0 ∙ was-sent .0 ∙ (rw i at j)
 
       pub all-told : {l : Told} {code : ℕ} → l ≡ tolds.Kept code → ToldSays s tag t l
-          → (nineFrom s true (first tag) t 1 ≡ Good) × FactsOf s tag t (record { number = number; method = method; to = to; from = from; trail = trail; code = code })
+          → (nineFrom s true (firstSetting tag) t 1 ≡ Good) × FactsOf s tag t (record { number = number; method = method; to = to; from = from; trail = trail; code = code })
       all-told {l} {code} i j =
           let k : ToldSays s tag t (tolds.Kept code) = rw i at j in (
             opened .0 ∙ was-sent .0 ∙ k .0,
@@ -189,8 +182,8 @@ module _ (s t : List ℕ) (tag : ℕ) {o : Opening} where
 
 -- What the envelope says, by its answer.
 module _ (s t : List ℕ) (tag : ℕ) {r : Envelope} where
-  pub envelope-kept : {f : Facts} → r ≡ envelopes.Kept f → EnvelopeSays s tag t r → (nineFrom s true (first tag) t 1 ≡ Good) × FactsOf s tag t f
+  pub envelope-kept : {f : Facts} → r ≡ envelopes.Kept f → EnvelopeSays s tag t r → (nineFrom s true (firstSetting tag) t 1 ≡ Good) × FactsOf s tag t f
   envelope-kept e h = rw e at h
 
-  pub envelope-broken : {p : ℕ} → r ≡ envelopes.Broken p → EnvelopeSays s tag t r → nineFrom s true (first tag) t 1 ≡ Fault 9 p
+  pub envelope-broken : {p : ℕ} → r ≡ envelopes.Broken p → EnvelopeSays s tag t r → nineFrom s true (firstSetting tag) t 1 ≡ Fault 9 p
   envelope-broken e h = rw e at h

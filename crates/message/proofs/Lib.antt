@@ -2,6 +2,7 @@ pub mod PartyLaws
 pub mod CheckLaws
 pub mod EnvelopeLaws
 pub mod FactLaws
+pub mod DisagreeLaws
 pub mod ShapeLaws
 pub mod WalkLaws
 pub mod ReadingLaws

@@ -20,13 +20,13 @@ use Rattle.octets.specs.Text.{same, standsAt}
 use Rattle.rules.specs.Address.{addressOf, calleeEnd, calleeRule, callerEnd, callerRule, userEnd}
 use Rattle.rules.specs.Classes.{holds}
 use Rattle.rules.specs.Date.{dateRule, daysIn, leap}
-use Rattle.rules.specs.Fields.{isIn, methodAsks, tagAsks}
+use Rattle.rules.specs.Asks.{isIn, methodAsks, tagAsks}
 use Rattle.rules.specs.Pieces as pieces
 use Rattle.rules.specs.Pieces.{digits, wordNumberFrom, reads, runLength, decimalAt, within}
 use Rattle.rules.specs.Sequence as sequence
 use Rattle.rules.specs.Sequence.{numberEnd, sequenceOf, sequenceRule}
 use Rattle.rules.specs.Status.{statusRule}
-use Rattle.rules.specs.Texts.{callIdRule, destinationRule, hostRule, organizationRule, unescaped}
+use Rattle.rules.specs.Texts.{callIdRule, destinationRule, hostRule, organizationRule, noBackslash}
 use Rattle.utf8.specs.Rfc3629.{begins, charAt, goesOn, octets}
 use lib.ListN.{replicate}
 use mathlib.Core.Bool.{false, true}
@@ -65,9 +65,9 @@ pub rows :
 unfolding reading octets charAt begins goesOn from walk step isWs begin opens point expo ends stops shaped tagOf tagAt objectOf elements elementsFrom more follows past spaces
     behind size left unmarked isMark isOpen isShut raw closing part wordNumberFrom same standsAt members membersFrom memberAt valueOf next known repeated has numberAt note noted
     judged checked lacks breaks lowest tagAsks methodAsks isIn keeps ruled freely isString isArray textOf textAt viaRule isHop hopPlaces hopRule hopKeeps
-    addressRule statusField statusRule dateRule daysIn leap callerRule calleeRule sequenceRule callIdRule destinationRule hostRule organizationRule unescaped reads runLength
+    addressRule statusField statusRule dateRule daysIn leap callerRule calleeRule sequenceRule callIdRule destinationRule hostRule organizationRule noBackslash reads runLength
     decimalAt
-    digits within holds all among isAlnum isDigit isLetter isLower isUpper pieces.hasPiece pieces.behind settingOf methodOf numberOf contentAt sequenceOf numberEnd
+    digits within holds all among isAlnum isDigit isLetter isLower isUpper pieces.hasPiece pieces.pieceEnd settingOf methodOf numberOf contentAt sequenceOf numberEnd
     sequence.cseqNumber sequence.cseqMethod settled agreed disagrees sidesDisagree sameSide fromCaller toCaller addressOf userEnd callerEnd calleeEnd
 rows = (refl, refl, refl, refl, refl, refl)
 
@@ -83,6 +83,6 @@ viaOf n = ascii "[" ++ (hops n ++ ascii "{\"host\":\"h\",\"destination\":\"d\",\
 -- Via: 1–16 objects
 pub via-counts : (viaRule (ascii "[]") ≡ false) × (viaRule (viaOf 0) ≡ true) × (viaRule (viaOf 15) ≡ true) × (viaRule (viaOf 16) ≡ false)
 unfolding viaRule isArray elements elementsFrom more follows past spaces behind size left isOpen isShut isWs isHop hopPlaces hopRule hopKeeps noted repeated has note numberAt
-    members membersFrom memberAt valueOf next raw closing part wordNumberFrom same ruled freely isString textOf unescaped hostRule destinationRule organizationRule reads
-    pieces.hasPiece pieces.behind runLength within holds among all isAlnum isDigit isLetter isLower isUpper
+    members membersFrom memberAt valueOf next raw closing part wordNumberFrom same ruled freely isString textOf noBackslash hostRule destinationRule organizationRule reads
+    pieces.hasPiece pieces.pieceEnd runLength within holds among all isAlnum isDigit isLetter isLower isUpper
 via-counts = (refl, refl, refl, refl)

@@ -1,5 +1,6 @@
 -- What is gathered of an object depends on its members as they are read alone, names and values (`spell`), and not on where they stand: whether a
 -- known name stands twice (`once-by`, `by-once`), which are there and with what value (`noted-by`). Assumes nothing.
+use Rattle.message.proofs.CheckLaws.{pick-none}
 use Rattle.octets.proofs.TestLaws.{or-none}
 use Prim.Native.Nat.{ℕ, zero, suc, _+_, _<_}
 use Rattle.json.proofs.PlaceLaws.{past-low, behind-low, next-low}
@@ -186,15 +187,11 @@ module _ (ns : List (List ℕ)) (few : (x : List ℕ) → wordNumber ns x < 27) 
       let z : has ns s t q ≡ false = has-not t q (λ h g. found-not (spell s q) (map (spell s) qs) (num q) (a (num q) h g) .0 refl) in
       rw z (once-from (note ns s t q) qs (note-long t q l) (r .1) (apart-on t q (map (spell s) qs) l (r .0) a))
 
-  pick-zero : (b : Bool) (q r : ℕ) → 0 < q → cond b q r ≡ 0 → (b ≡ false) × (r ≡ 0)
-  pick-zero true q r h e = absurd (omega arith)
-  pick-zero false q r h e = (refl, e)
-
   from-once : (t qs : List ℕ) → length t ≡ 27 → Late qs → repeated ns s t qs ≡ 0 → (doubled ns (map (spell s) qs) ≡ false) × Apart t (map (spell s) qs)
   unfolding repeated found doubled num
   from-once t [] l i e = (refl, λ k h g. refl)
   from-once t (q ∷ qs) l i e =
-      let r = pick-zero (has ns s t q) q (repeated ns s (note ns s t q) qs) (i .0) e in
+      let r = pick-none (has ns s t q) q (repeated ns s (note ns s t q) qs) (i .0) e in
       let x = from-once (note ns s t q) qs (note-long t q l) (i .1) (r .1) in
       let first : 0 < num q → found ns (num q) (map (spell s) qs) ≡ false = λ h. x .1 (num q) h (omega (arith, note-same t q l h, value-late s q (i .0))) in (
         parts-doubled (spell s q) (map (spell s) qs) first (x .0),

@@ -1,9 +1,9 @@
 -- Row 6: what the elements of the outer array are, one law for each way that `shape_of` goes. Assumes nothing.
+use Rattle.json.proofs.TurnLaws.{no-elements, some-elements, one-element, comma, no-comma}
 use Rattle.message.specs.inner.Shaping.{openAt, openOf, Shaped}
 use Prim.Native.Nat.{ℕ, _+_, _-_, _≤_, _<_}
 use Rattle.json.specs.Places.{past, follows, more, raw, elements, elementsFrom}
-use Rattle.fields.proofs.ElementLaws.{no-elements, some-elements, one-element}
-use Rattle.fields.proofs.GatherLaws.{comma, no-comma, from-few}
+use Rattle.fields.proofs.GatherLaws.{from-few}
 use Rattle.message.specs.Shape.{pair, tagAt, tagOf, objectOf}
 use Rattle.rules.proofs.NameLaws.{place-below}
 use Rattle.rules.specs.Names.{tags}

@@ -1,5 +1,7 @@
 -- One walk over a text of the usual shape: its beginning, one turn for each member, its end. The machine's answer is carried along from place to
 -- place, and beside it what is gathered so far; where the walk breaks off, the text has not the usual shape. Assumes nothing.
+use Rattle.json.proofs.TurnLaws.{no-more, one-more, comma, no-comma, there}
+use Rattle.octets.proofs.TestLaws.{and-parts}
 use Rattle.message.specs.inner.Shaping.{Shaped}
 use Rattle.fields.specs.inner.Gathering.{endsOf, Ended}
 use Prim.Native.Nat.{ℕ, _+_, _-_, _≤_, _<_}
@@ -16,31 +18,23 @@ use Rattle.json.specs.inner.Passing.{isEnd, passed}
 use Rattle.json.specs.Places.{past, behind, part, valueOf, follows, more, members, membersFrom, isWs}
 use Rattle.json.specs.declared.Walked.the-variants.{End, Bad, Deep}
 use Rattle.json.specs.declared.Walked.{Walked}
-use Rattle.fields.proofs.GatherLaws.{Sofar, started, over, repeats, goes-on, no-more, one-more, comma, no-comma, has-is, note-is, number-is, no-ends, note-ends, ends-known, there}
+use Rattle.fields.proofs.GatherLaws.{Sofar, started, over, repeats, goes-on, has-is, note-is, number-is, no-ends, note-ends, ends-known}
 use Rattle.message.proofs.ShapeLaws.{no-array, no-tag, one-alone, no-object, three, a-pair, object-opens, tag-few}
 use Rattle.fields.specs.Known.{numberAt, empty, noted, repeated}
 use Rattle.message.specs.Reading.{judged, known, shaped, onJson}
 use Rattle.message.specs.Shape.{tagOf, objectOf}
-use Rattle.message.specs.inner.Walk.{isOnce, isUsual, fieldsOf, isListed, Begins, Begun, Listed, Usual}
+use Rattle.message.specs.inner.Walk.{isOnce, isUsual, fieldPlaces, isListed, Opening, Begun, Listed, Usual}
 use Rattle.rules.specs.Names.{fields, tags}
 use Rattle.rules.specs.Pieces.{wordNumber}
 use borrow.Author.Tests.{ne-eqb, lt-ltb, ltb-true, ltb-false, eqb-true}
 use lib.Dec.{eqb, ltb}
 use lib.ListN.{length, getD, set}
-use mathlib.Core.Bool.{Bool, true, false, _&&_, cond}
+use mathlib.Core.Bool.{Bool, true, false, _&&_, and-false, cond}
 use mathlib.Core.List.{List, [], _∷_}
 use mathlib.Core.Logic.{_⊎_, inl, inr}
 use mathlib.Core.Path.{_≡_, refl, sym, ap, _∙_}
 use native.Mathlib.Decide.{ℕ-discrete}
 use native.Mathlib.Omega.{arith}
-
-and-false : (b : Bool) → (b && false) ≡ false
-and-false true = refl
-and-false false = refl
-
-and-true : (a b : Bool) → (a && b) ≡ true → (a ≡ true) × (b ≡ true)
-and-true true b e = (refl, e)
-and-true false b e = let z : _≡_ {A = ℕ} 0 1 = cc in absurd (omega arith)
 
 -- The members of the object at o.
 
@@ -191,7 +185,7 @@ module _ (s : List ℕ) where
   unfolding isUsual
   not-listed e = rw (e, and-false (ltb 0 (tagOf s))) (and-false (isEnd (answer s)))
 
-  pub no-beginning : {tag o : ℕ} → isUsual s ≡ false → tag ≡ 0 → Begins s tag o
+  pub no-beginning : {tag o : ℕ} → isUsual s ≡ false → tag ≡ 0 → Opening s tag o
   no-beginning e z = record { known = λ h. absurd (omega arith); unknown = λ h. e }
 
   pub no-walk : {tag : ℕ} {at end : List ℕ} → isUsual s ≡ false → (tag ≡ 0) × ((at ≡ empty) × (end ≡ empty)) → Usual s tag at end
@@ -263,7 +257,7 @@ module _ (s : List ℕ) {o : ℕ} (at-o : o ≡ past s 0) where
                     three = λ z. three s at-o at-x (length s) refl (omega arith) quote at-follow more-one (omega arith) at-y refl z (omega arith) .untagged;
                   }
 
-              pub begins : Begins s tag y
+              pub begins : Opening s tag y
               begins = record { known = λ h. begun; unknown = λ z. untagged s (by z (ℕ-discrete (getD s (follows s y) 0) 44)) }
                 where
                   by : tag ≡ 0 → Dec (getD s (follows s y) 0 ≡ 44) → 0 ≡ tagOf s
@@ -307,7 +301,7 @@ module _ {s : List ℕ} {tag o e : ℕ} {t es : List ℕ} (some : 0 < tag) (b : 
     is-listed = by (isListed s o) refl (l .behind)
       where
         by : (x : Bool) → isListed s o ≡ x → e ≡ cond x (passed 7 s o) 0 → (passed 7 s o ≡ e) × (isOnce s (members s o) ≡ true)
-        by true g h = (sym h, and-true (ltb 0 (passed 7 s o)) (isOnce s (members s o)) g .1)
+        by true g h = (sym h, and-parts (ltb 0 (passed 7 s o)) (isOnce s (members s o)) g .1)
         by false g h = absurd (omega arith)
 
     object-end : one 7 s o ≡ End e
@@ -354,7 +348,7 @@ module _ {s : List ℕ} {tag o e : ℕ} {t es : List ℕ} (some : 0 < tag) (b : 
             ∙ dead-end s after (text 8) w h (trail (getD s w 0) (ap (λ (j : ℕ). isWs (getD s j 0)) at-w ∙ past-ink s (z + 1) (omega (arith, at-w)))))
 
         pub usual : length s ≤ w → w ≤ length s → Usual s tag t es
-        unfolding isUsual fieldsOf
+        unfolding isUsual fieldPlaces
         usual low high =
             let shape : Shaped s tag o = b .two (λ g. let y = ap (λ (i : ℕ). getD s i 0) z-follows in omega (arith, array)) in
             let at : o ≡ objectOf s = object-opens s shape some in
@@ -385,15 +379,15 @@ module _ {s : List ℕ} {tag : ℕ} {t es : List ℕ} (u : Usual s tag t es) (so
   pub usual-ends : Ended s t es
   usual-ends =
       let e = is-usual in
-      let f : t ≡ fieldsOf s = rw e at (u .places) in
-      ends-known s t (let g : es ≡ endsOf s (fieldsOf s) = rw e at (u .ends) in rw f g)
+      let f : t ≡ fieldPlaces s = rw e at (u .places) in
+      ends-known s t (let g : es ≡ endsOf s (fieldPlaces s) = rw e at (u .ends) in rw f g)
 
   pub usual-read : judged s tag t ≡ onJson s (answer s)
-  unfolding shaped known isUsual isOnce fieldsOf
+  unfolding shaped known isUsual isOnce fieldPlaces
   usual-read =
-      let e = and-true (isEnd (answer s)) (ltb 0 (tagOf s) && isOnce s (members s (objectOf s))) is-usual in
-      let once = and-true (ltb 0 (tagOf s)) (isOnce s (members s (objectOf s))) (e .1) .1 in
-      let o = and-true (ltb 0 (length (members s (objectOf s)))) (eqb (repeated fields s empty (members s (objectOf s))) 0) once in
+      let e = and-parts (isEnd (answer s)) (ltb 0 (tagOf s) && isOnce s (members s (objectOf s))) is-usual in
+      let once = and-parts (ltb 0 (tagOf s)) (isOnce s (members s (objectOf s))) (e .1) .1 in
+      let o = and-parts (ltb 0 (length (members s (objectOf s)))) (eqb (repeated fields s empty (members s (objectOf s))) 0) once in
       let z = eqb-true (repeated fields s empty (members s (objectOf s))) 0 (o .1) in
       let f : t ≡ noted fields s empty (members s (objectOf s)) = rw is-usual at (u .places) in
       sym (by (answer s) (e .0) ∙ rw (← is-tag, ne-eqb tag 0 (λ y. omega arith), z, ← f))

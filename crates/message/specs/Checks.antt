@@ -6,7 +6,7 @@ use Rattle.fields.specs.Field.{keeps, faultAt}
 use Rattle.message.specs.declared.checking.Check.the-variants.{Good, Fault}
 use Rattle.message.specs.declared.checking.Check.{Check}
 use Rattle.fields.specs.declared.judging.Setting.{Setting}
-use Rattle.rules.specs.Fields.{tagAsks, methodAsks}
+use Rattle.rules.specs.Asks.{tagAsks, methodAsks}
 use Rattle.rules.specs.Numbers.{required, unlisted}
 use lib.Dec.{eqb, ltb}
 use lib.ListN.{getD}

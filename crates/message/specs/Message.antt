@@ -1,6 +1,6 @@
 -- What is read of a message (01 Reading): facts, each a function of the text s and of the places t of its known fields; and row 10, where
 -- fields disagree. Assumes nothing.
-use Prim.Native.Nat.{ℕ, _+_, _<_}
+use Prim.Native.Nat.{ℕ, _+_}
 use Rattle.json.specs.Places.{bytes}
 use Rattle.fields.specs.Trail.{noTrail, trailIn, moved}
 use Rattle.fields.specs.Spans.{textAt, spanIn, nowhere, textSpan}
@@ -26,7 +26,6 @@ use lib.Dec.{eqb}
 use lib.ListN.{getD}
 use mathlib.Core.Bool.{Bool, true, false, not, _&&_, _||_, cond}
 use mathlib.Core.List.{List}
-use mathlib.Core.Path.{_≡_}
 
 -- the text of field n
 abbrev pub fieldText : List ℕ → List ℕ → ℕ → List ℕ
@@ -77,8 +76,8 @@ unfoldable pub secureOf : List ℕ → Setting → ℕ → Bool
 secureOf s k v = (eqb (k .tag) tagRequest && eqb (k .method) methodInvite) && same (bytes s v) (ascii "true")
 
 -- what the rules see besides their value on the run of the tag: no method and no Content-Type yet
-abbrev pub first : ℕ → Setting
-first tag = record { tag = tag; method = 0; content = 0 }
+abbrev pub firstSetting : ℕ → Setting
+firstSetting tag = record { tag = tag; method = 0; content = 0 }
 
 -- what the rules of a request or a response see on the run of its method
 unfoldable pub settingOf : List ℕ → ℕ → List ℕ → Setting
@@ -144,11 +143,11 @@ calleeSpan v (addresses.Callee fire) = spanIn v 12 fire
 calleeSpan v addresses.Broken = nowhere
 
 -- where the caller's address stands, From if the message is from a caller, else To; and the callee's, the other one
-unfoldable pub callerAt : Bool → List ℕ → ℕ
-callerAt from t = cond from (getD t fieldFrom 0) (getD t fieldTo 0)
+unfoldable pub callerPlace : Bool → List ℕ → ℕ
+callerPlace from t = cond from (getD t fieldFrom 0) (getD t fieldTo 0)
 
-unfoldable pub calleeAt : Bool → List ℕ → ℕ
-calleeAt from t = cond from (getD t fieldTo 0) (getD t fieldFrom 0)
+unfoldable pub calleePlace : Bool → List ℕ → ℕ
+calleePlace from t = cond from (getD t fieldTo 0) (getD t fieldFrom 0)
 
 -- The message: the facts that the keeper and the writer go by, the places of the five values that a reply copies, where the texts stand
 -- that name the call and its parties, and the trail, by places of the message.
@@ -168,9 +167,9 @@ messageOf s k t =
       call = getD t fieldCallId 0;
       via = getD t fieldVia 0;
       callid = textSpan s (getD t fieldCallId 0);
-      user = userSpan (callerAt (fromCaller s t) t) (addressOf (textAt s (callerAt (fromCaller s t) t)));
-      callerfire = callerSpan (callerAt (fromCaller s t) t) (addressOf (textAt s (callerAt (fromCaller s t) t)));
-      calleefire = calleeSpan (calleeAt (fromCaller s t) t) (addressOf (textAt s (calleeAt (fromCaller s t) t)));
+      user = userSpan (callerPlace (fromCaller s t) t) (addressOf (textAt s (callerPlace (fromCaller s t) t)));
+      callerfire = callerSpan (callerPlace (fromCaller s t) t) (addressOf (textAt s (callerPlace (fromCaller s t) t)));
+      calleefire = calleeSpan (calleePlace (fromCaller s t) t) (addressOf (textAt s (calleePlace (fromCaller s t) t)));
       trail = moved (getD t fieldVia 0) (trailIn (bytes s (getD t fieldVia 0)));
     }
 

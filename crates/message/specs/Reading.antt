@@ -11,7 +11,7 @@ use Rattle.json.specs.declared.Walked.the-variants as walked
 use Rattle.json.specs.declared.Walked.{Walked}
 use Rattle.message.specs.Checks.{checked}
 use Rattle.fields.specs.Known.{empty, noted, repeated}
-use Rattle.message.specs.Message.{first, settingOf, disagrees, messageOf, probeOf}
+use Rattle.message.specs.Message.{firstSetting, settingOf, disagrees, messageOf, probeOf}
 use Rattle.message.specs.Shape.{tagOf, objectOf}
 use Rattle.message.specs.declared.checking.Check.the-variants.{Good, Fault}
 use Rattle.message.specs.declared.checking.Check.{Check}
@@ -25,7 +25,7 @@ use Rattle.utf8.specs.declared.Verdict.the-variants as verdicts
 use Rattle.utf8.specs.declared.Verdict.{Verdict}
 use lib.Dec.{eqb, leb, ltb}
 use lib.ListN.{length}
-use mathlib.Core.Bool.{Bool, true, false, _&&_, cond}
+use mathlib.Core.Bool.{true, false, _&&_, cond}
 use mathlib.Core.List.{List}
 
 -- a fault is refused; else it goes on
@@ -44,7 +44,7 @@ settled s k t = cond (eqb (k .tag) tagRequest) (unless (checked s false k t) (ag
 -- the first run, on the fields of the tag; a ping or a pong ends there
 unfoldable pub judged : List ℕ → ℕ → List ℕ → Reading
 judged s tag t =
-    unless (checked s true (first tag) t) (cond (ltb tagResponse tag) (Read (probeOf tag)) (settled s (settingOf s tag t) t))
+    unless (checked s true (firstSetting tag) t) (cond (ltb tagResponse tag) (Read (probeOf tag)) (settled s (settingOf s tag t) t))
 
 -- row 7, a known name twice, at the opening quote of the first repeat; else on to row 8
 unfoldable pub known : List ℕ → ℕ → List ℕ → Reading

@@ -1,14 +1,13 @@
 -- 01 Reading, row 6: an array of two, a tag and then an object. Assumes nothing.
 use Prim.Native.Char.{code}
-use Prim.Native.Nat.{ℕ, _<_}
+use Prim.Native.Nat.{ℕ}
 use Rattle.json.specs.Places.{past, raw, elements}
 use Rattle.rules.specs.Names.{tags}
 use Rattle.rules.specs.Pieces.{wordNumber}
 use lib.Dec.{eqb}
-use lib.ListN.{length, getD}
+use lib.ListN.{getD}
 use mathlib.Core.Bool.{_&&_, cond}
 use mathlib.Core.List.{List, [], _∷_}
-use mathlib.Core.Path.{_≡_}
 
 -- what f says of a list of exactly two; 0 of any other
 abbrev pub pair : List ℕ → (ℕ → ℕ → ℕ) → ℕ

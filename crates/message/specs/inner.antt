@@ -1,3 +1,4 @@
 pub mod Facts
+pub mod Named
 pub mod Shaping
 pub mod Walk

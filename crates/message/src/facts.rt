@@ -1,42 +1,27 @@
-// What is read of a message, and row 10, where fields disagree (01 Reading).
+// What is read of a message (01 Reading): what its fields tell on the way through row 9, and the facts that go on.
 use fields::Setting;
 use fields::Span;
 use fields::Trail;
 use fields::no_trail;
-use fields::text_at;
 use fields::text_span;
 use fields::value_at;
 use octets::and;
-use octets::or;
 use octets::same;
-use rules::ACK;
 use rules::CALL_ID;
-use rules::CALL_MODE;
-use rules::CALLBACK;
-use rules::CANCEL;
-use rules::CONTENT_TYPE;
 use rules::CSEQ;
 use rules::FROM;
 use rules::INVITE;
-use rules::MESSAGE;
-use rules::NOTIFY;
-use rules::REFER;
 use rules::REQUEST;
-use rules::REQUEST_SERVICE;
-use rules::RESPONSE;
 use rules::SECURE_CALL;
-use rules::TEXT_CONTENT;
 use rules::TO;
 use rules::VIA;
 ghost use Rattle.fields.specs.inner.Asked.{Within};
 ghost use Rattle.fields.specs.inner.Gathering.{Ended};
-ghost use mathlib.Core.Bool.{_&&_, cond};
+ghost use mathlib.Core.Bool.{cond};
 ghost use mathlib.Core.Path.{_≡_};
-ghost use Prim.Native.Nat.{_<_, _+_, _-_};
-ghost use lib.Dec.{eqb};
-ghost use lib.ListN.{getD};
+ghost use Prim.Native.Nat.{_<_, _-_};
 ghost use Rattle.json.specs.Places.{behind};
-ghost use Rattle.message.specs.Message.{calleeSpan, callerSpan, callbackTraining, callerIn, contentAt, disagrees, messageOf, methodOf, probeOf, requestDisagrees, responseDisagrees, sameSide, secureOf, sidesDisagree, settingOf, userSpan, wrongNumber, wrongSide};
+ghost use Rattle.message.specs.Message.{calleeSpan, callerSpan, callerIn, messageOf, probeOf, secureOf, userSpan};
 ghost use Rattle.message.specs.inner.Facts.{FactsOf, PartiesOf, Placed};
 ghost use Rattle.fields.specs.Trail.{moved};
 
@@ -72,33 +57,8 @@ pub struct Message {
     pub trail: Trail,
 }
 
-// From and To on the same side.
-fn same_side(from: bool, to: bool) -> bool
-    ensures { λ r. ⌜ r ≡ sameSide from to ⌝ }
-{
-    or(and(from, to), and(!from, !to))
-}
-
-// INVITE, CANCEL, ACK, NOTIFY not from a caller; CALLBACK, REFER not from a callee.
-fn wrong_side(m: u8, from: bool) -> bool
-    ensures { λ r. ⌜ r ≡ wrongSide m from ⌝ }
-{
-    let inviting = or(m == INVITE, or(m == CANCEL, or(m == ACK, m == NOTIFY)));
-    or(
-        and(inviting, !from),
-        and(or(m == CALLBACK, m == REFER), from),
-    )
-}
-
-// CALLBACK numbered other than 1.
-fn wrong_number(m: u8, n: u32) -> bool
-    ensures { λ r. ⌜ r ≡ wrongNumber m n ⌝ }
-{
-    and(m == CALLBACK, !(n == 1))
-}
-
 // Whether an address is a caller's.
-fn side_of(a: rules::Address) -> bool
+pub fn side_of(a: rules::Address) -> bool
     ensures { λ r. ⌜ r ≡ callerIn a ⌝ }
 {
     match a {
@@ -106,65 +66,6 @@ fn side_of(a: rules::Address) -> bool
         rules::Address::Callee(_) => false,
         rules::Address::Broken => false,
     }
-}
-
-// The number of the Content-Type at v, 0 where there is none.
-fn content_at(s: &[u8], v: usize, e: usize) -> u8
-    requires { ⌜ (0 < e → e ≡ behind (now s) v) ⌝ }
-    ensures { λ r. ⌜ r ≡ contentAt (now (s .entry)) v ⌝ }
-{
-    if v == 0 {
-        return 0;
-    }
-    rules::content_type(text_at(s, v, e))
-}
-
-// An INVITE with `callback` and `training`: its Request-Service and its Call-Mode.
-fn is_callback_training(s: &[u8], at: &[usize; 27], end: &[usize; 27]) -> bool
-    requires { ⌜ Ended (now s) (now at) (now end) ⌝ }
-    ensures { λ r. ⌜ r ≡ callbackTraining (now (s .entry)) (getD (now (at .entry)) 19 0) (getD (now (at .entry)) 15 0) ⌝ }
-{
-    and(
-        same(
-            text_at(s, at[REQUEST_SERVICE], end[REQUEST_SERVICE]),
-            b"callback",
-        ),
-        same(text_at(s, at[CALL_MODE], end[CALL_MODE]), b"training"),
-    )
-}
-
-// What only a request can have.
-fn request_disagrees(s: &[u8], k: Setting, at: &[usize; 27], end: &[usize; 27], from: bool) -> bool
-    requires { ⌜ Ended (now s) (now at) (now end) ⌝ }
-    ensures { λ r. ⌜ r ≡ (eqb (k .tag) 1 && requestDisagrees (now (s .entry)) k (now (at .entry)) from) ⌝ }
-{
-    let tag = k.tag;
-    let method = k.method;
-    let content = k.content;
-    if tag != REQUEST {
-        return false;
-    }
-    if method == INVITE {
-        return is_callback_training(s, at, end);
-    }
-    and(method == MESSAGE, and(!from, !(content == TEXT_CONTENT)))
-}
-
-// What only a response can have: status 202 outside REFER.
-fn response_disagrees(code: u16, method: u8) -> bool
-    ensures { λ r. ⌜ r ≡ responseDisagrees code method ⌝ }
-{
-    and(code == 202, !(method == REFER))
-}
-
-// What binds both: the sides, and CALLBACK's 1.
-fn sides_disagree(method: u8, number: u32, from: bool, to: bool) -> bool
-    ensures { λ r. ⌜ r ≡ sidesDisagree method number from to ⌝ }
-{
-    or(
-        same_side(from, to),
-        or(wrong_side(method, from), wrong_number(method, number)),
-    )
 }
 
 // Secure-Call of an INVITE request.
@@ -178,34 +79,6 @@ fn secure_of(s: &[u8], k: Setting, v: usize, e: usize) -> bool
         return same(value_at(s, v, e), b"true");
     }
     false
-}
-
-// What the rules of a request or a response see besides their value.
-pub fn setting_of(s: &[u8], tag: u8, method: u8, at: &[usize; 27], end: &[usize; 27]) -> Setting
-    requires { ⌜ (method ≡ methodOf (now s) (now at)) × Ended (now s) (now at) (now end) ⌝ }
-    ensures { λ r. ⌜ (r ≡ settingOf (now (s .entry)) tag (now (at .entry))) × (r .method ≡ method) ⌝ }
-{
-    Setting {
-        tag,
-        method,
-        content: content_at(s, at[CONTENT_TYPE], end[CONTENT_TYPE]),
-    }
-}
-
-// Whether fields disagree.
-pub fn disagree(s: &[u8], k: Setting, f: Facts, at: &[usize; 27], end: &[usize; 27]) -> bool
-    requires { ⌜ FactsOf (now s) (k .tag) (now at) f × Ended (now s) (now at) (now end) ⌝ }
-    ensures { λ r. ⌜ r ≡ disagrees (now (s .entry)) k (now (at .entry)) ⌝ }
-{
-    let tag = k.tag;
-    let method = k.method;
-    let from = f.from;
-    let to = f.to;
-    let sent = side_of(from);
-    let both = sides_disagree(method, f.number, sent, side_of(to));
-    let request = request_disagrees(s, k, at, end, sent);
-    let response = and(tag == RESPONSE, response_disagrees(f.code, method));
-    or(both, or(request, response))
 }
 
 // The user in the address a at v.

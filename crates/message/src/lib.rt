@@ -2,11 +2,13 @@
 // `read` is proved equal to document 01's rows 2 to 10, tried in its order; each field's rule sees the bytes of its own value alone.
 // A caller may count on every place of a message that is read, and gets the texts that name its call here alone.
 mod checking;
+mod disagreeing;
 mod envelopes;
 mod facts;
 mod gathering;
 mod parties;
 mod reading;
+mod settings;
 mod shapes;
 mod walking;
 

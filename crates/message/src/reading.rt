@@ -2,15 +2,15 @@
 use crate::checking::Check;
 use crate::checking::breaking;
 use crate::checking::lacking;
+use crate::disagreeing::disagree;
 use crate::envelopes::Envelope;
 use crate::envelopes::judge_envelope;
 use crate::facts::Facts;
 use crate::facts::Message;
-use crate::facts::disagree;
 use crate::facts::message_of;
 use crate::facts::probe_of;
-use crate::facts::setting_of;
 use crate::gathering::gather;
+use crate::settings::setting_of;
 use crate::shapes::shape_of;
 use crate::walking::walk_text;
 use fields::Setting;
@@ -23,7 +23,7 @@ ghost use mathlib.Core.Bool.{false, true};
 ghost use mathlib.Core.Path.{_≡_};
 ghost use Prim.Native.Nat.{_<_};
 ghost use Rattle.json.specs.inner.Machine.{answer};
-ghost use Rattle.message.specs.Message.{probeOf, first};
+ghost use Rattle.message.specs.Message.{probeOf, firstSetting};
 ghost use Rattle.message.specs.Reading.{agreed, judged, onJson, reading, settled, shaped, unless};
 ghost use Rattle.message.specs.inner.Facts.{FactsOf, nineFrom};
 ghost use Rattle.message.specs.declared.reading.Reading.the-variants.{Read};
@@ -67,7 +67,7 @@ fn settle(s: &[u8], k: Setting, f: Facts, at: &[usize; 27], end: &[usize; 27]) -
 // Row 9 on the fields of a ping or a pong, which is read with it.
 fn settle_probe(s: &[u8], tag: u8, at: &[usize; 27], end: &[usize; 27]) -> Reading
     requires { ⌜ (2 < tag) × ((tag < 5) × Ended (now s) (now at) (now end)) ⌝ }
-    ensures { λ r. ⌜ r ≡ unless (nineFrom (now (s .entry)) true (first tag) (now (at .entry)) 1) (Read (probeOf tag)) ⌝ }
+    ensures { λ r. ⌜ r ≡ unless (nineFrom (now (s .entry)) true (firstSetting tag) (now (at .entry)) 1) (Read (probeOf tag)) ⌝ }
 {
     let k = Setting {
         tag,

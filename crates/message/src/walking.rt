@@ -11,7 +11,7 @@ ghost use mathlib.Core.Path.{_≡_};
 ghost use Prim.Native.Nat.{_<_};
 ghost use lib.ListN.{getD, length};
 ghost use Rattle.fields.specs.Known.{empty};
-ghost use Rattle.message.specs.inner.Walk.{Begins, Listed, Usual};
+ghost use Rattle.message.specs.inner.Walk.{Opening, Listed, Usual};
 
 // The tag's number, and where the object opens; 0 where the text does not begin so.
 struct Beginning {
@@ -27,7 +27,7 @@ fn no_beginning() -> Beginning
 
 // The text up to its object's brace.
 fn begin(s: &[u8]) -> Beginning
-    ensures { λ r. ⌜ Begins (now (s .entry)) (r .tag) (r .object) ⌝ }
+    ensures { λ r. ⌜ Opening (now (s .entry)) (r .tag) (r .object) ⌝ }
 {
     let o = skip(s, 0);
     if byte(s, o) != b'[' {

@@ -19,8 +19,8 @@ ghost use Rattle.net119.specs.Flat.{flatAnswer, flatReading, flatRemoved
 ghost use Rattle.table.specs.Blank.{blankAfter, blankAnswer, madeNumber};
 ghost use Rattle.table.specs.WellFormed.{wellFormed};
 ghost use Rattle.writing.specs.Adding.{adding};
-ghost use Rattle.writing.specs.Outcome.{answered, left};
-ghost use Rattle.writing.specs.Removing.{hostIn, removing, shown};
+ghost use Rattle.writing.specs.Outcome.{answered, outputLeft};
+ghost use Rattle.writing.specs.Removing.{hostIn, removing, hostShown};
 ghost use Rattle.writing.specs.Reply.{replying};
 
 // Reads a message.
@@ -74,7 +74,7 @@ pub extern "C" fn net119_reply(
     date: &[u8],
 ) -> WriteAnswer
     ensures { λ r. ⌜ (r ≡ flatWritten (answered (length (now (out .entry))) (replying (now (message .entry)) code (now (date .entry)))))
-        × (now (out .exit) ≡ left (now (out .entry)) (replying (now (message .entry)) code (now (date .entry)))) ⌝ }
+        × (now (out .exit) ≡ outputLeft (now (out .entry)) (replying (now (message .entry)) code (now (date .entry)))) ⌝ }
 {
     flat_written(writing::reply(out, message, code, date))
 }
@@ -89,7 +89,7 @@ pub extern "C" fn net119_add(
     organization: &[u8],
 ) -> WriteAnswer
     ensures { λ r. ⌜ (r ≡ flatWritten (answered (length (now (out .entry))) (adding (now (message .entry)) (now (host .entry)) (now (destination .entry)) (now (organization .entry)))))
-        × (now (out .exit) ≡ left (now (out .entry)) (adding (now (message .entry)) (now (host .entry)) (now (destination .entry)) (now (organization .entry)))) ⌝ }
+        × (now (out .exit) ≡ outputLeft (now (out .entry)) (adding (now (message .entry)) (now (host .entry)) (now (destination .entry)) (now (organization .entry)))) ⌝ }
 {
     flat_written(writing::add(out, message, host, destination, organization))
 }
@@ -103,8 +103,8 @@ pub extern "C" fn net119_remove(
     destination: &[u8],
     organization: &[u8],
 ) -> RemoveAnswer
-    ensures { λ r. ⌜ (r ≡ flatRemoved (shown (hostIn (reading (now (message .entry)))) (answered (length (now (out .entry))) (removing (now (message .entry)) (now (host .entry)) (now (destination .entry)) (now (organization .entry))))))
-        × (now (out .exit) ≡ left (now (out .entry)) (removing (now (message .entry)) (now (host .entry)) (now (destination .entry)) (now (organization .entry)))) ⌝ }
+    ensures { λ r. ⌜ (r ≡ flatRemoved (hostShown (hostIn (reading (now (message .entry)))) (answered (length (now (out .entry))) (removing (now (message .entry)) (now (host .entry)) (now (destination .entry)) (now (organization .entry))))))
+        × (now (out .exit) ≡ outputLeft (now (out .entry)) (removing (now (message .entry)) (now (host .entry)) (now (destination .entry)) (now (organization .entry)))) ⌝ }
 {
     flat_removed(writing::remove(out, message, host, destination, organization))
 }

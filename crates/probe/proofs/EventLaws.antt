@@ -19,7 +19,7 @@ use Rattle.probe.specs.Effect.{shows}
 use Rattle.probe.specs.inner.Turned.{Turned}
 use Rattle.showing.proofs.ShownLaws.{says}
 use Rattle.showing.specs.Shown.{unknown}
-use Rattle.showing.specs.Words.{bytesOf, firstWord, hasSpace, isBytes, numeral, rest}
+use Rattle.showing.specs.Words.{hexBytes, firstWord, hasSpace, isBytes, numeral, rest}
 use lib.ListN.{drop, length, take}
 use lib.Seq.{take-at}
 use mathlib.Core.Bool.{Bool, true, false}
@@ -96,6 +96,6 @@ module _ (t : List ℕ) (tick : Bool) (words : List ℕ) where
     no-time k v = simp (e, k, v)
 
     pub an-event : (time : ℕ) → isBytes (rest words) ≡ true → numeral (firstWord words) ≡ Value time
-        → eventDone t tick words ≡ stepDone (eventOn t tick time (bytesOf (rest words)))
+        → eventDone t tick words ≡ stepDone (eventOn t tick time (hexBytes (rest words)))
     unfolding eventDone
     an-event time k v = simp (e, k, v)

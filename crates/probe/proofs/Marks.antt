@@ -1,6 +1,6 @@
 -- Lines of the probe on any held table, computed from the definition. Assumes nothing.
 use Prim.Native.Nat.{ℕ}
-use Rattle.hex.specs.Digits.{decoded, isHex, isHexDigit, worthOf}
+use Rattle.hex.specs.Digits.{decoded, isHex, isLowerHex, worthOf}
 use Rattle.keeper.specs.Keeping.{onMessage, onTick}
 use Rattle.octets.specs.Ascii.{ascii}
 use Rattle.octets.specs.Class.{all, among, isDigit}
@@ -9,7 +9,7 @@ use Rattle.octets.specs.Text.{before, same}
 use Rattle.probe.specs.Commands.{commandDone, lineDone}
 use Rattle.probe.specs.Events.{eventDone, eventOn, stepDone}
 use Rattle.probe.specs.Tables.{blankDone, blankMade}
-use Rattle.showing.specs.Words.{bytesOf, isHexTo, numeral}
+use Rattle.showing.specs.Words.{hexBytes, isHexTo, numeral}
 use Rattle.table.specs.Blank.{blankFits, blankOf}
 use mathlib.Core.List.{List}
 use mathlib.Core.Path.{_≡_, refl}
@@ -19,7 +19,7 @@ module _ (t : List ℕ) where
   pub events :
       (lineDone t (ascii "msg 7 4131") ≡ stepDone (onMessage t 7 (ascii "A1")))
       × (lineDone t (ascii "tick 7 4131") ≡ stepDone (onTick t 7 (ascii "A1")))
-  unfolding lineDone commandDone eventDone eventOn same before isHexTo isHex isHexDigit all among bytesOf decoded worthOf numeral isDigit tens
+  unfolding lineDone commandDone eventDone eventOn same before isHexTo isHex isLowerHex all among hexBytes decoded worthOf numeral isDigit tens
   events = (refl, refl)
 
   -- `blank` holds a blank table, or says `no 1` and the held one stays

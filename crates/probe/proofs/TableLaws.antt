@@ -9,7 +9,7 @@ use Rattle.probe.specs.Tables.{blankDone, blankMade, dumpText, isImage, 
 use Rattle.probe.specs.Effect.{shows}
 use Rattle.probe.specs.inner.Turned.{Turned}
 use Rattle.showing.specs.Shown.{hexed, unknown}
-use Rattle.showing.specs.Words.{bytesOf, firstWord, hasSpace, numberTo, rest}
+use Rattle.showing.specs.Words.{hexBytes, firstWord, hasSpace, numberTo, rest}
 use Rattle.table.specs.Blank.{blankAfter, blankAnswer, blankFits, blankOf, madeIf}
 use Rattle.table.specs.WellFormed.{wellFormed}
 use Rattle.table.specs.declared.blanking.Made.the-variants.{Done, Refused}
@@ -114,6 +114,6 @@ module _ (t w : List ℕ) where
   unfolding tableDone
   no-image e = simp e
 
-  pub image : isImage w ≡ true → tableDone t w ≡ shows (bytesOf w) (verdictText (wellFormed (bytesOf w)))
+  pub image : isImage w ≡ true → tableDone t w ≡ shows (hexBytes w) (verdictText (wellFormed (hexBytes w)))
   unfolding tableDone
   image e = simp e

@@ -12,7 +12,7 @@ use Rattle.octets.specs.declared.decimals.Spelt.the-variants.{Value, Other}
 use Rattle.octets.specs.declared.decimals.Spelt.{Spelt}
 use Rattle.probe.specs.Effect.{shows}
 use Rattle.showing.specs.Shown.{unknown}
-use Rattle.showing.specs.Words.{bytesOf, firstWord, hasSpace, isBytes, numeral, rest}
+use Rattle.showing.specs.Words.{hexBytes, firstWord, hasSpace, isBytes, numeral, rest}
 use mathlib.Core.Bool.{Bool, _&&_, cond}
 use mathlib.Core.List.{List, _++_}
 
@@ -42,5 +42,5 @@ eventAt t tick s Other = shows t unknown
 unfoldable pub eventDone : List ℕ → Bool → List ℕ → Effect
 eventDone t tick words =
     cond (hasSpace words && isBytes (rest words))
-    (eventAt t tick (bytesOf (rest words)) (numeral (firstWord words)))
+    (eventAt t tick (hexBytes (rest words)) (numeral (firstWord words)))
     (shows t unknown)

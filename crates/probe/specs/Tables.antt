@@ -5,7 +5,7 @@ use Rattle.lines.specs.Log.{Effect}
 use Rattle.octets.specs.Ascii.{ascii}
 use Rattle.probe.specs.Effect.{shows}
 use Rattle.showing.specs.Shown.{hexed, unknown}
-use Rattle.showing.specs.Words.{bytesOf, firstWord, hasSpace, isHexTo, numberTo, rest}
+use Rattle.showing.specs.Words.{hexBytes, firstWord, hasSpace, isHexTo, numberTo, rest}
 use Rattle.table.specs.Blank.{blankFits, blankOf}
 use Rattle.table.specs.WellFormed.{wellFormed}
 use lib.Dec.{leb}
@@ -38,4 +38,4 @@ isImage w = isHexTo 131072 w
 
 -- `table HEX`: the image is held as it is
 unfoldable pub tableDone : List ℕ → List ℕ → Effect
-tableDone t w = cond (isImage w) (shows (bytesOf w) (verdictText (wellFormed (bytesOf w)))) (shows t unknown)
+tableDone t w = cond (isImage w) (shows (hexBytes w) (verdictText (wellFormed (hexBytes w)))) (shows t unknown)

@@ -13,7 +13,7 @@ ghost use lib.ListN.{drop, length, take};
 ghost use Rattle.probe.specs.Tables.{blankDone, blankMade, dumpText, tableDone, verdictText};
 ghost use Rattle.probe.specs.inner.Turned.{Turned};
 ghost use Rattle.showing.specs.Shown.{Puts, unknown};
-ghost use Rattle.showing.specs.Words.{bytesOf};
+ghost use Rattle.showing.specs.Words.{hexBytes};
 ghost use Rattle.table.specs.Blank.{blankAfter, blankFits};
 ghost use Rattle.table.specs.WellFormed.{wellFormed};
 
@@ -120,7 +120,7 @@ pub fn blank(out: &mut [u8; 160100], held: &mut [u8; 65536], size: usize, words:
 // Puts the image that a word stands for at the held buffer's front, and answers its size.
 fn take_image(held: &mut [u8; 65536], word: &[u8]) -> usize
     requires { ⌜ length (now word) ≤ 131072 ⌝ }
-    ensures { λ r. ⌜ Puts (now (held .entry)) (bytesOf (now (word .entry))) r (now (held .exit)) ⌝ }
+    ensures { λ r. ⌜ Puts (now (held .entry)) (hexBytes (now (word .entry))) r (now (held .exit)) ⌝ }
 {
     hex::decode(held, word)
 }

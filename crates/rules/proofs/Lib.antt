@@ -1,10 +1,11 @@
 pub mod PieceLaws
 pub mod Table
 pub mod NameLaws
+pub mod EscapeLaws
 pub mod StatusLaws
 pub mod SequenceLaws
 pub mod AddressLaws
 pub mod PartLaws
-pub mod FieldLaws
+pub mod AskLaws
 pub mod DateLaws
 pub mod Marks

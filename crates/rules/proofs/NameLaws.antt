@@ -5,6 +5,7 @@ use mathlib.Core.Bool.{Bool, _&&_, false, true, cond}
 use mathlib.Core.List.{List, _++_, _∷_, []}
 use mathlib.Core.Path.{_∙_, _≡_, ap, refl, sym}
 use native.Mathlib.Omega.{arith}
+use borrow.Author.Tests.{lt-ltb}
 use lib.Dec.{T, eqb, eqb→eq, leb, leb→le, ltb, ltb→lt}
 use lib.ListN.{drop, getD, length, take}
 use Rattle.octets.proofs.TextLaws.{eq-same, same-eq}
@@ -81,19 +82,19 @@ unfolding small
 guess-small i = ltb→lt _ _ (at small 64 tt (i % 64) (omega arith))
 
 -- a word that is found is the word of that number
-pub data Found (ws : List (List ℕ)) (k : ℕ) (x : List ℕ) (n : ℕ) : Type 0 where
-  none : n ≡ 0 → Found ws k x n
-  nth : (j : ℕ) → n ≡ k + j → j < length ws → x ≡ getD ws j [] → Found ws k x n
+pub data Placed (ws : List (List ℕ)) (k : ℕ) (x : List ℕ) (n : ℕ) : Type 0 where
+  none : n ≡ 0 → Placed ws k x n
+  nth : (j : ℕ) → n ≡ k + j → j < length ws → x ≡ getD ws j [] → Placed ws k x n
 
-later : (w : List ℕ) (ws : List (List ℕ)) (k : ℕ) (x : List ℕ) (n : ℕ) → Found ws (k + 1) x n → Found (w ∷ ws) k x n
+later : (w : List ℕ) (ws : List (List ℕ)) (k : ℕ) (x : List ℕ) (n : ℕ) → Placed ws (k + 1) x n → Placed (w ∷ ws) k x n
 later w ws k x n (none e) = none e
 later w ws k x n (nth j e h q) = nth (suc j) (omega arith) (omega arith) q
 
-first : (w : List ℕ) (ws : List (List ℕ)) (k : ℕ) (x : List ℕ) (n : ℕ) (t : Bool) → same x w ≡ t → Found ws (k + 1) x n → Found (w ∷ ws) k x (cond t k n)
+first : (w : List ℕ) (ws : List (List ℕ)) (k : ℕ) (x : List ℕ) (n : ℕ) (t : Bool) → same x w ≡ t → Placed ws (k + 1) x n → Placed (w ∷ ws) k x (cond t k n)
 first w ws k x n true e f = nth 0 (omega arith) (omega arith) (same-eq x w e)
 first w ws k x n false e f = later w ws k x n f
 
-pub found : (ws : List (List ℕ)) (k : ℕ) (x : List ℕ) → Found ws k x (wordNumberFrom ws k x)
+pub found : (ws : List (List ℕ)) (k : ℕ) (x : List ℕ) → Placed ws k x (wordNumberFrom ws k x)
 unfolding wordNumberFrom
 found [] k x = none refl
 found (w ∷ ws) k x = first w ws k x (wordNumberFrom ws (k + 1) x) (same x w) refl (found ws (k + 1) x)
@@ -102,16 +103,50 @@ found (w ∷ ws) k x = first w ws k x (wordNumberFrom ws (k + 1) x) (same x w) r
 pub place-below : (ws : List (List ℕ)) (x : List ℕ) → wordNumber ws x ≤ length ws
 place-below ws x = go (wordNumber ws x) (found ws 1 x)
   where
-    go : (n : ℕ) → Found ws 1 x n → n ≤ length ws
+    go : (n : ℕ) → Placed ws 1 x n → n ≤ length ws
     go n (none e) = omega arith
     go n (nth j e h q) = omega arith
+
+-- whether a text is one of the words does not depend on the number of the first
+pub some-number : (ws : List (List ℕ)) (j k : ℕ) (x : List ℕ) → 0 < j → 0 < k → ltb 0 (wordNumberFrom ws j x) ≡ ltb 0 (wordNumberFrom ws k x)
+unfolding wordNumberFrom
+some-number [] j k x h g = refl
+some-number (w ∷ ws) j k x h g = by (same x w) (some-number ws (j + 1) (k + 1) x (omega arith) (omega arith))
+  where
+    by : (t : Bool) → ltb 0 (wordNumberFrom ws (j + 1) x) ≡ ltb 0 (wordNumberFrom ws (k + 1) x)
+        → ltb 0 (cond t j (wordNumberFrom ws (j + 1) x)) ≡ ltb 0 (cond t k (wordNumberFrom ws (k + 1) x))
+    by true e = rw (lt-ltb 0 j h, lt-ltb 0 k g)
+    by false e = e
+
+-- the number among words and others behind them
+pub number-before : (ws vs : List (List ℕ)) (k : ℕ) (x : List ℕ) → (wordNumberFrom ws k x ≡ 0 → ⊥) → wordNumberFrom (ws ++ vs) k x ≡ wordNumberFrom ws k x
+unfolding wordNumberFrom
+number-before [] vs k x e = absurd (e refl)
+number-before (w ∷ ws) vs k x e = by (same x w) e (number-before ws vs (k + 1) x)
+  where
+    by : (t : Bool) → (cond t k (wordNumberFrom ws (k + 1) x) ≡ 0 → ⊥)
+        → ((wordNumberFrom ws (k + 1) x ≡ 0 → ⊥) → wordNumberFrom (ws ++ vs) (k + 1) x ≡ wordNumberFrom ws (k + 1) x)
+        → cond t k (wordNumberFrom (ws ++ vs) (k + 1) x) ≡ cond t k (wordNumberFrom ws (k + 1) x)
+    by true e f = refl
+    by false e f = f e
+
+pub number-behind : (ws vs : List (List ℕ)) (k : ℕ) (x : List ℕ) → 0 < k → wordNumberFrom ws k x ≡ 0 → wordNumberFrom (ws ++ vs) k x ≡ wordNumberFrom vs (k + length ws) x
+unfolding wordNumberFrom
+number-behind [] vs k x h e = ap (λ (n : ℕ). wordNumberFrom vs n x) (omega arith)
+number-behind (w ∷ ws) vs k x h e = by (same x w) e (number-behind ws vs (k + 1) x (omega arith))
+  where
+    by : (t : Bool) → cond t k (wordNumberFrom ws (k + 1) x) ≡ 0
+        → (wordNumberFrom ws (k + 1) x ≡ 0 → wordNumberFrom (ws ++ vs) (k + 1) x ≡ wordNumberFrom vs (k + 1 + length ws) x)
+        → cond t k (wordNumberFrom (ws ++ vs) (k + 1) x) ≡ wordNumberFrom vs (k + suc (length ws)) x
+    by true e f = absurd (omega (arith, h, e))
+    by false e f = f e ∙ ap (λ (n : ℕ). wordNumberFrom vs n x) (omega arith)
 
 module _ (x : List ℕ) (k : ℕ) (small : k < 27) where
   pub is-name : same x (fieldName k) ≡ true → k ≡ wordNumber fields x
   is-name e = sym (rw (same-eq x (fieldName k) e) (row k small .placed))
 
 -- where the guess is not the name, no other name is
-lost : (x : List ℕ) (n : ℕ) → Found fields 1 x n → same x (fieldName (guess x)) ≡ false → 0 ≡ n
+lost : (x : List ℕ) (n : ℕ) → Placed fields 1 x n → same x (fieldName (guess x)) ≡ false → 0 ≡ n
 unfolding fieldName
 lost x n (none e) f = sym e
 lost x n (nth j e h q) f =

@@ -18,7 +18,7 @@ use Rattle.octets.specs.Text.{standsAt}
 use Rattle.rules.proofs.AddressLaws.{callee-is, caller-is}
 use Rattle.rules.specs.Address.{addressOf, calleeEnd, calleeRule, callerEnd, callerRule, userEnd}
 use Rattle.rules.specs.Classes.{holds}
-use Rattle.rules.specs.Pieces.{behind, further, hasPiece, reads, run, runLength, within}
+use Rattle.rules.specs.Pieces.{pieceEnd, hasPiece, reads, run, runLength, within}
 use Rattle.rules.specs.Texts.{callIdRule, fireRule, userRule}
 use Rattle.rules.specs.declared.addresses.Address.the-variants.{Broken, Callee, Caller}
 use Rattle.rules.specs.declared.classes.Class.{Class}
@@ -26,7 +26,7 @@ use Rattle.rules.specs.declared.classes.Class.the-variants.{Alnum, Fire,
 
 -- a text that is one run is as long as the run may be
 pub run-length : (lo hi : ℕ) (k e : Class) (s : List ℕ) → reads (run lo hi k e ∷ []) s 0 ≡ true → (lo ≤ length s) × (length s ≤ hi)
-unfolding reads hasPiece behind within
+unfolding reads hasPiece pieceEnd within
 run-length lo hi k e s h =
     let n = 0 + runLength k (drop 0 s) in
     let p = and-parts (among lo hi (n - 0) && (holds e (getD s 0 0) && holds e (getD s (n - 1) 0))) (eqb n (length s)) h in
@@ -48,7 +48,7 @@ unfolding callIdRule
 call-id-length s h = run-length 2 64 _ _ s h
 
 -- no more bytes are counted than there are
-further-le : (t : Bool) (n m : ℕ) → n ≤ m → further t n ≤ suc m
+further-le : (t : Bool) (n m : ℕ) → n ≤ m → cond t (suc n) 0 ≤ suc m
 further-le true n m h = omega arith
 further-le false n m h = omega arith
 
@@ -59,7 +59,7 @@ run-le k (x ∷ s) = further-le (holds k x) (runLength k s) (length s) (run-le k
 
 -- the bytes that are counted are the same bytes once they are cut out
 step-cut : (k : Class) (x : ℕ) (s : List ℕ) (t : Bool) → holds k x ≡ t → runLength k (take (runLength k s) s) ≡ runLength k s
-    → runLength k (take (further t (runLength k s)) (x ∷ s)) ≡ further t (runLength k s)
+    → runLength k (take (cond t (suc (runLength k s)) 0) (x ∷ s)) ≡ cond t (suc (runLength k s)) 0
 unfolding runLength
 step-cut k x s true e h = rw e (ap suc h)
 step-cut k x s false e h = refl
@@ -102,7 +102,7 @@ module _ (lo hi : ℕ) (k e : Class) (s : List ℕ) (at end : ℕ) (some : 1 ≤
 
   -- a run in the middle of a text is a text of its own
   pub cut-run : reads (run lo hi k e ∷ []) (take (end - at) (drop at s)) 0 ≡ true
-  unfolding reads hasPiece behind within
+  unfolding reads hasPiece pieceEnd within
   cut-run =
       let z : end - at - 0 ≡ end - at = omega arith in
       rw (
@@ -131,7 +131,7 @@ pub record CalleeParts (s : List ℕ) (f : ℕ) : Type 0 where
   pub ends : f + 7 ≡ length s
 
 caller-parts : (s : List ℕ) (u f : ℕ) → u ≡ userEnd s → f ≡ callerEnd s → callerRule s ≡ true → CallerParts s u f
-unfolding userEnd callerEnd behind userRule fireRule
+unfolding userEnd callerEnd pieceEnd userRule fireRule
 caller-parts s u f p q h =
     let r = sym (caller-is s u f p q) ∙ h in
     let a = within 1 15 Alnum s 7 u in
@@ -154,7 +154,7 @@ caller-parts s u f p q h =
     }
 
 callee-parts : (s : List ℕ) (f : ℕ) → f ≡ calleeEnd s → calleeRule s ≡ true → CalleeParts s f
-unfolding calleeEnd behind fireRule
+unfolding calleeEnd pieceEnd fireRule
 callee-parts s f q h =
     let r = sym (callee-is s f q) ∙ h in
     let d = within 2 15 Small s 12 f in

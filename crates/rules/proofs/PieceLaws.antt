@@ -1,6 +1,6 @@
 -- The pieces' laws: a run, a digit and a code point at a time for the loops, and what one byte at a place means. Assumes nothing.
 use Prim.Native.Nat.{_*_, _+_, _-_, _<_, _≤_, suc, zero, ℕ}
-use mathlib.Core.Bool.{Bool, _&&_, false, true, cond}
+use mathlib.Core.Bool.{Bool, and-false, and-true, false, true, cond}
 use mathlib.Core.List.{List, _∷_, []}
 use mathlib.Core.Path.{_∙_, _≡_, ap, refl, sym}
 use native.Mathlib.Nat.{zero-add}
@@ -15,7 +15,7 @@ use Rattle.octets.specs.Class.{all, among, isDigit}
 use Rattle.octets.specs.Text.{same, standsAt}
 use Rattle.rules.specs.Classes.{holds}
 use Rattle.rules.specs.Pieces.{digits, runLength, decimalAt}
-use Rattle.rules.specs.Texts.{begins, memoRule, points, unescaped}
+use Rattle.rules.specs.Texts.{beginsPoint, memoRule, points, noBackslash}
 use Rattle.rules.specs.declared.classes.Class.{Class}
 
 module _ (k : Class) (s : List ℕ) (i : ℕ) where
@@ -34,14 +34,6 @@ module _ (k : Class) (s : List ℕ) (i : ℕ) where
 no-points : (n : ℕ) → n + points [] ≡ n
 unfolding points
 no-points n = omega arith
-
-and-false : (b : Bool) → (b && false) ≡ false
-and-false true = refl
-and-false false = refl
-
-and-true : (b : Bool) → (b && true) ≡ b
-and-true true = refl
-and-true false = refl
 
 -- one more digit
 module _ (s : List ℕ) (at : ℕ) where
@@ -123,24 +115,24 @@ module _ (s : List ℕ) (i v w : ℕ) (p : v ≡ decimalAt i s 0) where
 -- one more code point, or none
 module _ (s : List ℕ) (i n : ℕ) (h : i < length s) (t : Bool) (e : t ≡ among 128 191 (getD s i 0)) where
   pub points-same : t ≡ true → (k : ℕ) → k ≡ n + points (drop i s) → k ≡ n + points (drop (i + 1) s)
-  unfolding points begins
+  unfolding points beginsPoint
   points-same f k q = q ∙ rw (add-one, drop-cons s i 0, ← e, f)
 
   pub points-more : t ≡ false → (k : ℕ) → k ≡ n + points (drop i s) → k ≡ (n + 1) + points (drop (i + 1) s)
-  unfolding points begins
+  unfolding points beginsPoint
   points-more f k q = q ∙ rw (add-one i, drop-cons s i 0, ← e, f) (omega arith)
 
-module _ (s : List ℕ) (i : ℕ) (q : all unescaped s ≡ all unescaped (drop i s)) where
-  pub memo-more : i < length s → (getD s i 0 ≡ 92 → ⊥) → all unescaped s ≡ all unescaped (drop (i + 1) s)
-  unfolding unescaped
-  memo-more h e = q ∙ all-more unescaped s i h (rw (ne-eqb (getD s i 0) 92 e))
+module _ (s : List ℕ) (i : ℕ) (q : all noBackslash s ≡ all noBackslash (drop i s)) where
+  pub memo-more : i < length s → (getD s i 0 ≡ 92 → ⊥) → all noBackslash s ≡ all noBackslash (drop (i + 1) s)
+  unfolding noBackslash
+  memo-more h e = q ∙ all-more noBackslash s i h (rw (ne-eqb (getD s i 0) 92 e))
 
   pub memo-stops : i < length s → getD s i 0 ≡ 92 → false ≡ memoRule s
-  unfolding memoRule unescaped
-  memo-stops h e = rw (q, all-stops unescaped s i h (rw (eq-eqb (getD s i 0) 92 e)))
+  unfolding memoRule noBackslash
+  memo-stops h e = rw (q, all-stops noBackslash s i h (rw (eq-eqb (getD s i 0) 92 e)))
 
   pub memo-ends : (n : ℕ) → length s ≤ i → points s ≡ n + points (drop i s) → leb n 128 ≡ memoRule s
   unfolding memoRule
   memo-ends n h p =
       let z : points s ≡ n = p ∙ rw (drop-of-length-le s h) (no-points n) in
-      rw (q, all-ends unescaped s i h, z)
+      rw (q, all-ends noBackslash s i h, z)

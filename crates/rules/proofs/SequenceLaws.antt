@@ -1,7 +1,7 @@
 -- What a CSeq says, one law for each way out of `sequences::sequence_of`: the rule opened once, then test by test.
 -- At the end the ranges of what comes out, for callers. Assumes nothing.
 use Prim.Native.Nat.{_+_, _-_, _≤_, ℕ}
-use mathlib.Core.Bool.{Bool, _&&_, false, not, true, cond}
+use mathlib.Core.Bool.{Bool, _&&_, and-false, false, not, true, cond}
 use mathlib.Core.List.{List, _∷_, []}
 use mathlib.Core.Path.{_∙_, _≡_, ap, refl, sym}
 use native.Mathlib.Nat.{zero-add}
@@ -16,7 +16,7 @@ use Rattle.octets.specs.Class.{among}
 use Rattle.octets.specs.Text.{standsAt}
 use Rattle.rules.proofs.NameLaws.{place-below}
 use Rattle.rules.specs.Names.{methods}
-use Rattle.rules.specs.Pieces.{behind, hasPiece, wordNumber, reads, runLength, decimalAt}
+use Rattle.rules.specs.Pieces.{pieceEnd, hasPiece, wordNumber, reads, runLength, decimalAt}
 use Rattle.rules.specs.Sequence.{cseqMethod, numberEnd, cseqNumber, sequenceOf, sequenceRule}
 use Rattle.rules.specs.declared.classes.Class.the-variants.{Digit}
 use Rattle.rules.specs.declared.sequences.Sequence.the-variants.{Broken, Of}
@@ -24,10 +24,6 @@ use Rattle.rules.specs.declared.sequences.Sequence.the-variants.{Broken,
 first-false : (x r : Bool) → ((x && false) && r) ≡ false
 first-false true r = refl
 first-false false r = refl
-
-and-false : (b : Bool) → (b && false) ≡ false
-and-false true = refl
-and-false false = refl
 
 tail-false : (a z : Bool) → (a && (z && false)) ≡ false
 tail-false a true = and-false a
@@ -40,7 +36,7 @@ rest-is s k = take-all (length s - k) (drop k s) (omega (arith, length-drop k s)
 module _ (s : List ℕ) (n : ℕ) (q : n ≡ 0 + runLength Digit (drop 0 s)) where
   rule-is : sequenceRule s ≡ ((not (eqb (getD s 0 0) 48) && among 1 4294967295 (decimalAt n s 0))
       && (standsAt s n (32 ∷ []) && (ltb 0 (wordNumber methods (drop (n + 1) s)) && true)))
-  unfolding sequenceRule reads hasPiece behind
+  unfolding sequenceRule reads hasPiece pieceEnd
   rule-is = rw (q, eq-eqb (length s) (length s) refl, zero-add)
 
   broken : sequenceRule s ≡ false → Broken ≡ sequenceOf s
@@ -78,7 +74,7 @@ module _ (s : List ℕ) (n : ℕ) (q : n ≡ 0 + runLength Digit (drop 0 s)) whe
       no-method e = broken (rule-is ∙ rw (sym method-is ∙ e) (tail-false (not (eqb (getD s 0 0) 48) && among 1 4294967295 (decimalAt n s 0)) (standsAt s n (32 ∷ []))))
 
       pub good-sequence : standsAt s n (32 ∷ []) ≡ true → (getD s 0 0 ≡ 48 → ⊥) → (v ≡ 0 → ⊥) → (m ≡ 0 → ⊥) → Of v m ≡ sequenceOf s
-      unfolding sequenceOf cseqNumber cseqMethod numberEnd behind
+      unfolding sequenceOf cseqNumber cseqMethod numberEnd pieceEnd
       good-sequence e f z g =
           let a = number-in z in
           let u : v ≡ decimalAt n s 0 = a .0 in
@@ -100,7 +96,7 @@ pub record Ranges (n m : ℕ) : Type 0 where
   pub known : m ≤ 8
 
 in-ranges : (s : List ℕ) → sequenceRule s ≡ true → Ranges (cseqNumber s) (cseqMethod s)
-unfolding cseqNumber cseqMethod numberEnd behind
+unfolding cseqNumber cseqMethod numberEnd pieceEnd
 in-ranges s h =
     let n = 0 + runLength Digit (drop 0 s) in
     let r = sym (rule-is s n refl) ∙ h in

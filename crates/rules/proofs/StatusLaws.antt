@@ -15,7 +15,7 @@ use Rattle.octets.specs.Ascii.{ascii}
 use Rattle.octets.specs.Class.{among}
 use Rattle.octets.specs.Text.{standsAt}
 use Rattle.rules.proofs.Table.{and-left, and-right, at, equal, equal-is}
-use Rattle.rules.specs.Pieces.{behind, digits, fixed, free, hasPiece, number, reads, decimalAt}
+use Rattle.rules.specs.Pieces.{pieceEnd, digits, fixed, free, hasPiece, number, reads, decimalAt}
 use Rattle.rules.specs.Status.{codes, indexIn, statusOf, statusRule, statusText, texts}
 use Rattle.rules.specs.declared.statuses.Status.the-variants.{Broken, Code}
 
@@ -95,11 +95,11 @@ module _ (s : List ℕ) where
   bad-code e = rw e
 
   pub no-space : hasPiece (number 3 100 699) s 0 ≡ true → standsAt s 3 (32 ∷ []) ≡ false → Broken ≡ statusOf s
-  unfolding statusOf statusRule reads hasPiece behind
+  unfolding statusOf statusRule reads hasPiece pieceEnd
   no-space e f = rw (e, f)
 
   pub good-status : hasPiece (number 3 100 699) s 0 ≡ true → standsAt s 3 (32 ∷ []) ≡ true → Code (decimalAt 3 s 0) ≡ statusOf s
-  unfolding statusOf statusRule reads hasPiece behind
+  unfolding statusOf statusRule reads hasPiece pieceEnd
   good-status e f = rw (e, f, eq-eqb (length s) (length s) refl)
 
   pub code-fits : hasPiece (number 3 100 699) s 0 ≡ true → (100 ≤ decimalAt 3 s 0) × (decimalAt 3 s 0 ≤ 699)
@@ -110,7 +110,7 @@ module _ (s : List ℕ) where
   unfolding statusRule reads
   as-status true n h e =
       let p : decimalAt 3 s 0 ≡ n = cc in
-      rw (← p) (code-fits (and-parts (hasPiece (number 3 100 699) s 0) (reads (fixed (ascii " ") ∷ free ∷ []) s (behind (number 3 100 699) s 0)) h .0))
+      rw (← p) (code-fits (and-parts (hasPiece (number 3 100 699) s 0) (reads (fixed (ascii " ") ∷ free ∷ []) s (pieceEnd (number 3 100 699) s 0)) h .0))
   as-status false n h e = absurd (let z : _≡_ {A = ℕ} 0 1 = cc in omega arith)
 
   -- the code of a Status that keeps its rule is in its range

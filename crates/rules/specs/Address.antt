@@ -1,9 +1,9 @@
 -- To and From (01 Reading, 'Rules'): what the contracts of `src/addresses.rt` cite. Assumes nothing.
 use Prim.Native.Nat.{_+_, ℕ}
-use mathlib.Core.Bool.{Bool, false, true, cond}
+use mathlib.Core.Bool.{Bool, cond}
 use mathlib.Core.List.{List, _∷_, []}
 use Rattle.octets.specs.Ascii.{ascii}
-use Rattle.rules.specs.Pieces.{behind, fixed, reads}
+use Rattle.rules.specs.Pieces.{pieceEnd, fixed, reads}
 use Rattle.rules.specs.Texts.{fireId, userId}
 use Rattle.rules.specs.declared.addresses.Address.{Address}
 use Rattle.rules.specs.declared.addresses.Address.the-variants.{Broken, Callee, Caller}
@@ -22,15 +22,15 @@ calleeRule s = reads (fixed (ascii "net119:fire@") ∷ fireId ∷ fixed (ascii "
 
 -- where a caller's user ends: it begins at 7, behind `net119:`
 unfoldable pub userEnd : List ℕ → ℕ
-userEnd s = behind userId s 7
+userEnd s = pieceEnd userId s 7
 
 -- where a caller's Fire-ID ends: it begins one behind the user's end
 unfoldable pub callerEnd : List ℕ → ℕ
-callerEnd s = behind fireId s (userEnd s + 1)
+callerEnd s = pieceEnd fireId s (userEnd s + 1)
 
 -- where a callee's Fire-ID ends: it begins at 12, behind `net119:fire@`
 unfoldable pub calleeEnd : List ℕ → ℕ
-calleeEnd s = behind fireId s 12
+calleeEnd s = pieceEnd fireId s 12
 
 -- the side of an address, and where the user and the Fire-ID end
 unfoldable pub addressOf : List ℕ → Address

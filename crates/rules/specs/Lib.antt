@@ -8,4 +8,4 @@ pub mod Date
 pub mod Status
 pub mod Words
 pub mod Names
-pub mod Fields
+pub mod Asks

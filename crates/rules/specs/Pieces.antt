@@ -3,7 +3,7 @@
 -- What the contracts of `src/pieces.rt` cite. Assumes nothing.
 use Prim.Native.Char.{code}
 use Prim.Native.Nat.{_*_, _+_, _-_, suc, zero, ℕ}
-use mathlib.Core.Bool.{Bool, _&&_, false, not, true, cond}
+use mathlib.Core.Bool.{Bool, _&&_, cond, not, true}
 use mathlib.Core.List.{List, _∷_, []}
 use lib.Dec.{eqb, ltb}
 use lib.ListN.{drop, getD, length}
@@ -13,15 +13,10 @@ use Rattle.rules.specs.Classes.{holds}
 use Rattle.rules.specs.declared.classes.Class.{Class}
 use Rattle.rules.specs.declared.classes.Class.the-variants.{Digit}
 
--- one more where the byte is of the class, and there the count ends where it is not
-abbrev pub further : Bool → ℕ → ℕ
-further true n = suc n
-further false n = 0
-
 -- how many bytes of a class a text begins with
 unfoldable pub runLength : Class → List ℕ → ℕ
 runLength c [] = 0
-runLength c (x ∷ xs) = further (holds c x) (runLength c xs)
+runLength c (x ∷ xs) = cond (holds c x) (suc (runLength c xs)) 0
 
 -- whether n digits stand from a place on
 unfoldable pub digits : ℕ → List ℕ → ℕ → Bool
@@ -58,13 +53,13 @@ pub data Piece : Type 0 where
   free : Piece
 
 -- where a piece that begins at a place ends
-unfoldable pub behind : Piece → List ℕ → ℕ → ℕ
-behind (fixed w) s at = at + length w
-behind (run lo hi c e) s at = at + runLength c (drop at s)
-behind (number n lo hi) s at = at + n
-behind (count hi) s at = at + runLength Digit (drop at s)
-behind (word ws) s at = length s
-behind free s at = length s
+unfoldable pub pieceEnd : Piece → List ℕ → ℕ → ℕ
+pieceEnd (fixed w) s at = at + length w
+pieceEnd (run lo hi c e) s at = at + runLength c (drop at s)
+pieceEnd (number n lo hi) s at = at + n
+pieceEnd (count hi) s at = at + runLength Digit (drop at s)
+pieceEnd (word ws) s at = length s
+pieceEnd free s at = length s
 
 -- lo to hi bytes from a place to an end, the first and the last of class e
 unfoldable pub within : ℕ → ℕ → Class → List ℕ → ℕ → ℕ → Bool
@@ -82,4 +77,4 @@ hasPiece free s at = true
 -- whether a text is, from a place to its end, these pieces one after the other
 unfoldable pub reads : List Piece → List ℕ → ℕ → Bool
 reads [] s at = eqb at (length s)
-reads (p ∷ ps) s at = hasPiece p s at && reads ps s (behind p s at)
+reads (p ∷ ps) s at = hasPiece p s at && reads ps s (pieceEnd p s at)

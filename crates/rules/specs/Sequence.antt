@@ -1,11 +1,11 @@
 -- CSeq (01 Reading, 'Rules'): what the contracts of `src/sequences.rt` cite. Assumes nothing.
 use Prim.Native.Nat.{_+_, ℕ}
-use mathlib.Core.Bool.{Bool, false, true, cond}
+use mathlib.Core.Bool.{Bool, cond}
 use mathlib.Core.List.{List, _∷_, []}
 use lib.ListN.{drop}
 use Rattle.octets.specs.Ascii.{ascii}
 use Rattle.rules.specs.Names.{methods}
-use Rattle.rules.specs.Pieces.{Piece, behind, count, fixed, wordNumber, reads, decimalAt, word}
+use Rattle.rules.specs.Pieces.{Piece, pieceEnd, count, fixed, wordNumber, reads, decimalAt, word}
 use Rattle.rules.specs.declared.sequences.Sequence.{Sequence}
 use Rattle.rules.specs.declared.sequences.Sequence.the-variants.{Broken, Of}
 
@@ -19,7 +19,7 @@ sequenceRule s = reads (sequenceNumber ∷ fixed (ascii " ") ∷ word methods �
 
 -- the place behind the number
 unfoldable pub numberEnd : List ℕ → ℕ
-numberEnd s = behind sequenceNumber s 0
+numberEnd s = pieceEnd sequenceNumber s 0
 
 -- the number of a CSeq
 unfoldable pub cseqNumber : List ℕ → ℕ

@@ -1,6 +1,6 @@
 -- Status (01 Reading, 'Rules') and the status texts (01 Writing): what the contracts of `src/statuses.rt` cite. Assumes nothing.
 use Prim.Native.Nat.{suc, zero, ℕ}
-use mathlib.Core.Bool.{Bool, false, true, cond}
+use mathlib.Core.Bool.{Bool, cond}
 use mathlib.Core.List.{List, _∷_, []}
 use lib.Dec.{eqb, ltb}
 use lib.ListN.{getD}
@@ -40,15 +40,10 @@ texts =
     ∷ ascii "503 Service Unavailable"
     ∷ []
 
--- none further where it is found, else one
-abbrev pub onward : Bool → ℕ → ℕ
-onward true k = zero
-onward false k = suc k
-
 -- the place of a code in a list, counted from 0; the list's length where it is not there
 unfoldable pub indexIn : List ℕ → ℕ → ℕ
 indexIn [] x = zero
-indexIn (y ∷ ys) x = onward (eqb y x) (indexIn ys x)
+indexIn (y ∷ ys) x = cond (eqb y x) zero (suc (indexIn ys x))
 
 -- whether a code is listed
 unfoldable pub listed : ℕ → Bool

@@ -1,7 +1,7 @@
 -- The rules of single texts, in the order of 01 Reading, 'Rules': what the contracts of `src/texts.rt` cite. Assumes nothing.
 use Prim.Native.Char.{code}
 use Prim.Native.Nat.{suc, ℕ}
-use mathlib.Core.Bool.{Bool, _&&_, _||_, false, not, true}
+use mathlib.Core.Bool.{Bool, _&&_, _||_, cond, not}
 use mathlib.Core.List.{List, _∷_, []}
 use lib.Dec.{eqb, leb}
 use lib.ListN.{length}
@@ -62,27 +62,22 @@ unfoldable pub imageRule : List ℕ → Bool
 imageRule s = standsAt s 0 (ascii "https://")
 
 -- a byte that begins a code point of UTF-8: any but 80 to BF hex
-unfoldable pub begins : ℕ → Bool
-begins b = not (among 128 191 b)
-
--- one more where a code point begins
-abbrev pub tally : Bool → ℕ → ℕ
-tally true n = suc n
-tally false n = n
+unfoldable pub beginsPoint : ℕ → Bool
+beginsPoint b = not (among 128 191 b)
 
 -- how many code points a text of UTF-8 has
 unfoldable pub points : List ℕ → ℕ
 points [] = 0
-points (x ∷ xs) = tally (begins x) (points xs)
+points (x ∷ xs) = cond (beginsPoint x) (suc (points xs)) (points xs)
 
 -- no backslash: it breaks a text under a rule. The rules made of classes and words exclude it by themselves; Status after its space and an
 -- image's Body are free
-unfoldable pub unescaped : ℕ → Bool
-unescaped b = not (eqb b (code "\\"))
+unfoldable pub noBackslash : ℕ → Bool
+noBackslash b = not (eqb b (code "\\"))
 
 -- 13 Refer-Memo: at most 128 code points, none of them a backslash
 unfoldable pub memoRule : List ℕ → Bool
-memoRule s = all unescaped s && leb (points s) 128
+memoRule s = all noBackslash s && leb (points s) 128
 
 -- 20 Language: two letters a to z
 unfoldable pub languageRule : List ℕ → Bool

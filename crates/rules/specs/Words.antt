@@ -1,33 +1,24 @@
 -- The fields whose text is one of a few words (01 Reading, 'Rules'), each word with a number from 1, 0 for any other text.
 -- What the contracts of `src/words.rt` cite. Assumes nothing.
 use Prim.Native.Nat.{ℕ}
-use mathlib.Core.Bool.{Bool}
-use mathlib.Core.List.{List, _∷_, []}
+use mathlib.Core.List.{List, _++_, _∷_, []}
 use Rattle.octets.specs.Ascii.{ascii}
-use Rattle.octets.specs.Class.{among}
-use Rattle.rules.specs.Pieces.{wordNumber}
 
 -- Status in a pong
 abbrev pub availabilities : List (List ℕ)
 availabilities = ascii "available" ∷ ascii "unavailable" ∷ []
 
--- Content-Type: the first two of a MESSAGE, the others of a NOTIFY
-abbrev pub contentTypes : List (List ℕ)
-contentTypes =
-    ascii "text/plain"
-    ∷ ascii "text/vnd.net119.uri.image"
-    ∷ ascii "message/vnd.net119.presence"
-    ∷ ascii "message/vnd.net119.location"
-    ∷ ascii "message/vnd.net119.refer"
-    ∷ []
-
 -- Content-Type of a MESSAGE
-unfoldable pub messageTypeRule : List ℕ → Bool
-messageTypeRule s = among 1 2 (wordNumber contentTypes s)
+abbrev pub messageTypes : List (List ℕ)
+messageTypes = ascii "text/plain" ∷ ascii "text/vnd.net119.uri.image" ∷ []
 
 -- Content-Type of a NOTIFY
-unfoldable pub notifyTypeRule : List ℕ → Bool
-notifyTypeRule s = among 3 5 (wordNumber contentTypes s)
+abbrev pub notifyTypes : List (List ℕ)
+notifyTypes = ascii "message/vnd.net119.presence" ∷ ascii "message/vnd.net119.location" ∷ ascii "message/vnd.net119.refer" ∷ []
+
+-- Content-Type of either, by which Body's rule goes
+abbrev pub contentTypes : List (List ℕ)
+contentTypes = messageTypes ++ notifyTypes
 
 -- Body of a presence
 abbrev pub presences : List (List ℕ)

@@ -2,9 +2,9 @@
 // Proved: every answer equals a definition of specs/, which stands beside document 01's list of rules.
 // Any bytes will do, a part of a message or not; only what is written or looked up by number asks for a range.
 mod addresses;
+mod asks;
 mod classes;
 mod dates;
-mod fields;
 mod names;
 mod numbers;
 mod pieces;
@@ -15,9 +15,9 @@ mod words;
 
 pub use addresses::Address;
 pub use addresses::address_of;
+pub use asks::method_asks;
+pub use asks::tag_asks;
 pub use dates::is_date;
-pub use fields::method_asks;
-pub use fields::tag_asks;
 pub use names::field;
 pub use names::hop_member;
 pub use names::is_field;
@@ -83,8 +83,8 @@ pub use words::availability;
 pub use words::call_mode;
 pub use words::call_test;
 pub use words::content_type;
-pub use words::is_message_type;
-pub use words::is_notify_type;
+pub use words::message_type;
+pub use words::notify_type;
 pub use words::presence;
 pub use words::rescuee;
 pub use words::secure_call;

@@ -1,6 +1,18 @@
 // Tags, methods, the known fields and the members of an object of Via: fixed byte strings to numbers.
+use crate::numbers::ACK;
+use crate::numbers::BYE;
+use crate::numbers::CALLBACK;
+use crate::numbers::CANCEL;
+use crate::numbers::INVITE;
+use crate::numbers::MESSAGE;
+use crate::numbers::NOTIFY;
+use crate::numbers::PING;
+use crate::numbers::PONG;
+use crate::numbers::REFER;
+use crate::numbers::REQUEST;
+use crate::numbers::RESPONSE;
 use crate::pieces::less;
-use crate::pieces::pick;
+use crate::pieces::word_or;
 use octets::byte;
 use octets::same;
 ghost use mathlib.Core.Path.{_≡_};
@@ -110,50 +122,57 @@ const STARTS: [u8; 28] = [
     209,
 ];
 
-// The number of a tag: request, response, ping, pong.
+// The number of a tag.
 pub fn tag(s: &[u8]) -> u8
     ensures { λ r. ⌜ r ≡ wordNumber tags (now (s .entry)) ⌝ }
 {
-    pick(
-        same(s, b"request"),
-        1,
-        pick(
-            same(s, b"response"),
-            2,
-            pick(same(s, b"ping"), 3, pick(same(s, b"pong"), 4, 0)),
+    word_or(
+        s,
+        b"request",
+        REQUEST,
+        word_or(
+            s,
+            b"response",
+            RESPONSE,
+            word_or(s, b"ping", PING, word_or(s, b"pong", PONG, 0)),
         ),
     )
 }
 
-// The code of a method from MESSAGE on, 5 to 8.
+// The code of a method from MESSAGE on.
 fn later_method(s: &[u8]) -> u8
     ensures { λ r. ⌜ r ≡ wordNumberFrom (drop 4 methods) 5 (now (s .entry)) ⌝ }
 {
-    pick(
-        same(s, b"MESSAGE"),
-        5,
-        pick(
-            same(s, b"CALLBACK"),
-            6,
-            pick(same(s, b"REFER"), 7, pick(same(s, b"NOTIFY"), 8, 0)),
+    word_or(
+        s,
+        b"MESSAGE",
+        MESSAGE,
+        word_or(
+            s,
+            b"CALLBACK",
+            CALLBACK,
+            word_or(s, b"REFER", REFER, word_or(s, b"NOTIFY", NOTIFY, 0)),
         ),
     )
 }
 
-// The code of a method, 1 to 8.
+// The code of a method.
 pub fn method(s: &[u8]) -> u8
     ensures { λ r. ⌜ r ≡ wordNumber methods (now (s .entry)) ⌝ }
 {
-    pick(
-        same(s, b"INVITE"),
-        1,
-        pick(
-            same(s, b"BYE"),
-            2,
-            pick(
-                same(s, b"CANCEL"),
-                3,
-                pick(same(s, b"ACK"), 4, later_method(s)),
+    word_or(
+        s,
+        b"INVITE",
+        INVITE,
+        word_or(
+            s,
+            b"BYE",
+            BYE,
+            word_or(
+                s,
+                b"CANCEL",
+                CANCEL,
+                word_or(s, b"ACK", ACK, later_method(s)),
             ),
         ),
     )
@@ -163,14 +182,11 @@ pub fn method(s: &[u8]) -> u8
 pub fn hop_member(s: &[u8]) -> u8
     ensures { λ r. ⌜ r ≡ wordNumber hopMembers (now (s .entry)) ⌝ }
 {
-    pick(
-        same(s, b"host"),
+    word_or(
+        s,
+        b"host",
         1,
-        pick(
-            same(s, b"destination"),
-            2,
-            pick(same(s, b"organization"), 3, 0),
-        ),
+        word_or(s, b"destination", 2, word_or(s, b"organization", 3, 0)),
     )
 }
 

@@ -4,9 +4,13 @@ pub const REQUEST: u8 = 1;
 
 pub const RESPONSE: u8 = 2;
 
+pub const PING: u8 = 3;
+
 pub const PONG: u8 = 4;
 
 pub const INVITE: u8 = 1;
+
+pub const BYE: u8 = 2;
 
 pub const CANCEL: u8 = 3;
 
@@ -27,6 +31,8 @@ pub const IMAGE_CONTENT: u8 = 2;
 pub const PRESENCE_CONTENT: u8 = 3;
 
 pub const LOCATION_CONTENT: u8 = 4;
+
+pub const REFER_CONTENT: u8 = 5;
 
 pub const CSEQ: usize = 1;
 

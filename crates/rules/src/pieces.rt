@@ -5,13 +5,14 @@ use crate::classes::holds;
 use octets::and;
 use octets::byte;
 use octets::is_digit;
+use octets::same;
 ghost use mathlib.Core.Bool.{cond};
 ghost use mathlib.Core.List.{[], _∷_};
 ghost use mathlib.Core.Path.{_≡_};
 ghost use Prim.Native.Nat.{_+_, _-_, _≤_, _<_};
 ghost use lib.Dec.{leb};
 ghost use lib.ListN.{drop, length};
-ghost use Rattle.octets.specs.Text.{standsAt};
+ghost use Rattle.octets.specs.Text.{same, standsAt};
 ghost use Rattle.rules.specs.Pieces.{digits, hasPiece, number, reads, run, runLength, decimalAt, within};
 
 // Where the bytes of a class that stand from `at` on end.
@@ -128,9 +129,9 @@ pub fn count(s: &[u8], n: usize, hi: u64) -> u64
     v
 }
 
-// One of two numbers: straight code over tests, as `and` and `or` are.
-pub fn pick(test: bool, yes: u8, no: u8) -> u8
-    ensures { λ r. ⌜ r ≡ cond test yes no ⌝ }
+// The number k where a text is the word w, else the number it has among other words: straight code over a list of words.
+pub fn word_or(s: &[u8], w: &[u8], k: u8, others: u8) -> u8
+    ensures { λ r. ⌜ r ≡ cond (same (now (s .entry)) (now (w .entry))) k others ⌝ }
 {
-    if test { yes } else { no }
+    if same(s, w) { k } else { others }
 }

@@ -1,17 +1,22 @@
 // The fields whose text is one of a few words: the word's number from 1, and 0 for any other text.
-use crate::pieces::pick;
-use octets::among;
-use octets::same;
+use crate::numbers::IMAGE_CONTENT;
+use crate::numbers::LOCATION_CONTENT;
+use crate::numbers::PRESENCE_CONTENT;
+use crate::numbers::REFER_CONTENT;
+use crate::numbers::TEXT_CONTENT;
+use crate::pieces::word_or;
 ghost use mathlib.Core.List.{[], _∷_};
 ghost use mathlib.Core.Path.{_≡_};
-ghost use Rattle.rules.specs.Pieces.{wordNumber};
-ghost use Rattle.rules.specs.Words.{availabilities, callModes, callTests, contentTypes, messageTypeRule, notifyTypeRule, presences, rescuees, services, truths};
+ghost use Prim.Native.Nat.{_+_};
+ghost use lib.ListN.{length};
+ghost use Rattle.rules.specs.Pieces.{wordNumber, wordNumberFrom};
+ghost use Rattle.rules.specs.Words.{availabilities, callModes, callTests, contentTypes, messageTypes, notifyTypes, presences, rescuees, services, truths};
 
 // The number of a text among two words.
 fn either(s: &[u8], one: &[u8], two: &[u8]) -> u8
     ensures { λ r. ⌜ r ≡ wordNumber (now (one .entry) ∷ now (two .entry) ∷ []) (now (s .entry)) ⌝ }
 {
-    pick(same(s, one), 1, pick(same(s, two), 2, 0))
+    word_or(s, one, 1, word_or(s, two, 2, 0))
 }
 
 // A pong's Status.
@@ -21,41 +26,41 @@ pub fn availability(s: &[u8]) -> u8
     either(s, b"available", b"unavailable")
 }
 
-// Content-Type: 1 and 2 of a MESSAGE, text and image; 3 to 5 of a NOTIFY, presence, location and refer.
-pub fn content_type(s: &[u8]) -> u8
-    ensures { λ r. ⌜ r ≡ wordNumber contentTypes (now (s .entry)) ⌝ }
+// Content-Type of a MESSAGE: text, image.
+pub fn message_type(s: &[u8]) -> u8
+    ensures { λ r. ⌜ r ≡ wordNumber messageTypes (now (s .entry)) ⌝ }
 {
-    pick(
-        same(s, b"text/plain"),
-        1,
-        pick(
-            same(s, b"text/vnd.net119.uri.image"),
-            2,
-            pick(
-                same(s, b"message/vnd.net119.presence"),
-                3,
-                pick(
-                    same(s, b"message/vnd.net119.location"),
-                    4,
-                    pick(same(s, b"message/vnd.net119.refer"), 5, 0),
-                ),
-            ),
+    word_or(
+        s,
+        b"text/plain",
+        TEXT_CONTENT,
+        word_or(s, b"text/vnd.net119.uri.image", IMAGE_CONTENT, 0),
+    )
+}
+
+// Content-Type of a NOTIFY, numbered behind those of a MESSAGE: presence, location, refer.
+pub fn notify_type(s: &[u8]) -> u8
+    ensures { λ r. ⌜ r ≡ wordNumberFrom notifyTypes (1 + length messageTypes) (now (s .entry)) ⌝ }
+{
+    word_or(
+        s,
+        b"message/vnd.net119.presence",
+        PRESENCE_CONTENT,
+        word_or(
+            s,
+            b"message/vnd.net119.location",
+            LOCATION_CONTENT,
+            word_or(s, b"message/vnd.net119.refer", REFER_CONTENT, 0),
         ),
     )
 }
 
-// Whether a Content-Type is one of a MESSAGE's.
-pub fn is_message_type(s: &[u8]) -> bool
-    ensures { λ r. ⌜ r ≡ messageTypeRule (now (s .entry)) ⌝ }
+// Content-Type of either.
+pub fn content_type(s: &[u8]) -> u8
+    ensures { λ r. ⌜ r ≡ wordNumber contentTypes (now (s .entry)) ⌝ }
 {
-    among(1, 2, content_type(s))
-}
-
-// Whether a Content-Type is one of a NOTIFY's.
-pub fn is_notify_type(s: &[u8]) -> bool
-    ensures { λ r. ⌜ r ≡ notifyTypeRule (now (s .entry)) ⌝ }
-{
-    among(3, 5, content_type(s))
+    let k = message_type(s);
+    if k == 0 { notify_type(s) } else { k }
 }
 
 // The Body of a presence.
@@ -97,13 +102,15 @@ pub fn rescuee(s: &[u8]) -> u8
 pub fn service(s: &[u8]) -> u8
     ensures { λ r. ⌜ r ≡ wordNumber services (now (s .entry)) ⌝ }
 {
-    pick(
-        same(s, b"ambulance"),
+    word_or(
+        s,
+        b"ambulance",
         1,
-        pick(
-            same(s, b"fire"),
+        word_or(
+            s,
+            b"fire",
             2,
-            pick(same(s, b"unknown"), 3, pick(same(s, b"callback"), 4, 0)),
+            word_or(s, b"unknown", 3, word_or(s, b"callback", 4, 0)),
         ),
     )
 }

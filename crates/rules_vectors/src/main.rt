@@ -140,11 +140,11 @@ fn answer_more(name: &[u8], v: &[u8]) -> bool {
         return true;
     }
     if same(name, b"message-type") {
-        verdict(rules::is_message_type(v));
+        verdict(0 < rules::message_type(v));
         return true;
     }
     if same(name, b"notify-type") {
-        verdict(rules::is_notify_type(v));
+        verdict(0 < rules::notify_type(v));
         return true;
     }
     if same(name, b"image") {

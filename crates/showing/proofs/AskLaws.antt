@@ -5,7 +5,7 @@ use Rattle.octets.specs.Text.{same}
 use Rattle.showing.specs.Asked.{askedText}
 use Rattle.showing.specs.Readings.{readText}
 use Rattle.showing.specs.Shown.{unknown}
-use Rattle.showing.specs.Writers.{editText, replyText}
+use Rattle.showing.specs.Writers.{editText, replyLine}
 use mathlib.Core.Bool.{true, false}
 use mathlib.Core.List.{List}
 use mathlib.Core.Path.{_≡_}
@@ -15,7 +15,7 @@ module _ (name words : List ℕ) where
   unfolding askedText
   asks-read a = simp a
 
-  pub asks-reply : same name (ascii "read") ≡ false → same name (ascii "reply") ≡ true → replyText words ≡ askedText name words
+  pub asks-reply : same name (ascii "read") ≡ false → same name (ascii "reply") ≡ true → replyLine words ≡ askedText name words
   unfolding askedText
   asks-reply a b = simp (a, b)
 

@@ -9,7 +9,7 @@ use Rattle.octets.specs.Splice.{splice, written}
 use Rattle.showing.proofs.ShownLaws.{says}
 use Rattle.showing.specs.Readings.{readText, readingText}
 use Rattle.showing.specs.Shown.{unknown}
-use Rattle.showing.specs.Words.{bytesOf, isBytes}
+use Rattle.showing.specs.Words.{hexBytes, isBytes}
 use lib.ListN.{length}
 use mathlib.Core.Bool.{true, false}
 use mathlib.Core.List.{List, [], _++_, append-assoc}
@@ -28,6 +28,6 @@ pub read-unknown : (w : List ℕ) → isBytes w ≡ false → unknown ≡ readTe
 unfolding readText
 read-unknown w e = simp e
 
-pub read-good : (w : List ℕ) → isBytes w ≡ true → readingText (reading (bytesOf w)) ≡ readText w
+pub read-good : (w : List ℕ) → isBytes w ≡ true → readingText (reading (hexBytes w)) ≡ readText w
 unfolding readText
 read-good w e = simp e

@@ -13,7 +13,7 @@ use Rattle.octets.specs.declared.decimals.Spelt.the-variants.{Other}
 use Rattle.octets.specs.Splice.{splice}
 use Rattle.octets.specs.Text.{before}
 use Rattle.octets.proofs.Chain.{take-splice}
-use Rattle.showing.specs.Words.{bytesOf, firstWord, hasSpace, isHexTo, isNone, numeral, rest}
+use Rattle.showing.specs.Words.{hexBytes, firstWord, hasSpace, isHexTo, isNone, numeral, rest}
 use Rattle.showing.specs.inner.Got.{Got}
 use borrow.Author.Tests.{le-leb, le-ltb, leb-true}
 use lib.Dec.{leb, ltb}
@@ -108,15 +108,15 @@ unfolding decoded
 none-decoded = refl
 
 -- what decoding gives: `-` is no pair of digits
-pub stands : (w : List ℕ) → decoded w ≡ bytesOf w
-unfolding bytesOf
+pub stands : (w : List ℕ) → decoded w ≡ hexBytes w
+unfolding hexBytes
 stands w = go (isNone w) refl
   where
     go : (b : Bool) → isNone w ≡ b → decoded w ≡ cond b [] (decoded w)
     go true e = ap decoded (same-eq w (ascii "-") e) ∙ none-decoded
     go false e = refl
 
-pub stands-length : (w : List ℕ) → length (bytesOf w) ≡ length w / 2
+pub stands-length : (w : List ℕ) → length (hexBytes w) ≡ length w / 2
 stands-length w = rw (← stands w) (length-decoded w)
 
 -- the digits are at most so many
@@ -131,7 +131,7 @@ hex-short most w h e = go (isNone w) refl
         leb-true (length w) most (and-parts (leb (length w) most) (isHex w) (p .1) .0)
 
 -- a word has two characters for a byte
-pub half : (w : List ℕ) → 2 * length (bytesOf w) ≤ length w
+pub half : (w : List ℕ) → 2 * length (hexBytes w) ≤ length w
 half w = omega (arith, stands-length w)
 
 -- What `take_bytes` answers.

@@ -10,14 +10,14 @@ use Rattle.octets.specs.Text.{before}
 use Rattle.showing.proofs.ShownLaws.{says}
 use Rattle.showing.proofs.WordLaws.{got-false, got-front, got-true, half, hex-short, rest-short, stands-length}
 use Rattle.showing.specs.Shown.{Puts, hexed, unknown}
-use Rattle.showing.specs.Words.{bytesOf, firstWord, hasSpace, isBytes, numberTo, rest}
+use Rattle.showing.specs.Words.{hexBytes, firstWord, hasSpace, isBytes, numberTo, rest}
 use Rattle.showing.specs.inner.Got.{Got}
-use Rattle.showing.specs.Writers.{editText, edited, filled, headOf, isFirst, isLast, isNumber, onCode, onFirst, onLast, replyText, tookLine, tookText, wroteLine, wroteText}
+use Rattle.showing.specs.Writers.{editText, edited, filled, headOf, isFirst, isLast, isNumber, onCode, onFirst, onLast, replyLine, tookLine, tookText, wroteLine, wroteText}
 use Rattle.showing.specs.Writers.{writtenOf}
 use Rattle.message.proofs.AcceptedVia.{part-short}
 use Rattle.writing.specs.Adding.{adding}
-use Rattle.writing.specs.Outcome.{Outcome, Writes, answered, left}
-use Rattle.writing.specs.Removing.{Took, hostIn, nextHop, removing, shown}
+use Rattle.writing.specs.Outcome.{Outcome, Writes, answered, outputLeft}
+use Rattle.writing.specs.Removing.{Took, hostIn, nextHop, removing, hostShown}
 use Rattle.writing.specs.Reply.{replying}
 use Rattle.writing.specs.declared.answers.Removed.the-variants.{Done, Refused}
 use Rattle.writing.specs.declared.answers.Removed.{Removed}
@@ -26,17 +26,10 @@ use borrow.Author.Tests.{le-leb, lt-leb, leb-true, ltb-true}
 use lib.Dec.{leb}
 use lib.ListN.{drop, length, length-append, length-drop, length-replicate, length-take, replicate, take}
 use lib.Seq.{drop-at, length-take-le, take-add, take-at, take-take}
-use mathlib.Core.Bool.{Bool, true, false, _&&_}
+use mathlib.Core.Bool.{Bool, true, false, _&&_, and-false}
 use mathlib.Core.List.{List, [], _∷_, _++_, append-assoc}
 use mathlib.Core.Path.{_≡_, ap, refl, sym, _∙_}
 use native.Mathlib.Omega.{arith}
-
-and-none : (a b : Bool) → a ≡ false → (a && b) ≡ false
-and-none a b e = rw e
-
-and-last : (a b : Bool) → b ≡ false → (a && b) ≡ false
-and-last true b e = e
-and-last false b e = refl
 
 -- Words and their lengths.
 
@@ -49,7 +42,7 @@ both-short words e =
     omega (arith, length-take-le (before 32 words) words (omega arith), length-drop (before 32 words + 1) words)
 
 -- a word stands for at most 40,000 bytes
-most : (w : List ℕ) → isBytes w ≡ true → length (bytesOf w) ≤ 40000
+most : (w : List ℕ) → isBytes w ≡ true → length (hexBytes w) ≤ 40000
 most w e = omega (arith, stands-length w, hex-short 80000 w (omega arith) e)
 
 pub first-room : (words : List ℕ) (at : ℕ) → 2 * at + length words ≤ 170000 → 2 * at + length (firstWord words) ≤ 170000
@@ -62,15 +55,15 @@ rest-room words at h = omega (arith, rest-short words)
 
 pub first-none : (words : List ℕ) → hasSpace words ≡ false → isFirst words ≡ false
 unfolding isFirst
-first-none words e = and-none _ _ e
+first-none words e = rw e
 
 pub number-none : (n : ℕ) (words : List ℕ) → hasSpace words ≡ false → isNumber n words ≡ false
 unfolding isNumber
-number-none n words e = and-none _ _ e
+number-none n words e = rw e
 
 pub number-large : (n : ℕ) (words : List ℕ) → n < numberTo n (firstWord words) → isNumber n words ≡ false
 unfolding isNumber
-number-large n words h = and-last (hasSpace words) (leb (numberTo n (firstWord words)) n) (lt-leb _ _ h)
+number-large n words h = rw (lt-leb (numberTo n (firstWord words)) n h) (and-false (hasSpace words))
 
 pub number-good : (n : ℕ) (words : List ℕ) → hasSpace words ≡ true → numberTo n (firstWord words) ≤ n → isNumber n words ≡ true
 unfolding isNumber
@@ -78,20 +71,20 @@ number-good n words e h = rw e (le-leb _ _ h)
 
 pub last-none : (words : List ℕ) → isNumber 40000 words ≡ false → isLast words ≡ false
 unfolding isLast
-last-none words e = and-none _ _ e
+last-none words e = rw e
 
 -- Taking bytes.
 
-got-taken : (t : Bool) (w : List ℕ) {b : List ℕ} {at : ℕ} {r : ℕ} {b′ : List ℕ} → t ≡ true → Got (isBytes w) b at (bytesOf w) r b′ → Got (t && isBytes w) b at (bytesOf w) r b′
+got-taken : (t : Bool) (w : List ℕ) {b : List ℕ} {at : ℕ} {r : ℕ} {b′ : List ℕ} → t ≡ true → Got (isBytes w) b at (hexBytes w) r b′ → Got (t && isBytes w) b at (hexBytes w) r b′
 got-taken t w e x = rw e x
 
 module _ (words : List ℕ) {b : List ℕ} {at r : ℕ} {b′ : List ℕ} where
-  pub first-got : hasSpace words ≡ true → Got (isBytes (firstWord words)) b at (bytesOf (firstWord words)) r b′ → Got (isFirst words) b at (bytesOf (firstWord words)) r b′
+  pub first-got : hasSpace words ≡ true → Got (isBytes (firstWord words)) b at (hexBytes (firstWord words)) r b′ → Got (isFirst words) b at (hexBytes (firstWord words)) r b′
   unfolding isFirst
   first-got e x = got-taken _ (firstWord words) e x
 
-  pub last-got : hasSpace words ≡ true → numberTo 40000 (firstWord words) ≤ 40000 → Got (isBytes (rest words)) b at (bytesOf (rest words)) r b′
-      → Got (isLast words) b at (bytesOf (rest words)) r b′
+  pub last-got : hasSpace words ≡ true → numberTo 40000 (firstWord words) ≤ 40000 → Got (isBytes (rest words)) b at (hexBytes (rest words)) r b′
+      → Got (isLast words) b at (hexBytes (rest words)) r b′
   unfolding isLast
   last-got e h x = got-taken (isNumber 40000 words) (rest words) (number-good 40000 words e h) x
 
@@ -128,8 +121,8 @@ pub record First (words b : List ℕ) (at r : ℕ) (b′ : List ℕ) : Type 0 wh
   pub bound : 2 * r + length (rest words) ≤ 170000
   pub within : r ≤ length b′
   pub front : take at b′ ≡ take at b
-  pub taken : take (r - at) (drop at b′) ≡ bytesOf (firstWord words)
-  pub on : (f : List ℕ → List ℕ → List ℕ) → onFirst words f ≡ f (bytesOf (firstWord words)) (rest words)
+  pub taken : take (r - at) (drop at b′) ≡ hexBytes (firstWord words)
+  pub on : (f : List ℕ → List ℕ → List ℕ) → onFirst words f ≡ f (hexBytes (firstWord words)) (rest words)
 
 -- ROOM is a number, and the bytes of HEX were taken
 pub record Last (words b : List ℕ) (at r : ℕ) (b′ : List ℕ) : Type 0 where
@@ -137,10 +130,10 @@ pub record Last (words b : List ℕ) (at r : ℕ) (b′ : List ℕ) : Type 0 whe
   pub short : r ≤ at + 40000
   pub small : numberTo 40000 (firstWord words) ≤ 40000
   pub front : take at b′ ≡ take at b
-  pub taken : take (r - at) (drop at b′) ≡ bytesOf (rest words)
-  pub on : (f : ℕ → List ℕ → List ℕ) → onLast words f ≡ f (numberTo 40000 (firstWord words)) (bytesOf (rest words))
+  pub taken : take (r - at) (drop at b′) ≡ hexBytes (rest words)
+  pub on : (f : ℕ → List ℕ → List ℕ) → onLast words f ≡ f (numberTo 40000 (firstWord words)) (hexBytes (rest words))
 
-first-on : (words : List ℕ) (f : List ℕ → List ℕ → List ℕ) → isFirst words ≡ true → onFirst words f ≡ f (bytesOf (firstWord words)) (rest words)
+first-on : (words : List ℕ) (f : List ℕ → List ℕ → List ℕ) → isFirst words ≡ true → onFirst words f ≡ f (hexBytes (firstWord words)) (rest words)
 unfolding onFirst
 first-on words f e = rw e
 
@@ -148,7 +141,7 @@ first-off : (words : List ℕ) (f : List ℕ → List ℕ → List ℕ) → isFi
 unfolding onFirst
 first-off words f e = rw e
 
-last-on : (words : List ℕ) (f : ℕ → List ℕ → List ℕ) → isLast words ≡ true → onLast words f ≡ f (numberTo 40000 (firstWord words)) (bytesOf (rest words))
+last-on : (words : List ℕ) (f : ℕ → List ℕ → List ℕ) → isLast words ≡ true → onLast words f ≡ f (numberTo 40000 (firstWord words)) (hexBytes (rest words))
 unfolding onLast
 last-on words f e = rw e
 
@@ -167,11 +160,11 @@ last-parts words e =
     (leb-true _ _ (and-parts (hasSpace words) (leb (numberTo 40000 (firstWord words)) 40000) (p .0) .1), p .1)
 
 module _ (words b : List ℕ) (at r : ℕ) (b′ : List ℕ) (room : 2 * at + length words ≤ 170000) where
-  pub first-taken : Got (isFirst words) b at (bytesOf (firstWord words)) r b′ → at ≤ length b → r ≤ 85000 → First words b at r b′
+  pub first-taken : Got (isFirst words) b at (hexBytes (firstWord words)) r b′ → at ≤ length b → r ≤ 85000 → First words b at r b′
   first-taken x h k =
       let t = got-true (isFirst words) x k in
       let g = x .good t in
-      let s = seam b b′ (bytesOf (firstWord words)) at r h (g .0) (got-front x t h) in
+      let s = seam b b′ (hexBytes (firstWord words)) at r h (g .0) (got-front x t h) in
       record {
         order = omega (arith, g .0);
         bound = omega (arith, g .0, half (firstWord words), both-short words (first-parts words t));
@@ -181,15 +174,15 @@ module _ (words b : List ℕ) (at r : ℕ) (b′ : List ℕ) (room : 2 * at + le
         on = λ f. first-on words f t;
       }
 
-  pub first-refused : Got (isFirst words) b at (bytesOf (firstWord words)) r b′ → 85000 < r → (f : List ℕ → List ℕ → List ℕ) → onFirst words f ≡ unknown
+  pub first-refused : Got (isFirst words) b at (hexBytes (firstWord words)) r b′ → 85000 < r → (f : List ℕ → List ℕ → List ℕ) → onFirst words f ≡ unknown
   first-refused x k f = first-off words f (got-false (isFirst words) x (omega (arith, half (firstWord words), first-short words)) k)
 
-  pub last-taken : Got (isLast words) b at (bytesOf (rest words)) r b′ → at ≤ length b → r ≤ 85000 → Last words b at r b′
+  pub last-taken : Got (isLast words) b at (hexBytes (rest words)) r b′ → at ≤ length b → r ≤ 85000 → Last words b at r b′
   last-taken x h k =
       let t = got-true (isLast words) x k in
       let g = x .good t in
       let p = last-parts words t in
-      let s = seam b b′ (bytesOf (rest words)) at r h (g .0) (got-front x t h) in
+      let s = seam b b′ (hexBytes (rest words)) at r h (g .0) (got-front x t h) in
       record {
         order = omega (arith, g .0);
         short = omega (arith, g .0, most (rest words) (p .1));
@@ -199,7 +192,7 @@ module _ (words b : List ℕ) (at r : ℕ) (b′ : List ℕ) (room : 2 * at + le
         on = λ f. last-on words f t;
       }
 
-  pub last-refused : Got (isLast words) b at (bytesOf (rest words)) r b′ → 85000 < r → (f : ℕ → List ℕ → List ℕ) → onLast words f ≡ unknown
+  pub last-refused : Got (isLast words) b at (hexBytes (rest words)) r b′ → 85000 < r → (f : ℕ → List ℕ → List ℕ) → onLast words f ≡ unknown
   last-refused x k f = last-off words f (got-false (isLast words) x (omega (arith, half (rest words), rest-short words)) k)
 
 -- CODE.
@@ -237,14 +230,14 @@ module _ (n : ℕ) (x : Outcome) {room : List ℕ} (h : n ≤ 40000) (e : room �
   unfolding wroteLine
   wrote-line t =
       let a = t .answer ∙ room-answered in
-      let b = t .output ∙ ap (λ (o : List ℕ). left o x) room-front in
+      let b = t .output ∙ ap (λ (o : List ℕ). outputLeft o x) room-front in
       rw (a, b)
 
   pub took-line : (s : List ℕ) {r : Removed} {o : List ℕ} → Took (take n room) (hostIn (reading s)) x r o → tookText r o s ≡ tookLine n s x
   unfolding tookLine
   took-line s t =
-      let a = t .answer ∙ ap (shown (hostIn (reading s))) room-answered in
-      let b = t .output ∙ ap (λ (o : List ℕ). left o x) room-front in
+      let a = t .answer ∙ ap (hostShown (hostIn (reading s))) room-answered in
+      let b = t .output ∙ ap (λ (o : List ℕ). outputLeft o x) room-front in
       rw (a, b)
 
 -- the next host is a part of the message
@@ -298,17 +291,17 @@ module _ (o : List ℕ) {k : ℕ} {o′ : List ℕ} where
       → Puts o (onLast v (λ n s. wroteLine n (replying s code (take d b′)))) k o′ → Puts o (onFirst words (λ date v. onLast v (λ n s. wroteLine n (replying s code date)))) k o′
   reply-first {words} {b} {d} {b′} {v} code l q p =
       let z : d - 0 ≡ d = omega arith in
-      let t : take d b′ ≡ bytesOf (firstWord words) = rw z at (l .taken) in
+      let t : take d b′ ≡ hexBytes (firstWord words) = rw z at (l .taken) in
       let f : List ℕ → List ℕ → List ℕ = λ date v. onLast v (λ n s. wroteLine n (replying s code date)) in
       says o (rw (q, t) refl ∙ sym (l .on f)) p
 
-  pub reply-refused : (words : List ℕ) → isNumber 65535 words ≡ false → Puts o unknown k o′ → Puts o (replyText words) k o′
-  unfolding replyText
+  pub reply-refused : (words : List ℕ) → isNumber 65535 words ≡ false → Puts o unknown k o′ → Puts o (replyLine words) k o′
+  unfolding replyLine
   reply-refused words e p = says o (sym (code-off words _ e)) p
 
   pub reply-coded : (words : List ℕ) {code : ℕ} {v : List ℕ} → isNumber 65535 words ≡ true → code ≡ numberTo 65535 (firstWord words) → v ≡ rest words
-      → Puts o (onFirst v (λ date v. onLast v (λ n s. wroteLine n (replying s code date)))) k o′ → Puts o (replyText words) k o′
-  unfolding replyText
+      → Puts o (onFirst v (λ date v. onLast v (λ n s. wroteLine n (replying s code date)))) k o′ → Puts o (replyLine words) k o′
+  unfolding replyLine
   reply-coded words {code} {v} e q g p =
       let f : ℕ → List ℕ → List ℕ = λ code v. onFirst v (λ date v. onLast v (λ n s. wroteLine n (replying s code date))) in
       says o (rw (q, g) refl ∙ sym (code-on words f e)) p
@@ -359,7 +352,7 @@ module _ (o : List ℕ) {k : ℕ} {o′ : List ℕ} (adds : Bool) where
   unfolding editText
   edit-first {words} {b} {i} {b′} {v} l q p =
       let z : i - 0 ≡ i = omega arith in
-      let t : take i b′ ≡ bytesOf (firstWord words) = rw z at (l .taken) in
+      let t : take i b′ ≡ hexBytes (firstWord words) = rw z at (l .taken) in
       let f : List ℕ → List ℕ → List ℕ = λ host v. onFirst v (λ destination v. onFirst v (λ organization v. onLast v (λ n s. edited adds n s host destination organization))) in
       says o (rw (q, t) refl ∙ sym (l .on f)) p
 

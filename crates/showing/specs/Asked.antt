@@ -4,7 +4,7 @@ use Rattle.octets.specs.Ascii.{ascii}
 use Rattle.octets.specs.Text.{same}
 use Rattle.showing.specs.Readings.{readText}
 use Rattle.showing.specs.Shown.{unknown}
-use Rattle.showing.specs.Writers.{editText, replyText}
+use Rattle.showing.specs.Writers.{editText, replyLine}
 use mathlib.Core.Bool.{true, false, cond}
 use mathlib.Core.List.{List}
 
@@ -12,7 +12,7 @@ use mathlib.Core.List.{List}
 unfoldable pub askedText : List ℕ → List ℕ → List ℕ
 askedText name words =
     cond (same name (ascii "read")) (readText words)
-    (cond (same name (ascii "reply")) (replyText words)
+    (cond (same name (ascii "reply")) (replyLine words)
     (cond (same name (ascii "add")) (editText true words)
     (cond (same name (ascii "remove")) (editText false words)
     unknown)))

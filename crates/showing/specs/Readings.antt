@@ -7,7 +7,7 @@ use Rattle.message.specs.declared.reading.Reading.{Reading}
 use Rattle.octets.specs.Ascii.{ascii}
 use Rattle.octets.specs.Decimal.{shown}
 use Rattle.showing.specs.Shown.{unknown}
-use Rattle.showing.specs.Words.{bytesOf, isBytes}
+use Rattle.showing.specs.Words.{hexBytes, isBytes}
 use mathlib.Core.List.{List, _++_}
 
 -- `ok`, or `no N PLACE`
@@ -17,4 +17,4 @@ readingText (readings.Refused n p) = ascii "no " ++ (shown n ++ (ascii " " ++ (s
 
 -- `read HEX`
 unfoldable pub readText : List ℕ → List ℕ
-readText w = cond (isBytes w) (readingText (reading (bytesOf w))) unknown
+readText w = cond (isBytes w) (readingText (reading (hexBytes w))) unknown

@@ -51,5 +51,5 @@ abbrev pub isBytes : List ℕ → Bool
 isBytes w = isHexTo 80000 w
 
 -- the bytes that it stands for
-unfoldable pub bytesOf : List ℕ → List ℕ
-bytesOf w = cond (isNone w) [] (decoded w)
+unfoldable pub hexBytes : List ℕ → List ℕ
+hexBytes w = cond (isNone w) [] (decoded w)

@@ -5,10 +5,10 @@ use Rattle.message.specs.Reading.{reading}
 use Rattle.octets.specs.Ascii.{ascii}
 use Rattle.octets.specs.Decimal as decimal
 use Rattle.showing.specs.Shown.{hexed, unknown}
-use Rattle.showing.specs.Words.{bytesOf, firstWord, hasSpace, isBytes, numberTo, rest}
+use Rattle.showing.specs.Words.{hexBytes, firstWord, hasSpace, isBytes, numberTo, rest}
 use Rattle.writing.specs.Adding.{adding}
-use Rattle.writing.specs.Outcome.{Outcome, answered, left, writingNumber}
-use Rattle.writing.specs.Removing.{hostIn, nextHop, removing, shown}
+use Rattle.writing.specs.Outcome.{Outcome, answered, outputLeft, writingNumber}
+use Rattle.writing.specs.Removing.{hostIn, nextHop, removing, hostShown}
 use Rattle.writing.specs.Reply.{replying}
 use Rattle.writing.specs.declared.answers.Removed.the-variants as removals
 use Rattle.writing.specs.declared.answers.Removed.{Removed}
@@ -39,11 +39,11 @@ onCode words f = cond (isNumber 65535 words) (f (numberTo 65535 (firstWord words
 
 -- the line by the bytes of the first word and the words behind it
 unfoldable pub onFirst : List ℕ → (List ℕ → List ℕ → List ℕ) → List ℕ
-onFirst words f = cond (isFirst words) (f (bytesOf (firstWord words)) (rest words)) unknown
+onFirst words f = cond (isFirst words) (f (hexBytes (firstWord words)) (rest words)) unknown
 
 -- the line by ROOM and the bytes of HEX
 unfoldable pub onLast : List ℕ → (ℕ → List ℕ → List ℕ) → List ℕ
-onLast words f = cond (isLast words) (f (numberTo 40000 (firstWord words)) (bytesOf (rest words))) unknown
+onLast words f = cond (isLast words) (f (numberTo 40000 (firstWord words)) (hexBytes (rest words))) unknown
 
 -- The answers.
 
@@ -71,11 +71,11 @@ tookText r room s = headOf (writtenOf r) ++ (hexed room ++ (ascii " " ++ (hexed 
 
 -- the line for what becomes of x on its way into a room of n bytes: its answer, and the whole room
 unfoldable pub wroteLine : ℕ → Outcome → List ℕ
-wroteLine n x = wroteText (answered n x) (left (filled n) x)
+wroteLine n x = wroteText (answered n x) (outputLeft (filled n) x)
 
 -- the same, where x is what becomes of the response s
 unfoldable pub tookLine : ℕ → List ℕ → Outcome → List ℕ
-tookLine n s x = tookText (shown (hostIn (reading s)) (answered n x)) (left (filled n) x) s
+tookLine n s x = tookText (hostShown (hostIn (reading s)) (answered n x)) (outputLeft (filled n) x) s
 
 -- the line of `add`, or of `remove`
 unfoldable pub edited : Bool → ℕ → List ℕ → List ℕ → List ℕ → List ℕ → List ℕ
@@ -83,8 +83,8 @@ edited adds n s host destination organization =
     cond adds (wroteLine n (adding s host destination organization)) (tookLine n s (removing s host destination organization))
 
 -- `reply CODE DATE ROOM HEX`
-unfoldable pub replyText : List ℕ → List ℕ
-replyText words =
+unfoldable pub replyLine : List ℕ → List ℕ
+replyLine words =
     onCode words (λ code words₁.
     onFirst words₁ (λ date words₂.
     onLast words₂ (λ n s. wroteLine n (replying s code date))))

@@ -10,7 +10,7 @@ ghost use Prim.Native.Nat.{_+_, _*_, _≤_};
 ghost use lib.ListN.{drop, length};
 ghost use Rattle.octets.specs.Decimal.{decimalIn};
 ghost use Rattle.octets.specs.Splice.{splice};
-ghost use Rattle.showing.specs.Words.{bytesOf, firstWord, hasSpace, isBytes, isHexTo, numberTo, numeral, rest};
+ghost use Rattle.showing.specs.Words.{hexBytes, firstWord, hasSpace, isBytes, isHexTo, numberTo, numeral, rest};
 ghost use Rattle.showing.specs.inner.Got.{Got};
 
 // Whether a word ends at a space.
@@ -54,7 +54,7 @@ pub fn is_hex_to(word: &[u8], most: usize) -> bool
 // and puts nothing.
 fn put_bytes(bytes: &mut [u8], at: usize, word: &[u8]) -> usize
     requires { ⌜ 2 * at + length (now word) ≤ 2 * length (now bytes) ⌝ }
-    ensures { λ r. ⌜ (r ≡ at + length (bytesOf (now (word .entry)))) × (now (bytes .exit) ≡ splice (now (bytes .entry)) at (bytesOf (now (word .entry)))) ⌝ }
+    ensures { λ r. ⌜ (r ≡ at + length (hexBytes (now (word .entry)))) × (now (bytes .exit) ≡ splice (now (bytes .entry)) at (hexBytes (now (word .entry)))) ⌝ }
 {
     at + hex::decode(&mut bytes[at..], word)
 }
@@ -62,7 +62,7 @@ fn put_bytes(bytes: &mut [u8], at: usize, word: &[u8]) -> usize
 // The same; where the word is no hex or stands for more than 40,000 bytes, nothing is put, and 85,001 is answered.
 pub fn take_bytes(bytes: &mut [u8; 85000], at: usize, word: &[u8]) -> usize
     requires { ⌜ 2 * at + length (now word) ≤ 170000 ⌝ }
-    ensures { λ r. ⌜ Got (isBytes (now (word .entry))) (now (bytes .entry)) at (bytesOf (now (word .entry))) r (now (bytes .exit)) ⌝ }
+    ensures { λ r. ⌜ Got (isBytes (now (word .entry))) (now (bytes .entry)) at (hexBytes (now (word .entry))) r (now (bytes .exit)) ⌝ }
 {
     if is_hex_to(word, 80000) {
         put_bytes(bytes, at, word)

@@ -20,9 +20,9 @@ ghost use Rattle.octets.specs.Ascii.{ascii};
 ghost use Rattle.octets.specs.Decimal.{shown};
 ghost use Rattle.octets.specs.Splice.{splice};
 ghost use Rattle.showing.specs.Shown.{Puts, hexed};
-ghost use Rattle.showing.specs.Words.{bytesOf, firstWord, numberTo, rest};
+ghost use Rattle.showing.specs.Words.{hexBytes, firstWord, numberTo, rest};
 ghost use Rattle.showing.specs.inner.Got.{Got};
-ghost use Rattle.showing.specs.Writers.{editText, edited, filled, headOf, isFirst, isLast, onFirst, onLast, replyText, tookLine, tookText, wroteLine, wroteText, writtenOf};
+ghost use Rattle.showing.specs.Writers.{editText, edited, filled, headOf, isFirst, isLast, onFirst, onLast, replyLine, tookLine, tookText, wroteLine, wroteText, writtenOf};
 ghost use Rattle.writing.specs.Adding.{adding};
 ghost use Rattle.writing.specs.Outcome.{Writes};
 ghost use Rattle.writing.specs.Removing.{Took, hostIn, removing};
@@ -31,7 +31,7 @@ ghost use Rattle.writing.specs.Reply.{replying};
 // Takes the bytes of the first word.
 fn take_first(bytes: &mut [u8; 85000], at: usize, words: &[u8]) -> usize
     requires { ⌜ 2 * at + length (now words) ≤ 170000 ⌝ }
-    ensures { λ r. ⌜ Got (isFirst (now (words .entry))) (now (bytes .entry)) at (bytesOf (firstWord (now (words .entry)))) r (now (bytes .exit)) ⌝ }
+    ensures { λ r. ⌜ Got (isFirst (now (words .entry))) (now (bytes .entry)) at (hexBytes (firstWord (now (words .entry)))) r (now (bytes .exit)) ⌝ }
 {
     if !has_space(words) {
         return 85001;
@@ -49,7 +49,7 @@ fn room_in(words: &[u8]) -> u64
 // Takes the bytes of HEX, where ROOM stands before it.
 fn take_last(bytes: &mut [u8; 85000], at: usize, words: &[u8]) -> usize
     requires { ⌜ 2 * at + length (now words) ≤ 170000 ⌝ }
-    ensures { λ r. ⌜ Got (isLast (now (words .entry))) (now (bytes .entry)) at (bytesOf (rest (now (words .entry)))) r (now (bytes .exit)) ⌝ }
+    ensures { λ r. ⌜ Got (isLast (now (words .entry))) (now (bytes .entry)) at (hexBytes (rest (now (words .entry)))) r (now (bytes .exit)) ⌝ }
 {
     if !has_space(words) {
         return 85001;
@@ -284,7 +284,7 @@ pub fn reply(
     words: &[u8],
 ) -> usize
     requires { ⌜ length (now words) ≤ 170000 ⌝ }
-    ensures { λ r. ⌜ Puts (now (out .entry)) (replyText (now (words .entry))) r (now (out .exit)) ⌝ }
+    ensures { λ r. ⌜ Puts (now (out .entry)) (replyLine (now (words .entry))) r (now (out .exit)) ⌝ }
 {
     if !has_space(words) {
         return put_unknown(out);

@@ -5,7 +5,7 @@ use Rattle.octets.proofs.NumberLaws.{length-bytesOf, number-bytes, capacity}
 use Rattle.octets.specs.Class.{all}
 use Rattle.octets.specs.Number.{bytesOf, bigEndian}
 use Rattle.table.proofs.SpliceLaws.{take-of-drop}
-use Rattle.table.specs.Record.{roomAt, textAt, fieldsOf, countsOf, timesOf, recordOf, textsOf, slotOf}
+use Rattle.table.specs.Record.{roomAt, roomText, recordFields, countsOf, timesOf, recordOf, textsOf, slotOf}
 use Rattle.table.specs.WellFormed.{zeros, padded, slotSound, spareSound}
 use Rattle.table.specs.declared.numbers.Fields.{Fields}
 use borrow.Author.Tests.{le-leb}
@@ -143,8 +143,8 @@ module _ (f : Fields) (x : List ℕ) (e : length x ≡ 113) where
   at-calleemethod : getD (recordOf f x) 144 0 ≡ f .calleemethod
   at-calleemethod = rw at-middle (getD-at before-middle (f .calleemethod) (replicate 7 0 ++ h8) 0 144 length-before-middle)
 
-  pub fields-read : Fits f → fieldsOf (recordOf f x) ≡ f
-  unfolding fieldsOf
+  pub fields-read : Fits f → recordFields (recordOf f x) ≡ f
+  unfolding recordFields
   fields-read k =
       let p0 : getD (recordOf f x) 0 0 ≡ f .state = state-first in
       let p1 = at-secure in
@@ -202,8 +202,8 @@ module _ (r : List ℕ) (a room : ℕ) (h : a + 1 + room ≤ 113) where
       piece-of room (a + 1) 113 (drop 1 r) h ∙ ap (take room)
       (drop-drop (a + 1) 1 r ∙ ap (λ (n : ℕ). drop n r) (let z : 1 + (a + 1) ≡ 1 + a + 1 = omega arith in z))
 
-  pub text-own : textAt a room (textsOf r) ≡ textAt (1 + a) room r
-  unfolding textAt
+  pub text-own : roomText a room (textsOf r) ≡ roomText (1 + a) room r
+  unfolding roomText
   text-own = rw (same-byte, same-room)
 
   pub padded-own : padded a room (textsOf r) ≡ padded (1 + a) room r
@@ -235,8 +235,8 @@ module _ {l : List ℕ} (p s q : List ℕ) (a room : ℕ) (is : l ≡ p ++ (slot
       ap (λ (n : ℕ). drop (n + 1) (p ++ (length s ∷ ((s ++ pad) ++ q)))) (sym e) ∙ drop-append-add p (length s ∷ ((s ++ pad) ++ q)) 1 in
       rw (is, d) (take-at (s ++ pad) q room (simp (length-append, length-replicate) (omega arith)))
 
-  pub text-read : textAt a room l ≡ s
-  unfolding textAt
+  pub text-read : roomText a room l ≡ s
+  unfolding roomText
   text-read = rw (byte-first, room-behind) (take-append-seam s pad)
 
   padded-read : padded a room l ≡ true

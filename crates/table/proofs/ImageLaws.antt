@@ -2,8 +2,8 @@
 use Prim.Native.Nat.{ℕ, _+_, _-_, _*_, _≤_, _<_}
 use Rattle.octets.proofs.Chain.{length-splice}
 use Rattle.octets.specs.Splice.{splice}
-use Rattle.table.proofs.SpliceLaws.{take-of-drop, splice-itself, splice-part, splice-before, splice-behind, splice-whole, inside}
-use Rattle.table.specs.Image.{base, size, recordAt, withRecord, freeRecord, headerSize, recordSize}
+use Rattle.table.proofs.SpliceLaws.{take-of-drop, splice-itself, splice-part, splice-before, splice-behind, inside}
+use Rattle.table.specs.Image.{base, recordCount, recordAt, withRecord, freeRecord, headerSize, recordSize}
 use Rattle.table.specs.Record.{isFree}
 use borrow.Author.Tests.{eq-eqb, ne-eqb}
 use lib.ListN.{length, getD, take, drop, replicate, length-drop}
@@ -15,7 +15,7 @@ use native.Mathlib.Decide.{decLt}
 use native.Mathlib.Nat.{add-zero, add-sub-cancel-left}
 use native.Mathlib.Omega.{arith}
 
-module _ (t : List ℕ) (k : ℕ) (h : k < size t) where
+module _ (t : List ℕ) (k : ℕ) (h : k < recordCount t) where
   pub room : base k + recordSize ≤ length t
   room = omega arith
 
@@ -38,7 +38,7 @@ module _ (t : List ℕ) (k : ℕ) (h : k < size t) where
     pub length-with : length (withRecord t k x) ≡ length t
     length-with = length-splice t (base k) x (rw fit room)
 
-    pub size-with : size (withRecord t k x) ≡ size t
+    pub size-with : recordCount (withRecord t k x) ≡ recordCount t
     size-with = rw length-with
 
     -- the same record
@@ -46,7 +46,7 @@ module _ (t : List ℕ) (k : ℕ) (h : k < size t) where
     with-same = splice-part t (base k) x recordSize (omega (arith, room)) fit
 
     -- another record
-    pub with-other : (l : ℕ) → l < size t → (l ≡ k → ⊥) → recordAt (withRecord t k x) l ≡ recordAt t l
+    pub with-other : (l : ℕ) → l < recordCount t → (l ≡ k → ⊥) → recordAt (withRecord t k x) l ≡ recordAt t l
     with-other l g ne = go (decLt l k)
       where
         go : Dec (l < k) → recordAt (withRecord t k x) l ≡ recordAt t l
@@ -61,13 +61,6 @@ module _ (t : List ℕ) (k : ℕ) (h : k < size t) where
     -- the header
     pub with-header : take headerSize (withRecord t k x) ≡ take headerSize t
     with-header = splice-before t (base k) x headerSize (omega arith) (omega (arith, room))
-
-    -- a second store to the same record
-    pub with-with : (y : List ℕ) → length y ≡ recordSize → withRecord (withRecord t k x) k y ≡ withRecord t k y
-    with-with y g =
-        ap (λ (n : ℕ). splice (withRecord t k x) n y) (sym (add-zero (base k)))
-        ∙ inside t (base k) x 0 y (rw fit room) (omega arith)
-        ∙ ap (splice t (base k)) (splice-whole x y (omega arith))
 
 -- a byte of record k is a byte of the table
 pub byte-at : (t : List ℕ) (k j : ℕ) → j < recordSize → getD (recordAt t k) j 0 ≡ getD t (base k + j) 0

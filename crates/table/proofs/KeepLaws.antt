@@ -16,8 +16,8 @@ use Rattle.table.proofs.SearchLaws.{all-every, every-at}
 use Rattle.table.proofs.SlotLaws.{length-slot}
 use Rattle.table.proofs.SoundLaws.{record-used}
 use Rattle.table.specs.Blank.{blankOf}
-use Rattle.table.specs.Image.{size, headerOf, recordAt, withRecord, freeRecord, recordSize, headerSize}
-use Rattle.table.specs.Record.{recordCallId, recordUser, recordCallerFire, recordCalleeFire, textAt, fieldsOf, textsOf, slotOf, withFields, newRecord}
+use Rattle.table.specs.Image.{recordCount, headerOf, recordAt, withRecord, freeRecord, recordSize, headerSize}
+use Rattle.table.specs.Record.{recordCallId, recordUser, recordCallerFire, recordCalleeFire, roomText, recordFields, textsOf, slotOf, withFields, newRecord}
 use Rattle.table.specs.Record.{isFree, isNamed, sameParties}
 use Rattle.table.specs.WellFormed.{slotSound, textsSound, fieldsSound, spareSound, usedSound, recordSound, apart, apartBefore, distinct, frameSound, recordsSound, wellFormed}
 use Rattle.table.specs.declared.numbers.Fields.{Fields}
@@ -49,9 +49,9 @@ texts-own r =
 
 -- a record with other numbers holds the same texts
 module _ (r : List ℕ) (f : Fields) (e : length r ≡ recordSize) where
-  text-kept : (a room : ℕ) → a + 1 + room ≤ 113 → textAt (1 + a) room (withFields r f) ≡ textAt (1 + a) room r
+  text-kept : (a room : ℕ) → a + 1 + room ≤ 113 → roomText (1 + a) room (withFields r f) ≡ roomText (1 + a) room r
   text-kept a room h =
-      sym (text-own (withFields r f) a room h) ∙ ap (textAt a room) (texts-read f (textsOf r) (length-texts r e)) ∙ text-own r a room h
+      sym (text-own (withFields r f) a room h) ∙ ap (roomText a room) (texts-read f (textsOf r) (length-texts r e)) ∙ text-own r a room h
 
   pub call-id-kept : recordCallId (withFields r f) ≡ recordCallId r
   call-id-kept = text-kept 0 64 (omega arith)
@@ -69,7 +69,7 @@ module _ (r : List ℕ) (f : Fields) (e : length r ≡ recordSize) where
   unfolding sameParties
   parties-kept u a b = rw (user-kept, caller-fire-kept, callee-fire-kept)
 
-  pub fields-stored : Fits f → fieldsOf (withFields r f) ≡ f
+  pub fields-stored : Fits f → recordFields (withFields r f) ≡ f
   fields-stored k = fields-read f (textsOf r) (length-texts r e) k
 
   pub stored-sound : usedSound r ≡ true → fieldsSound f ≡ true → Fits f → usedSound (withFields r f) ≡ true
@@ -77,7 +77,7 @@ module _ (r : List ℕ) (f : Fields) (e : length r ≡ recordSize) where
   stored-sound u g k =
       let x : length (textsOf r) ≡ 113 = length-texts r e in
       let t : textsSound r ≡ true =
-      and-right (spareSound r) (textsSound r) (and-right (fieldsSound (fieldsOf r)) (spareSound r && textsSound r) u) in
+      and-right (spareSound r) (textsSound r) (and-right (fieldsSound (recordFields r)) (spareSound r && textsSound r) u) in
       let v : textsSound (withFields r f) ≡ textsSound r =
       sym (texts-own (withFields r f)) ∙ ap ownSound (texts-read f (textsOf r) x) ∙ texts-own r in
       and-both (ap fieldsSound (fields-stored k) ∙ g) (and-both (spare-zero f (textsOf r) x) (v ∙ t))
@@ -119,8 +119,8 @@ module _ (callId user callerFire calleeFire : List ℕ) (f : Fields) (h1 : lengt
   length-three : length three ≡ 97
   length-three = simp (length-append, length-slot 64 callId h1, length-slot 15 user h2, length-slot 15 callerFire h3)
 
-  text-new : (a room : ℕ) → a + 1 + room ≤ 113 → textAt (1 + a) room new ≡ textAt a room own
-  text-new a room h = sym (text-own new a room h) ∙ ap (textAt a room) new-texts
+  text-new : (a room : ℕ) → a + 1 + room ≤ 113 → roomText (1 + a) room new ≡ roomText a room own
+  text-new a room h = sym (text-own new a room h) ∙ ap (roomText a room) new-texts
 
   pub call-id-new : recordCallId new ≡ callId
   call-id-new =
@@ -142,7 +142,7 @@ module _ (callId user callerFire calleeFire : List ℕ) (f : Fields) (h1 : lengt
   unfolding sameParties
   parties-new = rw (user-new, caller-fire-new, callee-fire-new, same-self user, same-self callerFire, same-self calleeFire)
 
-  pub fields-new : Fits f → fieldsOf new ≡ f
+  pub fields-new : Fits f → recordFields new ≡ f
   unfolding newRecord
   fields-new k = fields-read f own long k
 
@@ -192,8 +192,8 @@ module _ (callId user callerFire calleeFire : List ℕ) (f : Fields) (r : Ruled 
 
 -- a record in use has a state
 state-one : (r : List ℕ) → usedSound r ≡ true → 1 ≤ getD r 0 0
-unfolding usedSound fieldsSound fieldsOf
-state-one r u = among-in 1 6 (getD r 0 0) (and-left (among 1 6 (getD r 0 0)) _ (and-left (fieldsSound (fieldsOf r)) _ u)) .0
+unfolding usedSound fieldsSound recordFields
+state-one r u = among-in 1 6 (getD r 0 0) (and-left (among 1 6 (getD r 0 0)) _ (and-left (fieldsSound (recordFields r)) _ u)) .0
 
 pub used-not-free : (r : List ℕ) → usedSound r ≡ true → isFree r ≡ false
 used-not-free r u = let h = state-one r u in ne-eqb (getD r 0 0) 0 (λ w. omega arith)
@@ -208,12 +208,9 @@ sound-used r s e = record-used r (not-free-state r e) refl ∙ s
 used-sound : (r : List ℕ) → usedSound r ≡ true → recordSound r ≡ true
 used-sound r u = sym (record-used r (not-free-state r (used-not-free r u)) refl) ∙ u
 
-or-left : {a : Bool} (b : Bool) → a ≡ true → (a || b) ≡ true
-or-left b e = rw e
-
 pub free-sound : recordSound freeRecord ≡ true
 unfolding recordSound
-free-sound = or-left (usedSound freeRecord) (zeros-replicate recordSize)
+free-sound = rw (zeros-replicate recordSize)
 
 -- Call-IDs.
 
@@ -274,23 +271,23 @@ unfolding apart
 free-apart s = refl
 
 module _ (t : List ℕ) where
-  pub apart-pair : distinct t ≡ true → (k l : ℕ) → k < size t → l < size t → (l ≡ k → ⊥) → apart (recordAt t k) (recordAt t l) ≡ true
+  pub apart-pair : distinct t ≡ true → (k l : ℕ) → k < recordCount t → l < recordCount t → (l ≡ k → ⊥) → apart (recordAt t k) (recordAt t l) ≡ true
   unfolding distinct apartBefore
   apart-pair d k l h g ne = go (decLt l k)
     where
       go : Dec (l < k) → apart (recordAt t k) (recordAt t l) ≡ true
-      go (yes w) = every-at (λ j. apart (recordAt t k) (recordAt t j)) k l (every-at (apartBefore t) (size t) k d h) w
+      go (yes w) = every-at (λ j. apart (recordAt t k) (recordAt t j)) k l (every-at (apartBefore t) (recordCount t) k d h) w
       go (no w) =
           apart-swap (recordAt t k) (recordAt t l)
-          ∙ every-at (λ j. apart (recordAt t l) (recordAt t j)) l k (every-at (apartBefore t) (size t) l d g) (omega arith)
+          ∙ every-at (λ j. apart (recordAt t l) (recordAt t j)) l k (every-at (apartBefore t) (recordCount t) l d g) (omega arith)
 
-  pair-distinct : ((k l : ℕ) → k < size t → l < k → apart (recordAt t k) (recordAt t l) ≡ true) → distinct t ≡ true
+  pair-distinct : ((k l : ℕ) → k < recordCount t → l < k → apart (recordAt t k) (recordAt t l) ≡ true) → distinct t ≡ true
   unfolding distinct apartBefore
   pair-distinct f =
-      all-every (apartBefore t) (size t) (λ k h. all-every (λ j. apart (recordAt t k) (recordAt t j)) k (λ l g. f k l h g))
+      all-every (apartBefore t) (recordCount t) (λ k h. all-every (λ j. apart (recordAt t k) (recordAt t j)) k (λ l g. f k l h g))
 
   -- a Call-ID stands in one record at most
-  pub one-record : distinct t ≡ true → (id : List ℕ) (k l : ℕ) → k < size t → l < size t → isNamed id (recordAt t k) ≡ true
+  pub one-record : distinct t ≡ true → (id : List ℕ) (k l : ℕ) → k < recordCount t → l < recordCount t → isNamed id (recordAt t k) ≡ true
       → isNamed id (recordAt t l) ≡ true → l ≡ k
   one-record d id k l h g p q = go (ℕ-discrete l k)
     where
@@ -309,25 +306,25 @@ module _ (t : List ℕ) (w : wellFormed t ≡ true) where
   unfolding wellFormed
   distinct-of = and-right (recordsSound t) (distinct t) (and-right (frameSound t) (recordsSound t && distinct t) w)
 
-  pub record-of : (k : ℕ) → k < size t → recordSound (recordAt t k) ≡ true
+  pub record-of : (k : ℕ) → k < recordCount t → recordSound (recordAt t k) ≡ true
   unfolding wellFormed recordsSound
   record-of k h =
-      every-at (λ j. recordSound (recordAt t j)) (size t) k
+      every-at (λ j. recordSound (recordAt t j)) (recordCount t) k
       (and-left (recordsSound t) (distinct t) (and-right (frameSound t) (recordsSound t && distinct t) w)) h
 
   -- the numbers of a record in use are right
-  pub fields-of : (k : ℕ) → k < size t → isFree (recordAt t k) ≡ false → fieldsSound (fieldsOf (recordAt t k)) ≡ true
+  pub fields-of : (k : ℕ) → k < recordCount t → isFree (recordAt t k) ≡ false → fieldsSound (recordFields (recordAt t k)) ≡ true
   unfolding usedSound
-  fields-of k h e = and-left (fieldsSound (fieldsOf (recordAt t k))) _ (sound-used (recordAt t k) (record-of k h) e)
+  fields-of k h e = and-left (fieldsSound (recordFields (recordAt t k))) _ (sound-used (recordAt t k) (record-of k h) e)
 
 -- A record replaced.
 
-module _ (t : List ℕ) (k : ℕ) (x : List ℕ) (w : wellFormed t ≡ true) (h : k < size t) (fit : length x ≡ recordSize) (sound : recordSound x ≡ true)
-    (others : (l : ℕ) → l < size t → (l ≡ k → ⊥) → apart x (recordAt t l) ≡ true) where
+module _ (t : List ℕ) (k : ℕ) (x : List ℕ) (w : wellFormed t ≡ true) (h : k < recordCount t) (fit : length x ≡ recordSize) (sound : recordSound x ≡ true)
+    (others : (l : ℕ) → l < recordCount t → (l ≡ k → ⊥) → apart x (recordAt t l) ≡ true) where
   abbrev t′ : List ℕ
   t′ = withRecord t k x
 
-  sizes : size t′ ≡ size t
+  sizes : recordCount t′ ≡ recordCount t
   sizes = rw (length-with t k h x fit)
 
   frame-kept : frameSound t′ ≡ true
@@ -336,16 +333,16 @@ module _ (t : List ℕ) (k : ℕ) (x : List ℕ) (w : wellFormed t ≡ true) (h 
 
   records-kept : recordsSound t′ ≡ true
   unfolding recordsSound
-  records-kept = all-every (λ j. recordSound (recordAt t′ j)) (size t′) (λ j g. go j (rw sizes at g) (ℕ-discrete j k))
+  records-kept = all-every (λ j. recordSound (recordAt t′ j)) (recordCount t′) (λ j g. go j (rw sizes at g) (ℕ-discrete j k))
     where
-      go : (j : ℕ) → j < size t → Dec (j ≡ k) → recordSound (recordAt t′ j) ≡ true
+      go : (j : ℕ) → j < recordCount t → Dec (j ≡ k) → recordSound (recordAt t′ j) ≡ true
       go j g (yes e) = rw (e, with-same t k h x fit) sound
       go j g (no e) = rw (with-other t k h x fit j g e) (record-of t w j g)
 
   distinct-kept : distinct t′ ≡ true
   distinct-kept = pair-distinct t′ (λ j l g i. go j l (rw sizes at g) i (ℕ-discrete j k) (ℕ-discrete l k))
     where
-      go : (j l : ℕ) → j < size t → l < j → Dec (j ≡ k) → Dec (l ≡ k) → apart (recordAt t′ j) (recordAt t′ l) ≡ true
+      go : (j l : ℕ) → j < recordCount t → l < j → Dec (j ≡ k) → Dec (l ≡ k) → apart (recordAt t′ j) (recordAt t′ l) ≡ true
       go j l g i (yes e) (yes d) = absurd (omega arith)
       go j l g i (yes e) (no d) = rw (e, with-same t k h x fit, with-other t k h x fit l (omega arith) d) (others l (omega arith) d)
       go j l g i (no e) (yes d) = rw (d, with-same t k h x fit, with-other t k h x fit j g e) (apart-swap (recordAt t j) x ∙ others j g e)
@@ -357,7 +354,7 @@ module _ (t : List ℕ) (k : ℕ) (x : List ℕ) (w : wellFormed t ≡ true) (h 
   unfolding wellFormed
   kept = and-both frame-kept (and-both records-kept distinct-kept)
 
-module _ (t : List ℕ) (k : ℕ) (w : wellFormed t ≡ true) (h : k < size t) where
+module _ (t : List ℕ) (k : ℕ) (w : wellFormed t ≡ true) (h : k < recordCount t) where
   -- sound numbers into a record in use
   pub store-keeps : (f : Fields) → isFree (recordAt t k) ≡ false → fieldsSound f ≡ true → Fits f
       → wellFormed (withRecord t k (withFields (recordAt t k) f)) ≡ true
@@ -372,7 +369,7 @@ module _ (t : List ℕ) (k : ℕ) (w : wellFormed t ≡ true) (h : k < size t) w
   -- a new record whose Call-ID stands in none
   pub open-keeps : (callId user callerFire calleeFire : List ℕ) (f : Fields) → Ruled callId user callerFire calleeFire
       → fieldsSound f ≡ true → Fits f
-      → ((l : ℕ) → l < size t → isNamed callId (recordAt t l) ≡ false) → wellFormed
+      → ((l : ℕ) → l < recordCount t → isNamed callId (recordAt t l) ≡ false) → wellFormed
       (withRecord t k (newRecord callId user callerFire calleeFire f)) ≡ true
   open-keeps i u a b f r g fits none =
       let n : List ℕ = newRecord i u a b f in
@@ -401,7 +398,7 @@ module _ (n : ℕ) (low : 1 ≤ n) (high : n ≤ 255) where
   unfolding blankOf
   length-blank = simp (length-append, length-header, length-replicate)
 
-  blank-size : size (blankOf n) ≡ n
+  blank-size : recordCount (blankOf n) ≡ n
   blank-size = rw length-blank (omega arith)
 
   blank-record : (k : ℕ) → k < n → recordAt (blankOf n) k ≡ freeRecord
@@ -421,18 +418,18 @@ module _ (n : ℕ) (low : 1 ≤ n) (high : n ≤ 255) where
   blank-frame : frameSound (blankOf n) ≡ true
   unfolding frameSound
   blank-frame =
-      let a : eqb (length (blankOf n)) (headerSize + recordSize * size (blankOf n)) ≡ true =
-      eq-eqb (length (blankOf n)) (headerSize + recordSize * size (blankOf n)) (let s = blank-size in let l = length-blank in omega arith) in
-      let b : among 1 255 (size (blankOf n)) ≡ true = rw blank-size (in-among 1 255 n low high) in
-      let c : same (take 16 (blankOf n)) (headerOf (size (blankOf n))) ≡ true =
-      eq-same (take 16 (blankOf n)) (headerOf (size (blankOf n))) (take-blank n ∙ ap headerOf (sym blank-size)) in
+      let a : eqb (length (blankOf n)) (headerSize + recordSize * recordCount (blankOf n)) ≡ true =
+      eq-eqb (length (blankOf n)) (headerSize + recordSize * recordCount (blankOf n)) (let s = blank-size in let l = length-blank in omega arith) in
+      let b : among 1 255 (recordCount (blankOf n)) ≡ true = rw blank-size (in-among 1 255 n low high) in
+      let c : same (take 16 (blankOf n)) (headerOf (recordCount (blankOf n))) ≡ true =
+      eq-same (take 16 (blankOf n)) (headerOf (recordCount (blankOf n))) (take-blank n ∙ ap headerOf (sym blank-size)) in
       and-both a (and-both b c)
 
   pub blank-sound : wellFormed (blankOf n) ≡ true
   unfolding wellFormed recordsSound
   blank-sound =
-      let s : size (blankOf n) ≡ n = blank-size in
+      let s : recordCount (blankOf n) ≡ n = blank-size in
       and-both blank-frame
-      (and-both (all-every (λ k. recordSound (recordAt (blankOf n) k)) (size (blankOf n))
+      (and-both (all-every (λ k. recordSound (recordAt (blankOf n) k)) (recordCount (blankOf n))
       (λ k h. rw (blank-record k (omega arith)) free-sound))
       (pair-distinct (blankOf n) (λ k l h g. rw (blank-record k (omega arith)) (free-apart (recordAt (blankOf n) l)))))

@@ -8,8 +8,8 @@ use Rattle.octets.specs.Text.{same}
 use Rattle.table.proofs.ImageLaws.{room, length-record, within-record}
 use Rattle.table.proofs.SlotLaws.{length-slot}
 use Rattle.table.proofs.SpliceLaws.{inside, Run, further}
-use Rattle.table.specs.Image.{base, size, recordAt, withRecord, recordSize}
-use Rattle.table.specs.Record.{numberIn, fieldsOf, countsOf, timesOf, numbersOf, recordOf, textsOf, withFields, slotOf, newRecord, textAt, isNamed}
+use Rattle.table.specs.Image.{base, recordCount, recordAt, withRecord, recordSize}
+use Rattle.table.specs.Record.{recordNumber, recordFields, countsOf, timesOf, numbersOf, recordOf, textsOf, withFields, slotOf, newRecord, roomText, isNamed}
 use Rattle.table.specs.WellFormed.{apart}
 use Rattle.table.specs.declared.numbers.Fields.{Fields}
 use borrow.Author.Tests.{eq-eqb, ne-eqb}
@@ -46,8 +46,8 @@ length-withFields r f e = length-recordOf f (textsOf r) (length-texts r e)
 
 -- The numbers of a record, read one by one.
 
-pub fields-made : (r : List ℕ) {invite caller callee last entry chat : ℕ} → invite ≡ numberIn 116 4 r → caller ≡ numberIn 120 4 r
-    → callee ≡ numberIn 124 4 r → last ≡ numberIn 128 8 r → entry ≡ numberIn 136 8 r → chat ≡ numberIn 152 8 r
+pub fields-made : (r : List ℕ) {invite caller callee last entry chat : ℕ} → invite ≡ recordNumber 116 4 r → caller ≡ recordNumber 120 4 r
+    → callee ≡ recordNumber 124 4 r → last ≡ recordNumber 128 8 r → entry ≡ recordNumber 136 8 r → chat ≡ recordNumber 152 8 r
     → _≡_ {A = Fields} (record {
       state = getD r 0 0;
       secure = getD r 114 0;
@@ -59,8 +59,8 @@ pub fields-made : (r : List ℕ) {invite caller callee last entry chat : ℕ} �
       last = last;
       entry = entry;
       chat = chat;
-    }) (fieldsOf r)
-unfolding fieldsOf
+    }) (recordFields r)
+unfolding recordFields
 fields-made r a b d e g h =
     λ i. record {
       state = getD r 0 0;
@@ -86,7 +86,7 @@ record-stored r f e =
     drop-of-length-le (f .state ∷ drop 1 r) {i = 114 + length (numbersOf f)} (let w = length-drop 1 r in omega arith) in
     rw (d, append-nil)
 
-pub stored : (t : List ℕ) (k : ℕ) (f : Fields) {a b : List ℕ} → k < size t → a ≡ splice t (base k) (f .state ∷ [])
+pub stored : (t : List ℕ) (k : ℕ) (f : Fields) {a b : List ℕ} → k < recordCount t → a ≡ splice t (base k) (f .state ∷ [])
     → b ≡ splice a (base k + 114) (numbersOf f) → b ≡ withRecord t k (withFields (recordAt t k) f)
 stored t k f {a} {b} h p q =
     let r : List ℕ = recordAt t k in
@@ -118,7 +118,7 @@ module _ (callId user callerFire calleeFire : List ℕ) (f : Fields) where
     length-newRecord = length-recordOf f slots length-slots
 
     -- a new record, piece by piece
-    pub opened : (t : List ℕ) (k : ℕ) {a b c d e g : List ℕ} → k < size t → a ≡ splice t (base k) (f .state ∷ [])
+    pub opened : (t : List ℕ) (k : ℕ) {a b c d e g : List ℕ} → k < recordCount t → a ≡ splice t (base k) (f .state ∷ [])
         → b ≡ splice a (base k + 1) (slotOf 64 callId) → c ≡ splice b (base k + 66) (slotOf 15 user)
         → d ≡ splice c (base k + 82) (slotOf 15 callerFire) → e ≡ splice d (base k + 98) (slotOf 15 calleeFire)
         → g ≡ splice e (base k + 114) (numbersOf f) → g ≡ withRecord t k (newRecord callId user callerFire calleeFire f)
@@ -173,7 +173,7 @@ module _ (id r : List ℕ) where
   unfolding isNamed
   named-free e = simp (eq-eqb _ _ e)
 
-  pub named-text : {x : List ℕ} {b : Bool} → (getD r 0 0 ≡ 0 → ⊥) → x ≡ textAt 1 64 r → b ≡ same x id → b ≡ isNamed id r
+  pub named-text : {x : List ℕ} {b : Bool} → (getD r 0 0 ≡ 0 → ⊥) → x ≡ roomText 1 64 r → b ≡ same x id → b ≡ isNamed id r
   unfolding isNamed
   named-text ne e q = q ∙ simp (e, ne-eqb _ _ ne)
 
@@ -186,7 +186,7 @@ module _ (r s : List ℕ) where
   unfolding apart
   apart-second ne e = simp (ne-eqb _ _ ne, eq-eqb _ _ e)
 
-  pub apart-texts : {x y : List ℕ} {b : Bool} → (getD r 0 0 ≡ 0 → ⊥) → (getD s 0 0 ≡ 0 → ⊥) → x ≡ textAt 1 64 r → y ≡ textAt 1 64 s
+  pub apart-texts : {x y : List ℕ} {b : Bool} → (getD r 0 0 ≡ 0 → ⊥) → (getD s 0 0 ≡ 0 → ⊥) → x ≡ roomText 1 64 r → y ≡ roomText 1 64 s
       → b ≡ same x y → not b ≡ apart r s
   unfolding apart
   apart-texts ne nf e g q = ap not q ∙ simp (e, g, ne-eqb _ _ ne, ne-eqb _ _ nf)

@@ -8,8 +8,8 @@ use Rattle.octets.proofs.TestLaws.{clash, and-left, and-right, Either, either}
 use Rattle.rules.specs.Texts.{callIdRule}
 use Rattle.table.proofs.ImageLaws.{length-record}
 use Rattle.table.proofs.SearchLaws.{every-at}
-use Rattle.table.specs.Image.{recordAt, recordSize, size}
-use Rattle.table.specs.Record.{callIdAt, callIdRoom, fieldsOf, isFree, roomAt, textAt}
+use Rattle.table.specs.Image.{recordAt, recordSize, recordCount}
+use Rattle.table.specs.Record.{callIdAt, callIdRoom, recordFields, isFree, roomAt, roomText}
 use Rattle.table.specs.WellFormed.{apart, fieldsSound, isZero, padded, recordSound, recordsSound, slotSound, spareSound, textsSound, usedSound, zeros}
 use borrow.Author.Tests.{eqb-true, leb-true}
 use lib.Dec.{eqb, leb}
@@ -66,8 +66,8 @@ zeros-are (x ∷ s) e =
 
 -- the room of a text that has 00 behind it
 room-is : (at room : ℕ) (r : List ℕ) → at + 1 + room ≤ length r → padded at room r ≡ true
-    → roomAt at room r ≡ textAt at room r ++ replicate (room - length (textAt at room r)) 0
-unfolding padded textAt
+    → roomAt at room r ≡ roomText at room r ++ replicate (room - length (roomText at room r)) 0
+unfolding padded roomText
 room-is at room r h e =
     let n : ℕ = getD r at 0 in
     let w : List ℕ = roomAt at room r in
@@ -85,9 +85,9 @@ pub rooms-apart : (r s : List ℕ) → length r ≡ recordSize → length s ≡ 
     → true ≡ apart r s
 unfolding apart
 rooms-apart r s l m p q d =
-    rw (ne-same (textAt 1 64 r) (textAt 1 64 s) (λ e. clash (eq-same _ _ (alike e)) d)) (go (isFree r) (isFree s))
+    rw (ne-same (roomText 1 64 r) (roomText 1 64 s) (λ e. clash (eq-same _ _ (alike e)) d)) (go (isFree r) (isFree s))
   where
-    alike : textAt 1 64 r ≡ textAt 1 64 s → roomAt 1 64 r ≡ roomAt 1 64 s
+    alike : roomText 1 64 r ≡ roomText 1 64 s → roomAt 1 64 r ≡ roomAt 1 64 s
     alike e = room-is 1 64 r (omega arith) p ∙ rw e (sym (room-is 1 64 s (omega arith) q))
 
     go : (a b : Bool) → true ≡ (a || (b || not false))
@@ -105,12 +105,12 @@ record-padded r l e = go (either (zeros r))
     go (inl w) = let z : r ≡ replicate 160 0 = zeros-are r w ∙ ap (λ (n : ℕ). replicate n 0) l in rw z
     go (inr w) =
         let u : usedSound r ≡ true = rw w at e in
-        let t : textsSound r ≡ true = and-right (spareSound r) _ (and-right (fieldsSound (fieldsOf r)) _ u) in
+        let t : textsSound r ≡ true = and-right (spareSound r) _ (and-right (fieldsSound (recordFields r)) _ u) in
         let c : slotSound callIdRule 1 64 r ≡ true = and-left (slotSound callIdRule 1 64 r) _ t in
         and-left (padded 1 64 r) _ c
 
-pub call-id-padded : (t : List ℕ) (k : ℕ) {r : List ℕ} → recordsSound t ≡ true → k < size t → r ≡ recordAt t k
+pub call-id-padded : (t : List ℕ) (k : ℕ) {r : List ℕ} → recordsSound t ≡ true → k < recordCount t → r ≡ recordAt t k
     → padded callIdAt callIdRoom r ≡ true
 unfolding recordsSound
 call-id-padded t k s h e =
-    rw e (record-padded (recordAt t k) (length-record t k h) (every-at (λ k. recordSound (recordAt t k)) (size t) k s h))
+    rw e (record-padded (recordAt t k) (length-record t k h) (every-at (λ k. recordSound (recordAt t k)) (recordCount t) k s h))

@@ -6,11 +6,11 @@ use Rattle.octets.specs.Class.{all, among, isAlnum, isDigit, isLetter, isLower,
 use Rattle.octets.specs.Number.{bytesOf, onto}
 use Rattle.octets.specs.Text.{same}
 use Rattle.rules.specs.Classes.{holds}
-use Rattle.rules.specs.Pieces.{behind, hasPiece, reads, runLength, within}
+use Rattle.rules.specs.Pieces.{pieceEnd, hasPiece, reads, runLength, within}
 use Rattle.rules.specs.Texts.{callIdRule, fireRule, userRule}
 use Rattle.table.specs.Blank.{blankFits}
 use Rattle.table.specs.Image.{freeRecord, headerOf}
-use Rattle.table.specs.Record.{recordCallId, recordCalleeFire, recordCallerFire, countsOf, fieldsOf, newRecord, recordOf, slotOf, textAt, timesOf, recordUser}
+use Rattle.table.specs.Record.{recordCallId, recordCalleeFire, recordCallerFire, countsOf, recordFields, newRecord, recordOf, slotOf, roomText, timesOf, recordUser}
 use Rattle.table.specs.Search.{every}
 use Rattle.table.specs.WellFormed.{apart, apartBefore, calleeSound, distinct, fieldsSound, frameSound, padded, recordSound, recordsSound, slotSound}
 use Rattle.table.specs.WellFormed.{textsSound, usedSound, wellFormed}
@@ -30,7 +30,7 @@ ruler = placesFrom 0 160
 
 -- 0 state; 114 Secure-Call; 115 method; 116–119 INVITE; 120–123, 124–127 highest; 128–135 last time; 136–143 entered; 144 method; 152–159 chat
 pub numbers-stand :
-    fieldsOf ruler
+    recordFields ruler
     ≡ record {
       state = 0;
       secure = 114;
@@ -43,7 +43,7 @@ pub numbers-stand :
       entry = 0x88898A8B8C8D8E8F;
       chat = 0x98999A9B9C9D9E9F;
     }
-unfolding fieldsOf onto
+unfolding recordFields onto
 numbers-stand = refl
 
 -- 1 Call-ID length, 2–65 Call-ID; 66, 82, 98 lengths, then 15 bytes each
@@ -52,7 +52,7 @@ pub texts-stand :
     × (recordUser ruler ≡ placesFrom 67 15)
     × (recordCallerFire ruler ≡ placesFrom 83 15)
     × (recordCalleeFire ruler ≡ placesFrom 99 15)
-unfolding textAt
+unfolding roomText
 texts-stand = (refl, refl, refl, refl)
 
 -- a record of this Call-ID
@@ -75,8 +75,8 @@ pub well-formed :
     × (wellFormed (tableOf (set (recordNamed (ascii "A1")) 65 1) freeRecord) ≡ false)
     -- a free record is all 00
     × (wellFormed (tableOf (recordNamed (ascii "A1")) (set freeRecord 159 1)) ≡ false)
-unfolding wellFormed frameSound headerOf bytesOf same recordsSound every recordSound usedSound fieldsSound calleeSound fieldsOf onto textsSound slotSound padded textAt
-    callIdRule userRule fireRule reads hasPiece behind within runLength holds among all isAlnum isDigit isLetter isLower isUpper distinct apartBefore apart newRecord recordOf
+unfolding wellFormed frameSound headerOf bytesOf same recordsSound every recordSound usedSound fieldsSound calleeSound recordFields onto textsSound slotSound padded roomText
+    callIdRule userRule fireRule reads hasPiece pieceEnd within runLength holds among all isAlnum isDigit isLetter isLower isUpper distinct apartBefore apart newRecord recordOf
     slotOf
     countsOf timesOf
 well-formed = (refl, refl, refl, refl, refl, refl)

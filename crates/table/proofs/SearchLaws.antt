@@ -1,8 +1,8 @@
 -- What a test on every number below a bound, a search and a count say, each by one number more. Assumes nothing.
 use Prim.Native.Nat.{ℕ, zero, suc, _+_, _<_}
 use Rattle.octets.proofs.TestLaws.{clash, and-both, and-left, and-right, Either, either}
-use Rattle.table.specs.Search.{foundIf, orElse, lowest, every}
-use Rattle.table.specs.inner.Count.{one, tally}
+use Rattle.table.specs.Search.{foundIf, orElse, lowestFound, every}
+use Rattle.table.specs.inner.Count.{bit, tally}
 use Rattle.table.specs.declared.searching.Found.the-variants.{At, Nothing}
 use mathlib.Core.Bool.{Bool, true, false}
 use mathlib.Core.Logic.{inl, inr}
@@ -33,17 +33,17 @@ every-stops p n k h e = go (either (every p n))
     go (inr w) = w
 
 -- the search
-pub none-lowest : (p : ℕ → Bool) (n : ℕ) → ((k : ℕ) → k < n → p k ≡ false) → Nothing ≡ lowest p n
-unfolding lowest
+pub none-lowest : (p : ℕ → Bool) (n : ℕ) → ((k : ℕ) → k < n → p k ≡ false) → Nothing ≡ lowestFound p n
+unfolding lowestFound
 none-lowest p zero f = refl
 none-lowest p (suc n) f = rw (← none-lowest p n (λ k h. f k (omega arith)), f n (omega arith))
 
-pub at-lowest : (p : ℕ → Bool) (n i : ℕ) → i < n → p i ≡ true → ((k : ℕ) → k < i → p k ≡ false) → At i ≡ lowest p n
-unfolding lowest
+pub at-lowest : (p : ℕ → Bool) (n i : ℕ) → i < n → p i ≡ true → ((k : ℕ) → k < i → p k ≡ false) → At i ≡ lowestFound p n
+unfolding lowestFound
 at-lowest p zero i h e f = absurd (omega arith)
 at-lowest p (suc n) i h e f = go (ℕ-discrete i n) (λ g. at-lowest p n i g e f)
   where
-    go : Dec (i ≡ n) → (i < n → At i ≡ lowest p n) → At i ≡ orElse (lowest p n) (foundIf (p n) n)
+    go : Dec (i ≡ n) → (i < n → At i ≡ lowestFound p n) → At i ≡ orElse (lowestFound p n) (foundIf (p n) n)
     go (yes w) g = rw (← none-lowest p n (λ k l. f k (omega arith)), ← w, e)
     go (no w) g = rw (← g (omega arith))
 
@@ -55,11 +55,11 @@ pub record Is (p : ℕ → Bool) (n i : ℕ) : Type 0 where
 
 -- a search finds the lowest, or nothing passes
 pub data Searched (p : ℕ → Bool) (n : ℕ) : Type 0 where
-  at : (i : ℕ) → lowest p n ≡ At i → Is p n i → Searched p n
-  nowhere : lowest p n ≡ Nothing → ((k : ℕ) → k < n → p k ≡ false) → Searched p n
+  at : (i : ℕ) → lowestFound p n ≡ At i → Is p n i → Searched p n
+  nowhere : lowestFound p n ≡ Nothing → ((k : ℕ) → k < n → p k ≡ false) → Searched p n
 
 pub searched : (p : ℕ → Bool) (n : ℕ) → Searched p n
-unfolding lowest
+unfolding lowestFound
 searched p zero = nowhere refl (λ k h. absurd (omega arith))
 searched p (suc n) = go (searched p n) (either (p n))
   where
@@ -73,14 +73,14 @@ searched p (suc n) = go (searched p n) (either (p n))
         last k h (no q) f = f k (omega arith)
 
 -- found at i: the record there passes, and none before it
-pub lowest-is : (p : ℕ → Bool) (n i : ℕ) → lowest p n ≡ At i → Is p n i
+pub lowest-is : (p : ℕ → Bool) (n i : ℕ) → lowestFound p n ≡ At i → Is p n i
 lowest-is p n i e = go (searched p n)
   where
     go : Searched p n → Is p n i
     go (at j q s) = let w : j ≡ i = cc in rw w at s
     go (nowhere q f) = absurd (let z : _≡_ {A = ℕ} 0 1 = cc in omega arith)
 
-pub lowest-none : (p : ℕ → Bool) (n : ℕ) → lowest p n ≡ Nothing → (k : ℕ) → k < n → p k ≡ false
+pub lowest-none : (p : ℕ → Bool) (n : ℕ) → lowestFound p n ≡ Nothing → (k : ℕ) → k < n → p k ≡ false
 lowest-none p n e = go (searched p n)
   where
     go : Searched p n → (k : ℕ) → k < n → p k ≡ false
@@ -88,8 +88,8 @@ lowest-none p n e = go (searched p n)
     go (nowhere q f) = f
 
 -- tests that agree search and count alike
-pub lowest-same : (p q : ℕ → Bool) (n : ℕ) → ((k : ℕ) → k < n → p k ≡ q k) → lowest p n ≡ lowest q n
-unfolding lowest
+pub lowest-same : (p q : ℕ → Bool) (n : ℕ) → ((k : ℕ) → k < n → p k ≡ q k) → lowestFound p n ≡ lowestFound q n
+unfolding lowestFound
 lowest-same p q zero f = refl
 lowest-same p q (suc n) f = rw (f n (omega arith), lowest-same p q n (λ k h. f k (omega arith)))
 
@@ -100,16 +100,16 @@ tally-same p q (suc n) f = rw (f n (omega arith), tally-same p q n (λ k h. f k 
 
 -- tests that agree but at i
 pub tally-but : (p q : ℕ → Bool) (n i : ℕ) → i < n → ((k : ℕ) → k < n → (k ≡ i → ⊥) → p k ≡ q k)
-    → tally p n + one (q i) ≡ tally q n + one (p i)
+    → tally p n + bit (q i) ≡ tally q n + bit (p i)
 unfolding tally
 tally-but p q zero i h f = absurd (omega arith)
 tally-but p q (suc n) i h f = go (tally-but p q n i) (ℕ-discrete i n)
   where
-    go : (i < n → ((k : ℕ) → k < n → (k ≡ i → ⊥) → p k ≡ q k) → tally p n + one (q i) ≡ tally q n + one (p i))
-        → Dec (i ≡ n) → one (p n) + tally p n + one (q i) ≡ one (q n) + tally q n + one (p i)
+    go : (i < n → ((k : ℕ) → k < n → (k ≡ i → ⊥) → p k ≡ q k) → tally p n + bit (q i) ≡ tally q n + bit (p i))
+        → Dec (i ≡ n) → bit (p n) + tally p n + bit (q i) ≡ bit (q n) + tally q n + bit (p i)
     go ih (yes e) =
         let s : tally p n ≡ tally q n = tally-same p q n (λ k l. f k (omega arith) (λ w. omega arith)) in
         rw (e, s) (omega arith)
     go ih (no ne) =
-        let r : tally p n + one (q i) ≡ tally q n + one (p i) = ih (omega arith) (λ k l w. f k (omega arith) w) in
+        let r : tally p n + bit (q i) ≡ tally q n + bit (p i) = ih (omega arith) (λ k l w. f k (omega arith) w) in
         rw (f n (omega arith) (λ w. ne (sym w))) (omega arith)

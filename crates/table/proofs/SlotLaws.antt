@@ -4,7 +4,7 @@ use Rattle.octets.proofs.ClassLaws.{all-append}
 use Rattle.octets.specs.Class.{all}
 use Rattle.octets.specs.Splice.{splice}
 use Rattle.table.proofs.SpliceLaws.{take-of-drop, Run, further}
-use Rattle.table.specs.Record.{roomAt, textAt, slotOf}
+use Rattle.table.specs.Record.{roomAt, roomText, slotOf}
 use Rattle.table.specs.WellFormed.{padded, isZero, zeros}
 use borrow.Author.Tests.{le-leb, lt-leb}
 use lib.ListN.{length, getD, take, drop, replicate, length-drop, length-append, length-replicate}
@@ -21,13 +21,13 @@ module _ (r : List ℕ) (at room n : ℕ) (fits : at + 1 + room ≤ length r) (l
   room-length = length-take-le room (drop (at + 1) r) (rw length-drop (omega arith))
 
   -- a text within its room
-  pub text-short : n ≤ room → take (at + 1 + n - (at + 1)) (drop (at + 1) r) ≡ textAt at room r
-  unfolding textAt
+  pub text-short : n ≤ room → take (at + 1 + n - (at + 1)) (drop (at + 1) r) ≡ roomText at room r
+  unfolding roomText
   text-short h = rw (add-sub-cancel-left (at + 1) n, ← len) (sym (take-take n room (drop (at + 1) r) h))
 
   -- a length beyond the room: all of it
-  pub text-long : room < n → take (at + 1 + room - (at + 1)) (drop (at + 1) r) ≡ textAt at room r
-  unfolding textAt
+  pub text-long : room < n → take (at + 1 + room - (at + 1)) (drop (at + 1) r) ≡ roomText at room r
+  unfolding roomText
   text-long h = rw (add-sub-cancel-left (at + 1) room, ← len) (sym (take-all n (roomAt at room r) (rw room-length (omega arith))))
 
   -- what the text leaves of its room

@@ -5,8 +5,8 @@ use Rattle.octets.specs.Class.{among, all}
 use Rattle.octets.proofs.NumberLaws.{capacity}
 use Rattle.octets.specs.Text.{same}
 use Rattle.octets.proofs.TestLaws.{and-left, and-right}
-use Rattle.table.specs.Image.{size, headerOf}
-use Rattle.table.specs.Record.{fieldsOf}
+use Rattle.table.specs.Image.{recordCount, headerOf}
+use Rattle.table.specs.Record.{recordFields}
 use Rattle.table.specs.WellFormed.{zeros, fieldsSound, usedSound, recordSound, recordsSound, distinct, frameSound, wellFormed}
 use borrow.Author.Tests.{eq-eqb, ne-eqb}
 use lib.Dec.{eqb}
@@ -18,29 +18,29 @@ use native.Mathlib.Omega.{arith}
 
 -- The frame.
 
-module _ (t : List ℕ) (n : ℕ) (e : n ≡ size t) where
+module _ (t : List ℕ) (n : ℕ) (e : n ≡ recordCount t) where
   pub frame-few : n < 1 → false ≡ frameSound t
   unfolding frameSound
-  frame-few h = rw (among-low 1 255 (size t) (omega arith)) (sym (and-false (eqb (length t) (16 + 160 * size t))))
+  frame-few h = rw (among-low 1 255 (recordCount t) (omega arith)) (sym (and-false (eqb (length t) (16 + 160 * recordCount t))))
 
   pub frame-many : 255 < n → false ≡ frameSound t
   unfolding frameSound
-  frame-many h = rw (among-high 1 255 (size t) (omega arith) (omega arith)) (sym (and-false (eqb (length t) (16 + 160 * size t))))
+  frame-many h = rw (among-high 1 255 (recordCount t) (omega arith) (omega arith)) (sym (and-false (eqb (length t) (16 + 160 * recordCount t))))
 
   pub frame-length : (length t ≡ 16 + 160 * n → ⊥) → false ≡ frameSound t
   unfolding frameSound
-  frame-length ne = rw (ne-eqb (length t) (16 + 160 * size t) (λ w. ne (omega arith)))
+  frame-length ne = rw (ne-eqb (length t) (16 + 160 * recordCount t) (λ w. ne (omega arith)))
 
   pub frame-header : {h : List ℕ} {b : Bool} → 1 ≤ n → n ≤ 255 → length t ≡ 16 + 160 * n → h ≡ headerOf n → b ≡ same (take 16 t) h
       → b ≡ frameSound t
   unfolding frameSound
   frame-header lo hi l p q =
-      rw (eq-eqb (length t) (16 + 160 * size t) (omega arith), in-among 1 255 (size t) (omega arith) (omega arith), ← e, ← p) q
+      rw (eq-eqb (length t) (16 + 160 * recordCount t) (omega arith), in-among 1 255 (recordCount t) (omega arith) (omega arith), ← e, ← p) q
 
 -- One record.
 
 pub record-free : (r : List ℕ) {b : Bool} → getD r 0 0 ≡ 0 → b ≡ zeros r → b ≡ recordSound r
-unfolding recordSound usedSound fieldsSound fieldsOf
+unfolding recordSound usedSound fieldsSound recordFields
 record-free r e q = rw (among-low 1 6 (getD r 0 0) (omega arith)) (q ∙ sym (or-false (zeros r)))
 
 not-zeros : (r : List ℕ) → (getD r 0 0 ≡ 0 → ⊥) → zeros r ≡ false
@@ -68,9 +68,9 @@ module _ (t : List ℕ) where
   only-distinct e f q = rw (e, f) q
 
   -- a table with a right frame has at most 255 records
-  pub frame-size : frameSound t ≡ true → size t ≤ 255
+  pub frame-size : frameSound t ≡ true → recordCount t ≤ 255
   unfolding frameSound
-  frame-size e = among-in 1 255 (size t) (and-left (among 1 255 (size t)) _ (and-right (eqb (length t) (16 + 160 * size t)) _ e)) .1
+  frame-size e = among-in 1 255 (recordCount t) (and-left (among 1 255 (recordCount t)) _ (and-right (eqb (length t) (16 + 160 * recordCount t)) _ e)) .1
 
 -- a number of fewer than four bytes, and one more, fits 32 bits
 pub span-three : (i v : ℕ) → i < 4 → v < capacity i → v < 16777216

@@ -32,8 +32,8 @@ abbrev pub base : ℕ → ℕ
 base k = headerSize + recordSize * k
 
 -- how many whole records stand behind the header
-abbrev pub size : List ℕ → ℕ
-size t = (length t - headerSize) / recordSize
+abbrev pub recordCount : List ℕ → ℕ
+recordCount t = (length t - headerSize) / recordSize
 
 -- record k
 abbrev pub recordAt : List ℕ → ℕ → List ℕ

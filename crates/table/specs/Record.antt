@@ -87,43 +87,43 @@ abbrev pub roomAt : ℕ → ℕ → List ℕ → List ℕ
 roomAt at room r = take room (drop (at + 1) r)
 
 -- the text whose length stands at a place: so many of its room's first bytes
-unfoldable pub textAt : ℕ → ℕ → List ℕ → List ℕ
-textAt at room r = take (getD r at 0) (roomAt at room r)
+unfoldable pub roomText : ℕ → ℕ → List ℕ → List ℕ
+roomText at room r = take (getD r at 0) (roomAt at room r)
 
 -- the Call-ID
 abbrev pub recordCallId : List ℕ → List ℕ
-recordCallId r = textAt callIdAt callIdRoom r
+recordCallId r = roomText callIdAt callIdRoom r
 
 -- the user
 abbrev pub recordUser : List ℕ → List ℕ
-recordUser r = textAt userAt partyRoom r
+recordUser r = roomText userAt partyRoom r
 
 -- the caller's Fire-ID
 abbrev pub recordCallerFire : List ℕ → List ℕ
-recordCallerFire r = textAt callerFireAt partyRoom r
+recordCallerFire r = roomText callerFireAt partyRoom r
 
 -- the callee's Fire-ID
 abbrev pub recordCalleeFire : List ℕ → List ℕ
-recordCalleeFire r = textAt calleeFireAt partyRoom r
+recordCalleeFire r = roomText calleeFireAt partyRoom r
 
 -- the number of n bytes at a place
-abbrev pub numberIn : ℕ → ℕ → List ℕ → ℕ
-numberIn at n r = bigEndian (take n (drop at r))
+abbrev pub recordNumber : ℕ → ℕ → List ℕ → ℕ
+recordNumber at n r = bigEndian (take n (drop at r))
 
 -- the numbers of a record
-unfoldable pub fieldsOf : List ℕ → Fields
-fieldsOf r =
+unfoldable pub recordFields : List ℕ → Fields
+recordFields r =
     record {
       state = getD r stateAt 0;
       secure = getD r secureAt 0;
-      invite = numberIn inviteAt 4 r;
-      caller = numberIn callerAt 4 r;
+      invite = recordNumber inviteAt 4 r;
+      caller = recordNumber callerAt 4 r;
       callermethod = getD r callerMethodAt 0;
-      callee = numberIn calleeAt 4 r;
+      callee = recordNumber calleeAt 4 r;
       calleemethod = getD r calleeMethodAt 0;
-      last = numberIn lastAt 8 r;
-      entry = numberIn entryAt 8 r;
-      chat = numberIn chatAt 8 r;
+      last = recordNumber lastAt 8 r;
+      entry = recordNumber entryAt 8 r;
+      chat = recordNumber chatAt 8 r;
     }
 
 -- the bytes from Secure-Call to before the last time

@@ -4,8 +4,8 @@ use Prim.Native.Nat.{ℕ, _+_, _*_}
 use Rattle.octets.specs.Class.{among, all}
 use Rattle.octets.specs.Text.{same}
 use Rattle.rules.specs.Texts.{callIdRule, userRule, fireRule}
-use Rattle.table.specs.Image.{headerSize, recordSize, mostRecords, headerOf, size, recordAt}
-use Rattle.table.specs.Record.{callIdAt, userAt, callerFireAt, calleeFireAt, spareAt, spareSize, callIdRoom, partyRoom, roomAt, textAt, recordCallId, fieldsOf, isFree}
+use Rattle.table.specs.Image.{headerSize, recordSize, mostRecords, headerOf, recordCount, recordAt}
+use Rattle.table.specs.Record.{callIdAt, userAt, callerFireAt, calleeFireAt, spareAt, spareSize, callIdRoom, partyRoom, roomAt, roomText, recordCallId, recordFields, isFree}
 use Rattle.table.specs.Search.{every}
 use Rattle.table.specs.declared.numbers.Fields.{Fields}
 use lib.Dec.{eqb, leb}
@@ -27,7 +27,7 @@ padded at room r = leb (getD r at 0) room && zeros (drop (getD r at 0) (roomAt a
 
 -- a text is within its rule and its room
 unfoldable pub slotSound : (List ℕ → Bool) → ℕ → ℕ → List ℕ → Bool
-slotSound rule at room r = padded at room r && rule (textAt at room r)
+slotSound rule at room r = padded at room r && rule (roomText at room r)
 
 -- 'texts within their rules': Call-ID, user, caller's and callee's Fire-ID
 unfoldable pub textsSound : List ℕ → Bool
@@ -60,7 +60,7 @@ spareSound r = zeros (take spareSize (drop spareAt r))
 
 -- a record in use is well-formed by itself
 unfoldable pub usedSound : List ℕ → Bool
-usedSound r = fieldsSound (fieldsOf r) && (spareSound r && textsSound r)
+usedSound r = fieldsSound (recordFields r) && (spareSound r && textsSound r)
 
 -- a record is well-formed by itself: free, which is all 00, or in use
 unfoldable pub recordSound : List ℕ → Bool
@@ -76,18 +76,18 @@ apartBefore t k = every (λ l. apart (recordAt t k) (recordAt t l)) k
 
 -- 'Call-IDs distinct': no Call-ID stands in two records that are not free
 unfoldable pub distinct : List ℕ → Bool
-distinct t = every (apartBefore t) (size t)
+distinct t = every (apartBefore t) (recordCount t)
 
 -- 'header and length right': 1 to 255 records behind the header, nothing after, and the header says so
 unfoldable pub frameSound : List ℕ → Bool
 frameSound t =
-    eqb (length t) (headerSize + recordSize * size t)
-    && (among 1 mostRecords (size t)
-    && same (take headerSize t) (headerOf (size t)))
+    eqb (length t) (headerSize + recordSize * recordCount t)
+    && (among 1 mostRecords (recordCount t)
+    && same (take headerSize t) (headerOf (recordCount t)))
 
 -- each record is well-formed by itself
 unfoldable pub recordsSound : List ℕ → Bool
-recordsSound t = every (λ k. recordSound (recordAt t k)) (size t)
+recordsSound t = every (λ k. recordSound (recordAt t k)) (recordCount t)
 
 -- a table is well-formed
 unfoldable pub wellFormed : List ℕ → Bool

@@ -14,7 +14,7 @@ ghost use mathlib.Core.Bool.{true};
 ghost use mathlib.Core.Path.{_≡_};
 ghost use Prim.Native.Nat.{_≤_, _<_};
 ghost use lib.ListN.{length};
-ghost use Rattle.table.specs.Image.{mostRecords, recordAt, recordSize, size};
+ghost use Rattle.table.specs.Image.{mostRecords, recordAt, recordSize, recordCount};
 ghost use Rattle.table.specs.inner.Mark.{markOf, marked, Marks};
 ghost use Rattle.table.specs.Record.{callIdAt, recordCallId, callIdRoom, roomAt};
 ghost use Rattle.table.specs.WellFormed.{apart, apartBefore, distinct, padded, recordsSound};
@@ -80,7 +80,7 @@ fn is_apart(r: &[u8], s: &[u8]) -> bool
 
 // Whether record k is apart from each record before it, by comparing the Call-IDs.
 fn is_apart_before(t: &[u8], k: usize) -> bool
-    requires { ⌜ (k < size (now t)) × (recordsSound (now t) ≡ true) ⌝ }
+    requires { ⌜ (k < recordCount (now t)) × (recordsSound (now t) ≡ true) ⌝ }
     ensures { λ b. ⌜ b ≡ apartBefore (now (t .entry)) k ⌝ }
 {
     let r = record_at(t, k);
@@ -97,7 +97,7 @@ fn is_apart_before(t: &[u8], k: usize) -> bool
 // Whether record k is apart from each record before it, by the marks of those: it is where it is free;
 // else Call-IDs are compared only where its mark is among them.
 fn is_new(t: &[u8], marks: &[u32; MOST_RECORDS], k: usize, m: u32) -> bool
-    requires { ⌜ (k < size (now t)) × (k < mostRecords) × (m ≡ markOf (recordCallId (recordAt (now t) k))) × Marks (now t) (now marks) k × (recordsSound (now t) ≡ true) ⌝ }
+    requires { ⌜ (k < recordCount (now t)) × (k < mostRecords) × (m ≡ markOf (recordCallId (recordAt (now t) k))) × Marks (now t) (now marks) k × (recordsSound (now t) ≡ true) ⌝ }
     ensures { λ b. ⌜ b ≡ apartBefore (now (t .entry)) k ⌝ }
 {
     if t[HEADER_SIZE + RECORD_SIZE * k] == 0 {
@@ -111,7 +111,7 @@ fn is_new(t: &[u8], marks: &[u32; MOST_RECORDS], k: usize, m: u32) -> bool
 
 // Whether no Call-ID stands in two records that are not free, of records each well-formed by itself.
 pub fn is_distinct(t: &[u8]) -> bool
-    requires { ⌜ (size (now t) ≤ mostRecords) × (recordsSound (now t) ≡ true) ⌝ }
+    requires { ⌜ (recordCount (now t) ≤ mostRecords) × (recordsSound (now t) ≡ true) ⌝ }
     ensures { λ b. ⌜ b ≡ distinct (now (t .entry)) ⌝ }
 {
     let n = record_count(t);

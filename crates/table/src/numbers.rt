@@ -15,7 +15,7 @@ ghost use lib.ListN.{drop, length, take};
 ghost use Rattle.octets.specs.Number.{bigEndian};
 ghost use Rattle.octets.specs.Splice.{splice};
 ghost use Rattle.table.specs.Image.{recordSize};
-ghost use Rattle.table.specs.Record.{countsOf, fieldsOf, lastAt, numbersOf, secureAt, timesOf};
+ghost use Rattle.table.specs.Record.{countsOf, recordFields, lastAt, numbersOf, secureAt, timesOf};
 
 // The fields of a record that are numbers, as they stand in it; `callermethod` and `calleemethod`
 // are the methods of the two sides' highest numbers.
@@ -49,7 +49,7 @@ fn word_at(s: &[u8], at: usize) -> u32
 // The numbers of a record.
 pub fn fields_of(r: &[u8]) -> Fields
     requires { ⌜ length (now r) ≡ recordSize ⌝ }
-    ensures { λ f. ⌜ f ≡ fieldsOf (now (r .entry)) ⌝ }
+    ensures { λ f. ⌜ f ≡ recordFields (now (r .entry)) ⌝ }
 {
     Fields {
         state: r[STATE_AT],

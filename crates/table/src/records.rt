@@ -16,12 +16,12 @@ use crate::texts::text;
 ghost use mathlib.Core.Path.{_≡_};
 ghost use Prim.Native.Nat.{_≤_, _<_};
 ghost use lib.ListN.{length};
-ghost use Rattle.table.specs.Image.{freeRecord, recordAt, recordSize, size, withRecord};
-ghost use Rattle.table.specs.Record.{callIdRoom, fieldsOf, newRecord, partyRoom, sameParties, withFields};
+ghost use Rattle.table.specs.Image.{freeRecord, recordAt, recordSize, recordCount, withRecord};
+ghost use Rattle.table.specs.Record.{callIdRoom, recordFields, newRecord, partyRoom, sameParties, withFields};
 
 // The bytes of record k, all of them.
 pub fn record_at(t: &[u8], k: usize) -> &[u8]
-    requires { ⌜ k < size (now t) ⌝ }
+    requires { ⌜ k < recordCount (now t) ⌝ }
     ensures { λ r. ⌜ (now r ≡ recordAt (now (t .entry)) k) × (length (now r) ≡ recordSize) ⌝ }
 {
     let a = HEADER_SIZE + RECORD_SIZE * k;
@@ -31,15 +31,15 @@ pub fn record_at(t: &[u8], k: usize) -> &[u8]
 
 // The numbers of record k.
 pub fn fields_at(t: &[u8], k: usize) -> Fields
-    requires { ⌜ k < size (now t) ⌝ }
-    ensures { λ f. ⌜ f ≡ fieldsOf (recordAt (now (t .entry)) k) ⌝ }
+    requires { ⌜ k < recordCount (now t) ⌝ }
+    ensures { λ f. ⌜ f ≡ recordFields (recordAt (now (t .entry)) k) ⌝ }
 {
     fields_of(record_at(t, k))
 }
 
 // Whether user and both Fire-IDs are those of record k.
 pub fn same_parties(t: &[u8], k: usize, user: &[u8], caller_fire: &[u8], callee_fire: &[u8]) -> bool
-    requires { ⌜ k < size (now t) ⌝ }
+    requires { ⌜ k < recordCount (now t) ⌝ }
     ensures { λ b. ⌜ b ≡ sameParties (now (user .entry)) (now («caller_fire» .entry)) (now («callee_fire» .entry)) (recordAt (now (t .entry)) k) ⌝ }
 {
     let r = record_at(t, k);
@@ -51,7 +51,7 @@ pub fn same_parties(t: &[u8], k: usize, user: &[u8], caller_fire: &[u8], callee_
 
 // Stores other numbers in record k; its texts stay.
 pub fn store(t: &mut [u8], k: usize, f: Fields)
-    requires { ⌜ k < size (now t) ⌝ }
+    requires { ⌜ k < recordCount (now t) ⌝ }
     ensures { λ _. ⌜ now (t .exit) ≡ withRecord (now (t .entry)) k (withFields (recordAt (now (t .entry)) k) f) ⌝ }
 {
     let p = HEADER_SIZE + RECORD_SIZE * k;
@@ -70,7 +70,7 @@ pub fn open(
     callee_fire: &[u8],
     f: Fields,
 )
-    requires { ⌜ (k < size (now t)) × (length (now «call_id») ≤ callIdRoom) × (length (now user) ≤ partyRoom) × (length (now «caller_fire») ≤ partyRoom) × (length (now «callee_fire») ≤ partyRoom) ⌝ }
+    requires { ⌜ (k < recordCount (now t)) × (length (now «call_id») ≤ callIdRoom) × (length (now user) ≤ partyRoom) × (length (now «caller_fire») ≤ partyRoom) × (length (now «callee_fire») ≤ partyRoom) ⌝ }
     ensures { λ _. ⌜ now (t .exit) ≡ withRecord (now (t .entry)) k (newRecord (now («call_id» .entry)) (now (user .entry)) (now («caller_fire» .entry)) (now («callee_fire» .entry)) f) ⌝ }
 {
     let p = HEADER_SIZE + RECORD_SIZE * k;
@@ -85,7 +85,7 @@ pub fn open(
 
 // Frees record k: all 00.
 pub fn release(t: &mut [u8], k: usize)
-    requires { ⌜ k < size (now t) ⌝ }
+    requires { ⌜ k < recordCount (now t) ⌝ }
     ensures { λ _. ⌜ now (t .exit) ≡ withRecord (now (t .entry)) k freeRecord ⌝ }
 {
     let p = HEADER_SIZE + RECORD_SIZE * k;

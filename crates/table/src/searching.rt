@@ -9,7 +9,7 @@ use crate::texts::text;
 ghost use mathlib.Core.Path.{_≡_};
 ghost use Prim.Native.Nat.{_<_};
 ghost use lib.ListN.{length};
-ghost use Rattle.table.specs.Image.{recordSize, size};
+ghost use Rattle.table.specs.Image.{recordSize, recordCount};
 ghost use Rattle.table.specs.Record.{isNamed};
 ghost use Rattle.table.specs.Search.{freePlace, placeNamed};
 
@@ -20,7 +20,7 @@ pub enum Found {
 
 // How many whole records stand behind the header.
 pub fn record_count(t: &[u8]) -> usize
-    ensures { λ n. ⌜ n ≡ size (now (t .entry)) ⌝ }
+    ensures { λ n. ⌜ n ≡ recordCount (now (t .entry)) ⌝ }
 {
     if t.len() < HEADER_SIZE {
         return 0;

@@ -4,13 +4,13 @@ ghost use Prim.Native.Nat.{_+_, _-_, _≤_, _<_};
 ghost use lib.ListN.{length, replicate};
 ghost use Rattle.octets.specs.Splice.{splice};
 ghost use Rattle.octets.specs.Text.{same};
-ghost use Rattle.table.specs.Record.{slotOf, textAt};
+ghost use Rattle.table.specs.Record.{slotOf, roomText};
 ghost use Rattle.table.specs.WellFormed.{padded, zeros};
 
 // The text whose length stands at `at`; it never leaves its room.
 pub fn text(r: &[u8], at: usize, room: usize) -> &[u8]
     requires { ⌜ at + 1 + room ≤ length (now r) ⌝ }
-    ensures { λ s. ⌜ now s ≡ textAt at room (now (r .entry)) ⌝ }
+    ensures { λ s. ⌜ now s ≡ roomText at room (now (r .entry)) ⌝ }
 {
     let a = at + 1;
     let n = octets::wide(r[at]) as usize;

@@ -6,7 +6,7 @@ use Rattle.octets.proofs.TestLaws.{and-parts}
 use Rattle.octets.specs.Class.{among, all}
 use Rattle.utf8.proofs.Rows.{one}
 use Rattle.utf8.proofs.Walk.{charAt-length}
-use Rattle.utf8.specs.Rfc3629.{rowOf, syntax, Range, Begins, char, none, begins, goesOn, counted, charOf, charAt, opened, octets, verdict}
+use Rattle.utf8.specs.Rfc3629.{rowOf, syntax, Bounds, Begins, char, none, begins, goesOn, counted, charOf, charAt, opened, octets, verdict}
 use Rattle.utf8.specs.declared.Verdict.the-variants.{Good, Bad}
 use Rattle.utf8.specs.declared.Verdict.{Verdict}
 use borrow.Author.Tests.{leb-true}
@@ -23,7 +23,7 @@ Fine v = v ≡ Good
 
 -- A char at the front stays one, whatever stands behind.
 
-goes-append : (rs : List Range) (s t : List ℕ) → goesOn rs s ≡ true → goesOn rs (s ++ t) ≡ true
+goes-append : (rs : List Bounds) (s t : List ℕ) → goesOn rs s ≡ true → goesOn rs (s ++ t) ≡ true
 unfolding goesOn
 goes-append [] s t e = refl
 goes-append (r ∷ rs) [] t e = cc
@@ -78,7 +78,7 @@ join s t e g = join-from 0 0 s t (omega arith) e g
 -- A char holds no ASCII byte behind its first, so it ends before one.
 
 -- ranges of octets above ASCII
-abbrev highs : List Range → Bool
+abbrev highs : List Bounds → Bool
 highs [] = true
 highs (r ∷ rs) = leb 0x80 (r .low) && highs rs
 
@@ -91,12 +91,12 @@ pick-high true x y h g = h
 pick-high false x y h g = g
 
 -- every row of a table
-abbrev allHigh : List (List Range) → Bool
+abbrev allHigh : List (List Bounds) → Bool
 allHigh [] = true
 allHigh ([] ∷ rows) = allHigh rows
 allHigh ((r ∷ rs) ∷ rows) = highs rs && allHigh rows
 
-row-high : (rows : List (List Range)) (b : ℕ) → allHigh rows ≡ true → high (rowOf rows b) ≡ true
+row-high : (rows : List (List Bounds)) (b : ℕ) → allHigh rows ≡ true → high (rowOf rows b) ≡ true
 row-high [] b e = refl
 row-high ([] ∷ rows) b e = row-high rows b e
 row-high ((r ∷ rs) ∷ rows) b e =
@@ -108,7 +108,7 @@ unfolding begins
 begins-high b = row-high syntax b refl
 
 module _ (b : ℕ) (q : List ℕ) (low : b < 0x80) where
-  goes-cut : (rs : List Range) (s : List ℕ) → highs rs ≡ true → goesOn rs (s ++ (b ∷ q)) ≡ true → goesOn rs s ≡ true
+  goes-cut : (rs : List Bounds) (s : List ℕ) → highs rs ≡ true → goesOn rs (s ++ (b ∷ q)) ≡ true → goesOn rs s ≡ true
   unfolding goesOn
   goes-cut [] s h e = refl
   goes-cut (r ∷ rs) [] h e =

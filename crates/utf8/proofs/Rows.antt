@@ -2,7 +2,7 @@
 use Prim.Native.Nat.{ℕ, _+_, _≤_, _<_}
 use Rattle.octets.proofs.ClassLaws.{in-among, among-low, among-high, among-in}
 use Rattle.octets.specs.Class.{among}
-use Rattle.utf8.specs.Rfc3629.{Range, _to_, tail, char, none, begins, goesOn, counted, charOf, charAt}
+use Rattle.utf8.specs.Rfc3629.{Bounds, _to_, tail, char, none, begins, goesOn, counted, charOf, charAt}
 use lib.ListN.{length, drop, getD, drop-of-length-le, List·getD-eq-default}
 use lib.Seq.{drop-cons}
 use mathlib.Core.Bool.{true, false, _&&_, cond, and-true}
@@ -133,7 +133,8 @@ inside s i lo hi h e = go (decLt i (length s))
         absurd (omega arith)
 
 -- one byte of a sequence, by the byte at its place, which is 0 past the end
-pub goes-more : (r : Range) (rs : List Range) (s : List ℕ) (i : ℕ) → 0 < r .low → goesOn (r ∷ rs) (drop i s) ≡ (among (r .low) (r .high) (getD s i 0) && goesOn rs (drop (i + 1) s))
+pub goes-more : (r : Bounds) (rs : List Bounds) (s : List ℕ) (i : ℕ) → 0 < r .low
+    → goesOn (r ∷ rs) (drop i s) ≡ (among (r .low) (r .high) (getD s i 0) && goesOn rs (drop (i + 1) s))
 unfolding goesOn
 goes-more r rs s i h = go (decLt i (length s))
   where
@@ -144,7 +145,7 @@ goes-more r rs s i h = go (decLt i (length s))
         let z : getD s i 0 ≡ 0 = List·getD-eq-default s 0 {n = i} (omega arith) in
         rw (d, z, among-low (r .low) (r .high) 0 h)
 
-module _ (lo hi : ℕ) (rs : List Range) (s : List ℕ) (i : ℕ) (h : 0 < lo) where
+module _ (lo hi : ℕ) (rs : List Bounds) (s : List ℕ) (i : ℕ) (h : 0 < lo) where
   pub goes-on : (j : ℕ) → j ≡ i + 1 → among lo hi (getD s i 0) ≡ true → goesOn ((lo to hi) ∷ rs) (drop i s) ≡ goesOn rs (drop j s)
   goes-on j e f = goes-more (lo to hi) rs s i h ∙ rw (f, e)
 

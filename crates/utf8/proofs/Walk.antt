@@ -3,7 +3,7 @@ use Prim.Native.Nat.{ℕ, zero, suc, _+_, _≤_, _<_}
 use Rattle.octets.proofs.TestLaws.{and-parts}
 use Rattle.octets.specs.Class.{among}
 use Rattle.utf8.proofs.Rows.{char-here, one}
-use Rattle.utf8.specs.Rfc3629.{Range, Begins, char, none, begins, goesOn, counted, charOf, charAt, octets}
+use Rattle.utf8.specs.Rfc3629.{Bounds, Begins, char, none, begins, goesOn, counted, charOf, charAt, octets}
 use Rattle.utf8.specs.inner.Ascii.{Ascii}
 use Rattle.utf8.specs.declared.Verdict.the-variants.{Good, Bad}
 use lib.ListN.{length, drop, getD, drop-of-length-le}
@@ -15,13 +15,13 @@ use native.Mathlib.Decide.{ℕ-discrete}
 use native.Mathlib.Omega.{arith}
 
 -- the octets of a char are there
-pub goes-length : (rs : List Range) (s : List ℕ) → goesOn rs s ≡ true → length rs ≤ length s
+pub goes-length : (rs : List Bounds) (s : List ℕ) → goesOn rs s ≡ true → length rs ≤ length s
 unfolding goesOn
 goes-length [] s e = omega arith
 goes-length (r ∷ rs) [] e = let z : _≡_ {A = ℕ} 0 1 = cc in omega arith
 goes-length (r ∷ rs) (b ∷ s) e = let h = goes-length rs s (and-parts (among (r .low) (r .high) b) (goesOn rs s) e .1) in omega arith
 
-counted-length : (t : Bool) (rs : List Range) (s : List ℕ) → goesOn rs s ≡ t → counted t (suc (length rs)) ≤ suc (length s)
+counted-length : (t : Bool) (rs : List Bounds) (s : List ℕ) → goesOn rs s ≡ t → counted t (suc (length rs)) ≤ suc (length s)
 counted-length true rs s e = let h = goes-length rs s e in omega arith
 counted-length false rs s e = omega arith
 

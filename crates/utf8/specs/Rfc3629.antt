@@ -8,20 +8,20 @@ use Rattle.utf8.specs.declared.Verdict.{Verdict}
 use Rattle.utf8.specs.declared.Verdict.the-variants.{Good, Bad}
 
 -- an ABNF range such as %xA0-BF
-pub record Range : Type 0 where
+pub record Bounds : Type 0 where
   pub low : ℕ
   pub high : ℕ
 
 infix 30 _to_
-abbrev pub _to_ : ℕ → ℕ → Range
+abbrev pub _to_ : ℕ → ℕ → Bounds
 lo to hi = record { low = lo; high = hi }
 
 -- UTF8-tail = %x80-BF
-abbrev pub tail : Range
+abbrev pub tail : Bounds
 tail = 0x80 to 0xBF
 
 -- the RFC's syntax: a UTF8-char is one octet of each range of a row
-abbrev pub syntax : List (List Range)
+abbrev pub syntax : List (List Bounds)
 syntax =
     -- UTF8-1
     ((0x00 to 0x7F) ∷ [])
@@ -40,11 +40,11 @@ syntax =
 
 -- what a first octet begins: a UTF8-char that goes on with octets of these ranges, or none
 pub data Begins : Type 0 where
-  char : List Range → Begins
+  char : List Bounds → Begins
   none : Begins
 
 -- the first row that an octet can begin (no octet begins two)
-abbrev pub rowOf : List (List Range) → ℕ → Begins
+abbrev pub rowOf : List (List Bounds) → ℕ → Begins
 rowOf [] b = none
 rowOf ([] ∷ rows) b = rowOf rows b
 rowOf ((r ∷ rs) ∷ rows) b = cond (among (r .low) (r .high) b) (char rs) (rowOf rows b)
@@ -53,7 +53,7 @@ unfoldable pub begins : ℕ → Begins
 begins b = rowOf syntax b
 
 -- whether the octets go on with one octet of each range
-unfoldable pub goesOn : List Range → List ℕ → Bool
+unfoldable pub goesOn : List Bounds → List ℕ → Bool
 goesOn [] s = true
 goesOn (r ∷ rs) [] = false
 goesOn (r ∷ rs) (b ∷ s) = among (r .low) (r .high) b && goesOn rs s

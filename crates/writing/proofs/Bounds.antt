@@ -21,15 +21,15 @@ use native.Mathlib.Omega.{arith}
 -- where a rule's pieces end is the text's end
 endOf : List Piece → List ℕ → ℕ → ℕ
 endOf [] s at = at
-endOf (p ∷ ps) s at = endOf ps s (pieces.behind p s at)
+endOf (p ∷ ps) s at = endOf ps s (pieces.pieceEnd p s at)
 
 reads-end : (ps : List Piece) (s : List ℕ) (at : ℕ) → reads ps s at ≡ true → endOf ps s at ≡ length s
 unfolding reads endOf
 reads-end [] s at e = eqb-true at (length s) e
-reads-end (p ∷ ps) s at e = reads-end ps s (pieces.behind p s at) (and-parts (pieces.hasPiece p s at) (reads ps s (pieces.behind p s at)) e .1)
+reads-end (p ∷ ps) s at e = reads-end ps s (pieces.pieceEnd p s at) (and-parts (pieces.hasPiece p s at) (reads ps s (pieces.pieceEnd p s at)) e .1)
 
 run-short : (lo hi : ℕ) (c d : Class) (s : List ℕ) → reads (run lo hi c d ∷ []) s 0 ≡ true → length s ≤ hi
-unfolding reads pieces.hasPiece pieces.behind within
+unfolding reads pieces.hasPiece pieces.pieceEnd within
 run-short lo hi c d s e =
     let p = and-parts (within lo hi d s 0 (0 + runLength c (drop 0 s))) (eqb (0 + runLength c (drop 0 s)) (length s)) e in
     let q = and-parts (among lo hi (0 + runLength c (drop 0 s) - 0)) _ (p .0) in
@@ -48,7 +48,7 @@ unfolding organizationRule
 organization-short s e = run-short 2 10 Label Alnum s e
 
 date-ends : (n : ℕ) (s : List ℕ) → endOf (date n) s 0 ≡ 24
-unfolding endOf pieces.behind
+unfolding endOf pieces.pieceEnd
 date-ends n s = refl
 
 pub date-long : (s : List ℕ) → dateRule s ≡ true → length s ≡ 24

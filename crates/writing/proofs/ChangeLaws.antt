@@ -1,9 +1,10 @@
 -- An accepted message with another Via in its place, one that keeps Via's rule, is accepted again, with the same facts (`via-changed`): frame says that
 -- the text is JSON, with its tag and all other members as they were, and the reading goes by those alone. Assumes nothing.
+use Rattle.fields.proofs.TextLaws.{left-cut}
 use Prim.Native.Nat.{ℕ, zero, suc, _+_, _-_, _≤_, _<_}
 use Rattle.frame.proofs.Forwarding.{Changed}
 use Rattle.frame.proofs.MessageShape.{swapRead}
-use Rattle.json.specs.Places.{part, bytes, raw, closing, behind, size, left, Inside, outside, quoted, escaped, turn, depth, valueOf, members, spell}
+use Rattle.json.specs.Places.{part, bytes, raw, closing, behind, size, left, quoted, valueOf, members, spell}
 use Rattle.fields.specs.Known.{empty, noted}
 use Rattle.message.specs.Shape.{tagOf, objectOf}
 use Rattle.fields.specs.Via.{viaRule}
@@ -24,14 +25,6 @@ use mathlib.Core.Path.{_≡_, refl, sym, ap, subst, _∙_}
 use native.Mathlib.Omega.{arith}
 
 -- What is left of a string is decided by its own bytes, so what stands between the quotes of a string is.
-left-own : (l : List ℕ) (x : Inside) (n : ℕ) → left (take (left l x n) l) x n ≡ left l x n
-unfolding left
-left-own [] x n = refl
-left-own (b ∷ l) outside zero = refl
-left-own (b ∷ l) outside (suc n) = ap suc (left-own l (turn outside b) (depth (suc n) b))
-left-own (b ∷ l) quoted n = ap suc (left-own l (turn quoted b) n)
-left-own (b ∷ l) escaped n = ap suc (left-own l (turn escaped b) n)
-
 string-size : (l : List ℕ) → size (34 ∷ l) ≡ suc (left l quoted 0)
 unfolding size
 string-size l = refl
@@ -58,7 +51,7 @@ bytes-at s x l e =
 raw-own : (s : List ℕ) (x : ℕ) (l : List ℕ) → drop x s ≡ 34 ∷ l → raw s x ≡ raw (bytes s x) 0
 raw-own s x l e =
     let r : raw (own l) 0 ≡ take (left (take (left l quoted 0) l) quoted 0 - 1) (take (left l quoted 0) l) = raw-at (own l) 0 (take (left l quoted 0) l) refl in
-    raw-at s x l e ∙ sym (ap (λ (v : List ℕ). raw v 0) (bytes-at s x l e) ∙ r ∙ ap (λ (n : ℕ). take (n - 1) (take (left l quoted 0) l)) (left-own l quoted 0)
+    raw-at s x l e ∙ sym (ap (λ (v : List ℕ). raw v 0) (bytes-at s x l e) ∙ r ∙ ap (λ (n : ℕ). take (n - 1) (take (left l quoted 0) l)) (left-cut l quoted 0)
     ∙ take-take (left l quoted 0 - 1) (left l quoted 0) l (omega arith))
 
 opens-at : (s : List ℕ) (x : ℕ) → getD s x 0 ≡ 34 → drop x s ≡ 34 ∷ drop (suc x) s

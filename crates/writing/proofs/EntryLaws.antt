@@ -15,7 +15,7 @@ use Rattle.rules.specs.Pieces.{wordNumberFrom}
 use Rattle.rules.specs.Texts.{hostRule, destinationRule, organizationRule}
 use Rattle.message.proofs.HopPairs.{HopBy, three, pairs-hop}
 use Rattle.message.proofs.PairLaws.{found, valueIn, doubled}
-use Rattle.writing.proofs.PlainLaws.{Plain, plain-plainly, plain-unescaped, host-plain, destination-plain, organization-plain}
+use Rattle.writing.proofs.PlainLaws.{Plain, plain-plainly, plain-no-backslash, host-plain, destination-plain, organization-plain}
 use Rattle.writing.specs.Adding.{entry, pathRule}
 use lib.ListN.{getD}
 use mathlib.Core.Bool.{Bool, true, _&&_}
@@ -46,7 +46,7 @@ quoted-text x h = name-is (inQuotes x) x [] 0 (plain-name x h .listed) refl
 
 pub quoted-ruled : (rule : List ℕ → Bool) (x : List ℕ) → Plain x → rule x ≡ true → ruled rule (inQuotes x) ≡ true
 unfolding ruled freely isString
-quoted-ruled rule x p e = let q = quoted-text x (plain-plainly x p) in rw (q, plain-unescaped x p, e)
+quoted-ruled rule x p e = let q = quoted-text x (plain-plainly x p) in rw (q, plain-no-backslash x p, e)
 
 module _ (h d o : List ℕ) (k : pathRule h d o ≡ true) where
   rules-kept : (hostRule h ≡ true) × ((destinationRule d ≡ true) × (organizationRule o ≡ true))

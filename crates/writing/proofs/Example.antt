@@ -18,13 +18,13 @@ use Rattle.octets.specs.Text.{same, standsAt}
 use Rattle.rules.specs.Address.{callerRule, calleeRule, userEnd, callerEnd, calleeEnd, addressOf}
 use Rattle.rules.specs.Classes.{holds}
 use Rattle.rules.specs.Date.{leap, daysIn, dateRule}
-use Rattle.rules.specs.Fields.{isIn, tagAsks, methodAsks}
+use Rattle.rules.specs.Asks.{isIn, tagAsks, methodAsks}
 use Rattle.rules.specs.Pieces as pieces
 use Rattle.rules.specs.Pieces.{runLength, digits, decimalAt, wordNumberFrom, within, reads}
 use Rattle.rules.specs.Sequence as sequence
 use Rattle.rules.specs.Sequence.{sequenceRule, numberEnd, sequenceOf}
 use Rattle.rules.specs.Status.{indexIn, listed, statusText}
-use Rattle.rules.specs.Texts.{callIdRule, hostRule, destinationRule, organizationRule, unescaped}
+use Rattle.rules.specs.Texts.{callIdRule, hostRule, destinationRule, organizationRule, noBackslash}
 use Rattle.utf8.specs.Rfc3629.{begins, goesOn, charAt, octets}
 use Rattle.writing.specs.Outcome.{write}
 use Rattle.writing.specs.Reply.{replyText, replyOf, unanswered, wrongCode, replyTo, replying}
@@ -45,8 +45,8 @@ pub example : replying request 200 (ascii "2024-03-01T00:00:00+0900") ≡ write 
 unfolding among isDigit isLower isUpper isLetter isAlnum all same standsAt begins goesOn charAt octets isWs opens begin ends step stops walk from part spaces past isOpen isShut
     left size behind closing raw next valueOf follows more memberAt membersFrom members elementsFrom elements sequenceRule numberEnd sequenceOf runLength digits decimalAt
     wordNumberFrom within reads leap daysIn dateRule callerRule calleeRule userEnd callerEnd calleeEnd addressOf indexIn listed statusText callIdRule hostRule destinationRule
-    organizationRule unescaped holds isIn tagAsks methodAsks textAt numberOf methodOf fromCaller toCaller settingOf sameSide wrongSide wrongNumber sidesDisagree requestDisagrees
+    organizationRule noBackslash holds isIn tagAsks methodAsks textAt numberOf methodOf fromCaller toCaller settingOf sameSide wrongSide wrongNumber sidesDisagree requestDisagrees
     disagrees messageOf agreed settled judged known shaped reading lacks breaks lowest checked isString isArray textOf freely ruled tagAt tagOf objectOf addressRule keeps
-    hopPlaces hopRule hopKeeps isHop viaRule numberAt has note noted repeated replyText replyOf unanswered wrongCode replyTo replying pieces.behind pieces.hasPiece
+    hopPlaces hopRule hopKeeps isHop viaRule numberAt has note noted repeated replyText replyOf unanswered wrongCode replyTo replying pieces.pieceEnd pieces.hasPiece
     sequence.cseqNumber sequence.cseqMethod
 example = refl

@@ -1,4 +1,5 @@
 -- Via of an accepted message edited: our entry added (`entry-added`), the last object taken off (`entry-removed`). Assumes nothing.
+use Rattle.json.proofs.TurnLaws.{there}
 use Prim.Native.Nat.{ℕ, _≤_}
 use Rattle.frame.proofs.ArrayEdits.{Solids, front, back, items-split, items-grow, grow, grow₁, grow-solid, grow-values, prior, gap, front-gap, items-shrink, shrink, shrink₁}
 use Rattle.frame.proofs.ArrayEdits.{shrink-solid, shrink-values, butLast, array-elements, added-is, removed-is}
@@ -8,12 +9,11 @@ use Rattle.frame.proofs.Written.{items-append}
 use Rattle.frame.specs.Edit.{added, removed}
 use Rattle.json.proofs.Listing.{Item, items, values}
 use Rattle.json.specs.Places.{bytes, behind, elements}
-use Rattle.fields.proofs.GatherLaws.{there}
 use Rattle.fields.specs.Via.{viaRule}
 use Rattle.utf8.specs.Rfc3629.{verdict}
 use Rattle.utf8.specs.declared.Verdict.the-variants.{Good}
 use Rattle.message.proofs.AcceptedRows.{Accepted, good-sound, is-kept}
-use Rattle.message.specs.Message.{first}
+use Rattle.message.specs.Message.{firstSetting}
 use Rattle.message.proofs.AlikeLaws.{field-there}
 use Rattle.message.proofs.AcceptedVia.{via-asked, via-keeps}
 use Rattle.writing.proofs.ChangeLaws.{first-byte, Again, via-changed}
@@ -43,8 +43,8 @@ less-long (x ∷ (y ∷ ys)) = omega (arith, less-long (y ∷ ys))
 
 module _ {s : List ℕ} {tag : ℕ} {t : List ℕ} (a : Accepted s tag t) where
   pub kept-via : viaRule (bytes s (getD t 6 0)) ≡ true
-  kept-via = sym (via-keeps (first tag) (bytes s (getD t 6 0)))
-      ∙ is-kept (good-sound s true (first tag) t (a .fits)) 6 (omega arith) (omega arith) (omega (arith, via-asked tag (a .kind .0) (a .kind .1)))
+  kept-via = sym (via-keeps (firstSetting tag) (bytes s (getD t 6 0)))
+      ∙ is-kept (good-sound s true (firstSetting tag) t (a .fits)) 6 (omega arith) (omega arith) (omega (arith, via-asked tag (a .kind .0) (a .kind .1)))
       (field-there a 6 (omega arith) (omega arith))
 
   pub opens : getD s (getD t 6 0) 0 ≡ 91

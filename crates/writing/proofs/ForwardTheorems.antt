@@ -24,7 +24,7 @@ use Rattle.writing.proofs.TrailLaws.{trail-passed}
 use Rattle.writing.proofs.WayLaws.{host-of}
 use Rattle.writing.specs.Adding.{entry, pathRule, adding}
 use Rattle.writing.specs.Outcome.{Outcome, answered, Writes}
-use Rattle.writing.specs.Removing.{removing, hostIn, shown, Took, nextHop}
+use Rattle.writing.specs.Removing.{removing, hostIn, hostShown, Took, nextHop}
 use Rattle.writing.specs.Objects.{objects}
 use Rattle.writing.specs.declared.answers.Refusal.{Refusal}
 use Rattle.writing.specs.declared.answers.Removed.the-variants as removals
@@ -148,7 +148,7 @@ returned-by s h d o w e l =
     subst (λ (x : List ℕ). Returned s (e .m) x) (sym q) (subst (λ (m : Message). Returned s m (removed s (getD t 6 0))) (a .is) f)
 
 -- what `remove` answers, and what it writes
-done-of : (h : Span) (w : Written) (n a e : ℕ) → removals.Done n a e ≡ shown h w → (w ≡ Done n) × ((a ≡ h .start) × (e ≡ h .end))
+done-of : (h : Span) (w : Written) (n a e : ℕ) → removals.Done n a e ≡ hostShown h w → (w ≡ Done n) × ((a ≡ h .start) × (e ≡ h .end))
 done-of h (Done k) n a e q = (let z : k ≡ n = cc in ap Done z, ((let z : a ≡ h .start = cc in z), (let z : e ≡ h .end = cc in z)))
 done-of h (Refused r) n a e q = absurd (let z : _≡_ {A = ℕ} 0 1 = cc in omega arith)
 

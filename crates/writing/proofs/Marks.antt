@@ -23,16 +23,16 @@ use Rattle.octets.specs.Text.{same, standsAt}
 use Rattle.rules.specs.Address.{addressOf, calleeEnd, calleeRule, callerEnd, callerRule, userEnd}
 use Rattle.rules.specs.Classes.{holds}
 use Rattle.rules.specs.Date.{dateRule, daysIn, leap}
-use Rattle.rules.specs.Fields.{isIn, methodAsks, tagAsks}
+use Rattle.rules.specs.Asks.{isIn, methodAsks, tagAsks}
 use Rattle.rules.specs.Pieces as pieces
 use Rattle.rules.specs.Pieces.{digits, wordNumberFrom, reads, runLength, decimalAt, within}
 use Rattle.rules.specs.Sequence as sequence
 use Rattle.rules.specs.Sequence.{numberEnd, sequenceOf, sequenceRule}
-use Rattle.rules.specs.Texts.{callIdRule, destinationRule, hostRule, organizationRule, unescaped}
+use Rattle.rules.specs.Texts.{callIdRule, destinationRule, hostRule, organizationRule, noBackslash}
 use Rattle.utf8.specs.Rfc3629.{begins, charAt, goesOn, octets}
 use Rattle.writing.specs.Adding.{addTo, adding, entry, pathRule}
 use Rattle.writing.specs.Objects.{isOurs, some}
-use Rattle.writing.specs.Outcome.{answered, fitted, left, put, refuse, write}
+use Rattle.writing.specs.Outcome.{answered, fitted, outputLeft, put, refuse, write}
 use Rattle.writing.specs.declared.answers.Refusal.the-variants.{Full, Long, Loop, Room}
 use Rattle.writing.specs.declared.answers.Written.the-variants.{Done, Refused}
 use lib.ListN.{replicate}
@@ -52,9 +52,9 @@ pub adds :
 unfolding reading octets charAt begins goesOn from walk step isWs begin opens ends stops shaped tagOf tagAt objectOf elements elementsFrom more follows past spaces behind size
     leftOf isOpen isShut raw closing part wordNumberFrom same standsAt members membersFrom memberAt valueOf next known repeated has numberAt note noted judged checked lacks breaks
     lowest tagAsks methodAsks isIn keeps ruled freely isString isArray textOf textAt viaRule isHop hopPlaces hopRule hopKeeps addressRule dateRule daysIn leap
-    callerRule calleeRule sequenceRule callIdRule destinationRule hostRule organizationRule unescaped reads runLength decimalAt digits within holds all among isAlnum isDigit
+    callerRule calleeRule sequenceRule callIdRule destinationRule hostRule organizationRule noBackslash reads runLength decimalAt digits within holds all among isAlnum isDigit
     isLetter
-    isLower isUpper pieces.hasPiece pieces.behind settingOf methodOf numberOf contentAt sequenceOf numberEnd sequence.cseqNumber sequence.cseqMethod settled agreed disagrees
+    isLower isUpper pieces.hasPiece pieces.pieceEnd settingOf methodOf numberOf contentAt sequenceOf numberEnd sequence.cseqNumber sequence.cseqMethod settled agreed disagrees
     sidesDisagree sameSide wrongSide wrongNumber requestDisagrees fromCaller toCaller addressOf userEnd callerEnd calleeEnd messageOf adding addTo entry pathRule some isOurs
     hostOf destinationOf hopOf added stopsOf lastOf
 adds = refl
@@ -80,6 +80,6 @@ unfolding fitted
 answers = (refl, refl, refl)
 
 -- bytes past the result stay: three bytes into three, and into four
-pub outputs : (left (ascii "xyz") (write (ascii "abc")) ≡ ascii "abc") × (left (ascii "wxyz") (write (ascii "abc")) ≡ ascii "abcz")
+pub outputs : (outputLeft (ascii "xyz") (write (ascii "abc")) ≡ ascii "abc") × (outputLeft (ascii "wxyz") (write (ascii "abc")) ≡ ascii "abcz")
 unfolding put written
 outputs = (refl, refl)

@@ -1,5 +1,6 @@
 -- Objects of Via by their own bytes: an object of Via in any text is one by itself, and back (`hop-own`, `own-hop`), so Via's rule is one on the bytes of
 -- its objects (`via-solid`, `solid-via`). Assumes nothing.
+use Rattle.json.proofs.TurnLaws.{there}
 use Prim.Native.Nat.{ℕ, zero, suc, _+_, _-_, _≤_, _<_}
 use Rattle.frame.proofs.ArrayEdits.{Solids, solid-goods, array-elements}
 use Rattle.frame.proofs.Forwarding.{AllOpen, Solidly, solidly-as, not-none}
@@ -10,7 +11,6 @@ use Rattle.frame.proofs.Written.{Named, body-append}
 use Rattle.json.proofs.Listing.{Item, items, values, readAll, at-byte, at-next, ws-44, ws-93, more-on, more-off, item-read, elements-at, array-long, object-read}
 use Rattle.json.proofs.ScanLaws.{Opener, Opened}
 use Rattle.json.specs.Places.{behind, bytes, past, follows, members, elementsFrom, elements, spell}
-use Rattle.fields.proofs.GatherLaws.{there}
 use Rattle.fields.specs.Hop.{hopOf, hostOf}
 use Rattle.fields.specs.Spans.{textAt}
 use Rattle.fields.specs.Value.{isArray, isString, textOf, freely, ruled}

@@ -10,7 +10,7 @@ use Rattle.octets.specs.Splice.{written}
 use Rattle.octets.proofs.TestLaws.{or-none}
 use Rattle.rules.specs.Date.{dateRule}
 use Rattle.writing.specs.Adding.{entry, pathRule, addTo, adding}
-use Rattle.writing.specs.Outcome.{Outcome, refuse, write, onRead, fitted, answered, put, left, Writes}
+use Rattle.writing.specs.Outcome.{Outcome, refuse, write, onRead, fitted, answered, put, outputLeft, Writes}
 use Rattle.writing.specs.Removing.{removeFrom, removing}
 use Rattle.writing.specs.Reply.{replyOf, unanswered, wrongCode, replyTo, replying}
 use Rattle.writing.specs.Objects.{isOurs, some, objects}
@@ -48,7 +48,7 @@ put-fits : (o w : List ℕ) → length w ≤ 32768 → length w ≤ length o →
 unfolding put
 put-fits o w h g = rw (le-leb (length w) 32768 h, le-leb (length w) (length o) g)
 
-stood-by : (o : List ℕ) (x : Outcome) (n : ℕ) (o′ : List ℕ) → Done n ≡ answered (length o) x → o′ ≡ left o x → Stood o x n o′
+stood-by : (o : List ℕ) (x : Outcome) (n : ℕ) (o′ : List ℕ) → Done n ≡ answered (length o) x → o′ ≡ outputLeft o x → Stood o x n o′
 unfolding fitted written
 stood-by o (refuse r) n o′ e f = not-done (sym e)
 stood-by o (write w) n o′ e f =

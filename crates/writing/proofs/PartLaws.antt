@@ -1,4 +1,5 @@
 -- Parts of parts: a part of a value stands in the message where the value does; and the last but one of a list. Assumes nothing.
+use Rattle.fields.proofs.TextLaws.{take-own}
 use Prim.Native.Nat.{ℕ, zero, suc, _+_, _-_, _≤_}
 use Rattle.frame.proofs.ArrayEdits.{butLast}
 use Rattle.json.specs.Places.{part, bytes, behind, prevOf}
@@ -16,13 +17,8 @@ record Front (u l : List ℕ) : Type 0 where
   k : ℕ
   is : u ≡ take k l
 
-front-whole : (k : ℕ) (l : List ℕ) → take (length (take k l)) l ≡ take k l
-front-whole zero l = refl
-front-whole (suc k) [] = refl
-front-whole (suc k) (b ∷ l) = ap (λ (z : List ℕ). b ∷ z) (front-whole k l)
-
 front-own : (u l : List ℕ) → Front u l → take (length u) l ≡ u
-front-own u l f = ap (λ (z : List ℕ). take (length z) l) (f .is) ∙ front-whole (f .k) l ∙ sym (f .is)
+front-own u l f = ap (λ (z : List ℕ). take (length z) l) (f .is) ∙ take-own (f .k) l ∙ sym (f .is)
 
 front-take : (j : ℕ) (u l : List ℕ) → Front u l → Front (take j u) l
 front-take j u l f = by (leb j (f .k)) refl

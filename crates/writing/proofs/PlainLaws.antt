@@ -7,14 +7,14 @@ use Rattle.octets.proofs.TestLaws.{and-parts, or-split}
 use Rattle.octets.specs.Class.{all, among, isDigit, isLower, isUpper, isLetter, isAlnum}
 use Rattle.rules.specs.Classes.{holds}
 use Rattle.rules.specs.Pieces as pieces
-use Rattle.rules.specs.Pieces.{further, run, runLength, within, reads}
-use Rattle.rules.specs.Texts.{unescaped, hostRule, destinationRule, organizationRule}
+use Rattle.rules.specs.Pieces.{run, runLength, within, reads}
+use Rattle.rules.specs.Texts.{noBackslash, hostRule, destinationRule, organizationRule}
 use Rattle.rules.specs.declared.classes.Class.the-variants.{Alnum, Graphic, Label, Name}
 use Rattle.rules.specs.declared.classes.Class.{Class}
 use borrow.Author.Tests.{ne-eqb, le-ltb, le-leb, eqb-true, eqb-false, not-true}
 use lib.Dec.{eqb, leb}
 use lib.ListN.{length, drop}
-use mathlib.Core.Bool.{Bool, true, false, not, _&&_, _||_}
+use mathlib.Core.Bool.{Bool, true, false, not, _&&_, _||_, cond}
 use mathlib.Core.List.{List, [], _∷_}
 use mathlib.Core.Logic.{_⊎_, inl, inr}
 use mathlib.Core.Path.{_≡_, refl}
@@ -40,10 +40,10 @@ unfolding all
 plain-ascii [] h = refl
 plain-ascii (b ∷ s) h = rw (le-leb b 127 (omega (arith, h .0 .high))) (plain-ascii s (h .1))
 
-pub plain-unescaped : (s : List ℕ) → Plain s → all unescaped s ≡ true
-unfolding all unescaped
-plain-unescaped [] h = refl
-plain-unescaped (b ∷ s) h = rw (ne-eqb b 92 (h .0 .slash)) (plain-unescaped s (h .1))
+pub plain-no-backslash : (s : List ℕ) → Plain s → all noBackslash s ≡ true
+unfolding all noBackslash
+plain-no-backslash [] h = refl
+plain-no-backslash (b ∷ s) h = rw (ne-eqb b 92 (h .0 .slash)) (plain-no-backslash s (h .1))
 
 plain-in : (b : ℕ) → 93 ≤ b → b ≤ 126 → PlainByte b
 plain-in b h g = record { low = omega arith; high = g; quote = λ e. omega arith; slash = λ e. omega arith }
@@ -104,12 +104,12 @@ unfolding runLength
 span-all c f [] e = tt
 span-all c f (b ∷ s) e = by (holds c b) refl (λ z. span-all c f s z) e
   where
-    by : (u : Bool) → holds c b ≡ u → (runLength c s ≡ length s → Plain s) → further u (runLength c s) ≡ suc (length s) → PlainByte b × Plain s
+    by : (u : Bool) → holds c b ≡ u → (runLength c s ≡ length s → Plain s) → cond u (suc (runLength c s)) 0 ≡ suc (length s) → PlainByte b × Plain s
     by true h g z = (f b h, g (omega arith))
     by false h g z = absurd (omega arith)
 
 run-plain : (lo hi : ℕ) (c d : Class) (f : (b : ℕ) → holds c b ≡ true → PlainByte b) (s : List ℕ) → reads (run lo hi c d ∷ []) s 0 ≡ true → Plain s
-unfolding reads pieces.hasPiece pieces.behind
+unfolding reads pieces.hasPiece pieces.pieceEnd
 run-plain lo hi c d f s e =
     let p = and-parts (within lo hi d s 0 (0 + runLength c (drop 0 s))) (eqb (0 + runLength c (drop 0 s)) (length s)) e in
     span-all c f s (omega (arith, eqb-true (0 + runLength c (drop 0 s)) (length s) (p .1)))

@@ -4,8 +4,8 @@ use Prim.Native.Nat.{ℕ}
 use Rattle.message.specs.Reading.{reading}
 use Rattle.fields.specs.declared.spans.Span.{Span}
 use Rattle.writing.specs.Adding.{adding}
-use Rattle.writing.specs.Outcome.{Outcome, refuse, write, fitted, answered, put, left, Writes}
-use Rattle.writing.specs.Removing.{removing, hostIn, shown, Took}
+use Rattle.writing.specs.Outcome.{Outcome, refuse, write, fitted, answered, put, outputLeft, Writes}
+use Rattle.writing.specs.Removing.{removing, hostIn, hostShown, Took}
 use Rattle.writing.specs.Reply.{replying}
 use Rattle.writing.specs.declared.answers.Refusal.the-variants.{Long, Room}
 use Rattle.writing.specs.declared.answers.Refusal.{Refusal}
@@ -41,12 +41,12 @@ too-much o w f false true p q e =
     rw (le-leb (length w) 32768 (ltb-false 32768 (length w) p), lt-leb (length w) (length o) (ltb-true (length o) (length w) q))
 too-much o w f false false p q e = absurd (let z : _≡_ {A = ℕ} 0 1 = cc in omega arith)
 
-stays : (o : List ℕ) (x : Outcome) (f : Refusal) → Refused f ≡ answered (length o) x → left o x ≡ o
+stays : (o : List ℕ) (x : Outcome) (f : Refusal) → Refused f ≡ answered (length o) x → outputLeft o x ≡ o
 unfolding fitted
 stays o (refuse r) f e = refl
 stays o (write w) f e = too-much o w f (ltb 32768 (length w)) (ltb (length o) (length w)) refl refl e
 
-refused-of : (h : Span) (w : Written) (f : Refusal) → removals.Refused f ≡ shown h w → Refused f ≡ w
+refused-of : (h : Span) (w : Written) (f : Refusal) → removals.Refused f ≡ hostShown h w → Refused f ≡ w
 refused-of h (Done n) f e = absurd (let z : _≡_ {A = ℕ} 0 1 = cc in omega arith)
 refused-of h (Refused r) f e = let z : f ≡ r = cc in ap Refused z
 

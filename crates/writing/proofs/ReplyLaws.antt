@@ -23,7 +23,7 @@ use Rattle.rules.specs.Pieces.{wordNumberFrom, wordNumber}
 use Rattle.utf8.specs.Rfc3629.{verdict}
 use Rattle.utf8.specs.declared.Verdict.the-variants.{Good}
 use Rattle.message.proofs.AcceptedRows.{Accepted, good-sound, is-kept}
-use Rattle.message.specs.Message.{first}
+use Rattle.message.specs.Message.{firstSetting}
 use Rattle.message.proofs.AlikeLaws.{field-there, tag-asks}
 use Rattle.writing.proofs.ChangeLaws.{first-byte}
 use Rattle.writing.proofs.ForwardLaws.{opens}
@@ -251,12 +251,12 @@ module _ {s : List ℕ} {tag : ℕ} {t : List ℕ} (a : Accepted s tag t) (n : �
             (value-followed s (shape a .x) (shape a .y) (field-where a n h g .n) (getD t n 0) m) (subst (λ (x : List ℕ). verdict x ≡ Good) e (a .utf));
       }
 
-  kept-field : keeps (first tag) n (bytes s (getD t n 0)) ≡ true
-  kept-field = is-kept (good-sound s true (first tag) t (a .fits)) n h (omega arith) (omega (arith, tag-asks tag n (a .kind .0) (a .kind .1) h g)) (field-there a n h g)
+  kept-field : keeps (firstSetting tag) n (bytes s (getD t n 0)) ≡ true
+  kept-field = is-kept (good-sound s true (firstSetting tag) t (a .fits)) n h (omega arith) (omega (arith, tag-asks tag n (a .kind .0) (a .kind .1) h g)) (field-there a n h g)
 
   pub copied-text : (n ≡ 1) ⊎ ((n ≡ 2) ⊎ ((n ≡ 3) ⊎ (n ≡ 5))) → Copied (bytes s (getD t n 0)) × (ruled (copiedRule n) (bytes s (getD t n 0)) ≡ true)
   copied-text e =
-      let r = sym (text-field (first tag) n (bytes s (getD t n 0)) e) ∙ kept-field in
+      let r = sym (text-field (firstSetting tag) n (bytes s (getD t n 0)) e) ∙ kept-field in
       (copied-at (inl (first-byte s (getD t n 0) (behind s (getD t n 0)) 33 (ruled-string (copiedRule n) (bytes s (getD t n 0)) r))), r)
 
 pub copied-via : {s : List ℕ} {tag : ℕ} {t : List ℕ} (a : Accepted s tag t) → Copied (bytes s (getD t 6 0))

@@ -11,7 +11,7 @@ use Rattle.json.specs.Places.{bytes, valueOf, members, elements}
 use Rattle.message.specs.Checks.{lacks, breaks}
 use Rattle.fields.specs.Field.{statusField, keeps}
 use Rattle.fields.specs.Known.{empty, noted}
-use Rattle.message.specs.Message.{methodOf, numberOf, fromCaller, toCaller, codeOf, settingOf, sidesDisagree, responseDisagrees, disagrees, messageOf, first}
+use Rattle.message.specs.Message.{methodOf, numberOf, fromCaller, toCaller, codeOf, settingOf, sidesDisagree, responseDisagrees, disagrees, messageOf, firstSetting}
 use Rattle.fields.specs.Spans.{textAt}
 use Rattle.message.specs.Reading.{reading}
 use Rattle.message.specs.Shape.{objectOf}
@@ -23,14 +23,14 @@ use Rattle.octets.specs.Class.{all}
 use Rattle.octets.specs.Text.{same}
 use Rattle.octets.proofs.TestLaws.{or-none}
 use Rattle.rules.specs.Date.{dateRule}
-use Rattle.rules.specs.Fields.{isIn, tagAsks}
+use Rattle.rules.specs.Asks.{isIn, tagAsks}
 use Rattle.rules.specs.Names.{fields}
 use Rattle.rules.specs.Pieces.{wordNumberFrom}
 use Rattle.rules.specs.Status.{listed, statusText, statusRule}
 use Rattle.utf8.proofs.Join.{join, ascii-good}
 use Rattle.utf8.specs.Rfc3629.{verdict}
 use Rattle.utf8.specs.declared.Verdict.the-variants.{Good}
-use Rattle.message.proofs.AcceptedRows.{Accepted, Sound, accepted-read, read-taken, sound-good}
+use Rattle.message.proofs.AcceptedRows.{Accepted, Sound, accepted-read, read-taken, same-message, sound-good}
 use Rattle.message.proofs.AcceptedVia.{via-keeps}
 use Rattle.writing.proofs.EntryLaws.{quoted-text, quoted-ruled, entry-piece}
 use Rattle.writing.proofs.ForwardLaws.{kept-via, opens, via-some, stand}
@@ -113,11 +113,11 @@ by-seven P a b c d e f g (suc (suc (suc (suc (suc (suc (suc zero))))))) h i = g
 by-seven P a b c d e f g (suc (suc (suc (suc (suc (suc (suc (suc n)))))))) h i = absurd (omega arith)
 
 -- the status field of a response
-status-field : (v : List ℕ) → keeps (first 2) 7 v ≡ freely statusRule v
+status-field : (v : List ℕ) → keeps (firstSetting 2) 7 v ≡ freely statusRule v
 unfolding keeps statusField
 status-field v = refl
 
-date-field : (v : List ℕ) → keeps (first 2) 4 v ≡ ruled dateRule v
+date-field : (v : List ℕ) → keeps (firstSetting 2) 4 v ≡ ruled dateRule v
 unfolding keeps
 date-field v = refl
 
@@ -217,28 +217,28 @@ module _ {s t : List ℕ} (a : Accepted s 1 t) (code : ℕ) (date : List ℕ) (o
   unfolding freely isString
   kept₇ = rw status-text (status-kept code ok)
 
-  kept : (n : ℕ) → 1 ≤ n → n ≤ 7 → keeps (first 2) n (bytes text (getD places n 0)) ≡ true
+  kept : (n : ℕ) → 1 ≤ n → n ≤ 7 → keeps (firstSetting 2) n (bytes text (getD places n 0)) ≡ true
   kept =
-      by-seven (λ n. keeps (first 2) n (bytes text (getD places n 0)) ≡ true)
-      (rw value₁ (text-field (first 2) 1 v₁ (inl refl) ∙ c₁ .1))
-      (rw value₂ (text-field (first 2) 2 v₂ (inr (inl refl)) ∙ c₂ .1))
-      (rw value₃ (text-field (first 2) 3 v₃ (inr (inr (inl refl))) ∙ c₃ .1))
+      by-seven (λ n. keeps (firstSetting 2) n (bytes text (getD places n 0)) ≡ true)
+      (rw value₁ (text-field (firstSetting 2) 1 v₁ (inl refl) ∙ c₁ .1))
+      (rw value₂ (text-field (firstSetting 2) 2 v₂ (inr (inl refl)) ∙ c₂ .1))
+      (rw value₃ (text-field (firstSetting 2) 3 v₃ (inr (inr (inl refl))) ∙ c₃ .1))
       (rw value₄ (date-field (inQuotes date) ∙ quoted-ruled dateRule date (date-plain date day) day))
-      (rw value₅ (text-field (first 2) 5 v₅ (inr (inr (inr refl))) ∙ c₅ .1))
-      (rw value₆ (via-keeps (first 2) v₆ ∙ kept-via a))
+      (rw value₅ (text-field (firstSetting 2) 5 v₅ (inr (inr (inr refl))) ∙ c₅ .1))
+      (rw value₆ (via-keeps (firstSetting 2) v₆ ∙ kept-via a))
       (rw value₇ (status-field (inQuotes (statusText code)) ∙ kept₇))
 
-  lacks-none : (n : ℕ) → 1 ≤ n → (b : Bool) → ltb n 8 ≡ b → lacks true (first 2) places n ≡ false
+  lacks-none : (n : ℕ) → 1 ≤ n → (b : Bool) → ltb n 8 ≡ b → lacks true (firstSetting 2) places n ≡ false
   unfolding lacks
   lacks-none n h true e = rw (ne-eqb (getD places n 0) 0 (λ z. omega (arith, value-at n h (found₀ n h (omega (arith, ltb-true n 8 e))) .0))) (and-false (eqb (tagAsks 2 n) 1))
   lacks-none n h false e = rw (none-asked n (ltb-false n 8 e))
 
-  breaks-none : (n : ℕ) → 1 ≤ n → (b : Bool) → ltb n 8 ≡ b → breaks text true (first 2) places n ≡ false
+  breaks-none : (n : ℕ) → 1 ≤ n → (b : Bool) → ltb n 8 ≡ b → breaks text true (firstSetting 2) places n ≡ false
   unfolding breaks
   breaks-none n h true e = rw (kept n h (omega (arith, ltb-true n 8 e)), and-false (ltb 0 (getD places n 0))) (and-false (ltb 0 (tagAsks 2 n)))
   breaks-none n h false e = rw (none-asked n (ltb-false n 8 e))
 
-  sound : Sound text true (first 2) places
+  sound : Sound text true (firstSetting 2) places
   sound = record { there = λ n l g. lacks-none n l (ltb n 8) refl; kept = λ n l g. breaks-none n l (ltb n 8) refl }
 
   -- the facts are the request's, and the code the one given
@@ -300,7 +300,7 @@ module _ {s t : List ℕ} (a : Accepted s 1 t) (code : ℕ) (date : List ℕ) (o
       kind = (omega arith, omega arith);
       once = by-once fields fields-few text (members text (objectOf text)) once;
       places = refl;
-      fits = sound-good text true (first 2) places sound;
+      fits = sound-good text true (firstSetting 2) places sound;
       more = λ e. absurd (omega arith);
       agrees = agree;
     }
@@ -385,10 +385,7 @@ reply-read-back s code date {o} {n} {o′} w =
 
 -- The reply to a forwarded request, less our entry.
 one-read : (s : List ℕ) (a b : Message) → reading s ≡ Read a → reading s ≡ Read b → a ≡ b
-one-read s a b e f = inside (sym e ∙ f)
-  where
-    inside : {a b : Message} → Read a ≡ Read b → a ≡ b
-    inside e = cc
+one-read s a b e f = same-message (sym e ∙ f)
 
 undone-at : {s t : List ℕ} {tag : ℕ} (a : Accepted s tag t) (p q z : List ℕ) → Piece 5 z → (es : List ℕ) → elements s (getD t 6 0) ≡ es
     → removed (p ++ (added (bytes s (getD t 6 0)) 0 z ++ q)) (length p) ≡ p ++ (bytes s (getD t 6 0) ++ q)

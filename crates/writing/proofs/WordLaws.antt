@@ -7,14 +7,14 @@ use Rattle.octets.specs.Text.{same, standsAt}
 use Rattle.rules.specs.Date.{date, daysIn, dateRule}
 use Rattle.rules.specs.Pieces as pieces
 use Rattle.rules.specs.Pieces.{Piece, fixed, run, number, count, word, free, digits, decimalAt, reads}
-use Rattle.rules.specs.Status.{codes, texts, onward, indexIn, listed, statusText, statusRule, statusOf}
+use Rattle.rules.specs.Status.{codes, texts, indexIn, listed, statusText, statusRule, statusOf}
 use Rattle.rules.specs.declared.statuses.Status.the-variants.{Code}
 use Rattle.writing.proofs.PlainLaws.{PlainByte, Plain, digit-plain}
 use borrow.Author.Tests.{eqb-true, eqb-false, leb-true, ltb-true, not-true}
 use lib.Dec.{eqb, leb}
 use lib.ListN.{length, getD, take, drop, drop-of-length-le}
 use lib.Seq.{drop-cons, drop-drop}
-use mathlib.Core.Bool.{Bool, true, false, not, _&&_}
+use mathlib.Core.Bool.{Bool, true, false, not, _&&_, cond}
 use mathlib.Core.List.{List, [], _∷_, _++_}
 use mathlib.Core.Path.{_≡_, refl, sym, ap, subst, _∙_}
 use native.Mathlib.Omega.{arith}
@@ -78,7 +78,7 @@ fixed-plain w s at e p h =
     (plain-append (take (length w) (drop at s)) (drop (length w) (drop at s)) (subst Plain (sym q) p) (subst Plain (sym (drop-drop (length w) at s)) h))
 
 reads-plain : (ps : List Piece) (s : List ℕ) (at : ℕ) → Plainly ps → reads ps s at ≡ true → Plain (drop at s)
-unfolding reads pieces.hasPiece pieces.behind
+unfolding reads pieces.hasPiece pieces.pieceEnd
 reads-plain [] s at p e = let z = eqb-true at (length s) e in subst Plain (sym (drop-of-length-le s {i = at} (omega arith))) tt
 reads-plain (fixed w ∷ ps) s at p e =
     let q = and-parts (standsAt s at w) (reads ps s (at + length w)) e in
@@ -136,7 +136,7 @@ right-at (x ∷ xs) (c ∷ cs) zero e h = and-parts (rightAt x c) (rightAll xs c
 right-at (x ∷ xs) (c ∷ cs) (suc i) e h = right-at xs cs i (and-parts (rightAt x c) (rightAll xs cs) e .1) (omega arith)
 
 all-right : rightAll texts codes ≡ true
-unfolding rightAll rightAt statusRule reads pieces.hasPiece pieces.behind digits decimalAt standsAt same among isDigit
+unfolding rightAll rightAt statusRule reads pieces.hasPiece pieces.pieceEnd digits decimalAt standsAt same among isDigit
 all-right = refl
 
 index-is : (cs : List ℕ) (c : ℕ) → indexIn cs c < length cs → getD cs (indexIn cs c) 0 ≡ c
@@ -144,8 +144,8 @@ unfolding indexIn
 index-is [] c h = absurd (omega arith)
 index-is (x ∷ cs) c h = by (eqb x c) refl (λ g. index-is cs c g) h
   where
-    by : (b : Bool) → eqb x c ≡ b → (indexIn cs c < length cs → getD cs (indexIn cs c) 0 ≡ c) → onward b (indexIn cs c) < suc (length cs)
-        → getD (x ∷ cs) (onward b (indexIn cs c)) 0 ≡ c
+    by : (b : Bool) → eqb x c ≡ b → (indexIn cs c < length cs → getD cs (indexIn cs c) 0 ≡ c) → cond b zero (suc (indexIn cs c)) < suc (length cs)
+        → getD (x ∷ cs) (cond b zero (suc (indexIn cs c))) 0 ≡ c
     by true e f h = eqb-true x c e
     by false e f h = f (omega arith)
 

@@ -12,7 +12,7 @@ use Rattle.writing.specs.declared.answers.Written.the-variants.{Done, Re
 use Rattle.writing.specs.declared.answers.Written.{Written}
 use lib.Dec.{leb, ltb}
 use lib.ListN.{length}
-use mathlib.Core.Bool.{Bool, true, false, _&&_, cond}
+use mathlib.Core.Bool.{_&&_, cond}
 use mathlib.Core.List.{List}
 use mathlib.Core.Path.{_≡_}
 
@@ -53,11 +53,11 @@ unfoldable pub put : List ℕ → List ℕ → List ℕ
 put o w = cond (leb (length w) 32768 && leb (length w) (length o)) (written o w) o
 
 -- the output after: on refusal it is as it was
-abbrev pub left : List ℕ → Outcome → List ℕ
-left o (refuse r) = o
-left o (write w) = put o w
+abbrev pub outputLeft : List ℕ → Outcome → List ℕ
+outputLeft o (refuse r) = o
+outputLeft o (write w) = put o w
 
 -- answer and output of a writing into o
 pub record Writes (o : List ℕ) (x : Outcome) (r : Written) (o′ : List ℕ) : Type 0 where
   pub answer : r ≡ answered (length o) x
-  pub output : o′ ≡ left o x
+  pub output : o′ ≡ outputLeft o x

@@ -10,7 +10,7 @@ use Rattle.fields.specs.declared.spans.Span.{Span}
 use Rattle.message.specs.declared.reading.Reading.the-variants as readings
 use Rattle.message.specs.declared.reading.Reading.{Reading}
 use Rattle.writing.specs.Adding.{pathRule}
-use Rattle.writing.specs.Outcome.{Outcome, refuse, write, onRead, answered, left}
+use Rattle.writing.specs.Outcome.{Outcome, refuse, write, onRead, answered, outputLeft}
 use Rattle.writing.specs.Objects.{isOurs}
 use Rattle.writing.specs.declared.answers.Refusal.the-variants.{Path, Kind, Few, Foreign}
 use Rattle.writing.specs.declared.answers.Removed.the-variants as removals
@@ -38,20 +38,20 @@ removing s host destination organization =
     cond (not (pathRule host destination organization)) (refuse Path)
     (onRead (reading s) (λ m. removeFrom s m host destination))
 
--- where the host of the last but one Via object stands in what is read; `shown` has it only where there are two
+-- where the host of the last but one Via object stands in what is read; `hostShown` has it only where there are two
 abbrev pub hostIn : Reading → Span
 hostIn (readings.Refused n p) = nowhere
 hostIn (readings.Read m) = m .trail .host
 
 -- the answer, where that host stands at h
-abbrev pub shown : Span → Written → Removed
-shown h (writings.Done n) = removals.Done n (h .start) (h .end)
-shown h (writings.Refused r) = removals.Refused r
+abbrev pub hostShown : Span → Written → Removed
+hostShown h (writings.Done n) = removals.Done n (h .start) (h .end)
+hostShown h (writings.Refused r) = removals.Refused r
 
 -- answer and output, where x is what becomes of the response on its way into o, and its next host stands at h
 pub record Took (o : List ℕ) (h : Span) (x : Outcome) (r : Removed) (o′ : List ℕ) : Type 0 where
-  pub answer : r ≡ shown h (answered (length o) x)
-  pub output : o′ ≡ left o x
+  pub answer : r ≡ hostShown h (answered (length o) x)
+  pub output : o′ ≡ outputLeft o x
 
 -- the next host, as a part of the message itself; on refusal the part is empty
 abbrev pub nextHop : List ℕ → Removed → List ℕ

@@ -25,8 +25,8 @@ use mathlib.Core.Bool.{cond}
 use mathlib.Core.List.{List}
 
 -- any field: kept or broken
-unfoldable pub judged : Setting → ℕ → List ℕ → Judged
-judged k n v = cond (keeps k n v) judgeds.Kept (judgeds.Broken (faultAt k n v))
+unfoldable pub judgedValue : Setting → ℕ → List ℕ → Judged
+judgedValue k n v = cond (keeps k n v) judgeds.Kept (judgeds.Broken (faultAt k n v))
 
 -- 1 CSeq: its number and its method's code
 unfoldable pub cseqOf : List ℕ → CSeq

@@ -2,7 +2,7 @@
 use Prim.Native.Nat.{_%_, _-_, _≤_}
 use Rattle.hex.proofs.is_hex.Statement.{statement}
 use Rattle.hex.proofs.is_hex.Tie as tie
-use Rattle.hex.specs.Digits.{isHex, isHexDigit}
+use Rattle.hex.specs.Digits.{isHex, isLowerHex}
 use Rattle.octets.proofs.ClassLaws.{all-ends, all-more, all-stops}
 use Rattle.octets.specs.Class.{all}
 use borrow.Author.Needs.{needs}
@@ -12,7 +12,7 @@ use mathlib.Core.Path.{_≡_, refl, sym, _∙_}
 use native.Mathlib.Omega.{arith}
 
 abbrev Inv-loop : tie.InvT-loop
-Inv-loop s i₀ i = (i ≤ length s) × (length s % 2 ≡ 0) × (all isHexDigit s ≡ all isHexDigit (drop i s))
+Inv-loop s i₀ i = (i ≤ length s) × (length s % 2 ≡ 0) × (all isLowerHex s ≡ all isLowerHex (drop i s))
 
 abbrev μ-loop : tie.MeasureT-loop
 μ-loop s i₀ i = length s - i
@@ -31,7 +31,7 @@ returns-2 c =
     let start = at-loop .before .before .before in
     let l = at-loop .loop in
     let s = start .args .s .now in
-    rw (eq-eqb _ _ (l .inv .1)) (sym (l .inv .2 ∙ all-stops isHexDigit s (l .i) (omega arith) (sym (c .before .is-hex-digit .ensures) ∙ not-true _ (c .if2 .taken))))
+    rw (eq-eqb _ _ (l .inv .1)) (sym (l .inv .2 ∙ all-stops isLowerHex s (l .i) (omega arith) (sym (c .before .is-hex-digit .ensures) ∙ not-true _ (c .if2 .taken))))
 
 loop-again : tie.Need-loop-again Inv-loop μ-loop
 loop-again c =
@@ -39,13 +39,13 @@ loop-again c =
     let start = at-loop .before .before .before in
     let l = at-loop .loop in
     let s = start .args .s .now in
-    (search needs, l .inv .1, l .inv .2 ∙ all-more isHexDigit s (l .i) (omega arith) (sym (c .before .is-hex-digit .ensures) ∙ not-false _ (c .if2 .left)))
+    (search needs, l .inv .1, l .inv .2 ∙ all-more isLowerHex s (l .i) (omega arith) (sym (c .before .is-hex-digit .ensures) ∙ not-false _ (c .if2 .left)))
 
 returns-3 : tie.Need-returns-3 Inv-loop μ-loop
 unfolding isHex
 returns-3 c =
     let l = c .before .loop in
-    rw (eq-eqb _ _ (l .inv .1)) (sym (l .inv .2 ∙ all-ends isHexDigit (c .before .before .before .before .args .s .now) (l .i) (omega arith)))
+    rw (eq-eqb _ _ (l .inv .1)) (sym (l .inv .2 ∙ all-ends isLowerHex (c .before .before .before .before .args .s .now) (l .i) (omega arith)))
 
 pub is-hex-spec : {M : Type 1} → statement M
 is-hex-spec =

@@ -1,7 +1,6 @@
 -- The machine answers, and its answer is the verdict. Assumes nothing.
 use mathlib.Core.Path.{sym, subst}
 use borrow.Author.Needs.{needs}
-use Rattle.json.specs.inner.Machine.{text}
 use Rattle.json.specs.Verdict.{Verdict}
 use Rattle.json.proofs.VerdictLaws.{verdict}
 use Rattle.json.proofs.read.Statement.{statement}

@@ -1,7 +1,7 @@
 -- A value within a text, and white space behind it. Assumes nothing.
 use mathlib.Core.Path.{refl, sym, _∙_}
 use borrow.Author.Needs.{needs}
-use Rattle.json.specs.inner.Machine.{text, value, after, dead}
+use Rattle.json.specs.inner.Machine.{text, after, dead}
 use Rattle.json.proofs.MoveLaws.{moves, nest-is, whole, trail, stands}
 use Rattle.json.proofs.StepLaws.{ws-text}
 use Rattle.json.proofs.text.Statement.{statement}

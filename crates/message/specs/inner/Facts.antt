@@ -7,10 +7,9 @@ use Rattle.fields.specs.declared.judging.Judged.the-variants as judgeds
 use Rattle.fields.specs.declared.judging.Judged.{Judged}
 use Rattle.fields.specs.declared.judging.Setting.{Setting}
 use Rattle.fields.specs.declared.spans.Span.{Span}
-use Rattle.fields.specs.declared.trails.Trail.{Trail}
 use Rattle.json.specs.Places.{bytes}
 use Rattle.message.specs.Checks.{breaks, lowest, nine}
-use Rattle.message.specs.Message.{calleeSpan, callerSpan, codeOf, fieldText, first, methodOf, numberOf, userSpan}
+use Rattle.message.specs.Message.{calleeSpan, callerSpan, codeOf, fieldText, firstSetting, methodOf, numberOf, userSpan}
 use Rattle.message.specs.declared.checking.Check.the-variants.{Good, Fault}
 use Rattle.message.specs.declared.checking.Check.{Check}
 use Rattle.message.specs.declared.envelopes.Envelope.the-variants as envelopes
@@ -45,32 +44,32 @@ faulty s k t n = not (keeps k n (bytes s (getD t n 0)))
 
 -- the fields 1 to 6 are asked for and there, and 7 in a response; no others are asked for
 pub record Asked (s : List ℕ) (tag : ℕ) (t : List ℕ) : Type 0 where
-  pub one : breaks s true (first tag) t 1 ≡ faulty s (first tag) t 1
-  pub two : breaks s true (first tag) t 2 ≡ faulty s (first tag) t 2
-  pub three : breaks s true (first tag) t 3 ≡ faulty s (first tag) t 3
-  pub four : breaks s true (first tag) t 4 ≡ faulty s (first tag) t 4
-  pub five : breaks s true (first tag) t 5 ≡ faulty s (first tag) t 5
-  pub six : breaks s true (first tag) t 6 ≡ faulty s (first tag) t 6
-  pub seven : breaks s true (first tag) t 7 ≡ (eqb tag 2 && faulty s (first tag) t 7)
-  pub others : nineFrom s true (first tag) t 8 ≡ Good
+  pub one : breaks s true (firstSetting tag) t 1 ≡ faulty s (firstSetting tag) t 1
+  pub two : breaks s true (firstSetting tag) t 2 ≡ faulty s (firstSetting tag) t 2
+  pub three : breaks s true (firstSetting tag) t 3 ≡ faulty s (firstSetting tag) t 3
+  pub four : breaks s true (firstSetting tag) t 4 ≡ faulty s (firstSetting tag) t 4
+  pub five : breaks s true (firstSetting tag) t 5 ≡ faulty s (firstSetting tag) t 5
+  pub six : breaks s true (firstSetting tag) t 6 ≡ faulty s (firstSetting tag) t 6
+  pub seven : breaks s true (firstSetting tag) t 7 ≡ (eqb tag 2 && faulty s (firstSetting tag) t 7)
+  pub others : nineFrom s true (firstSetting tag) t 8 ≡ Good
 
 -- what the fields 1 to 3 tell, or which of them breaks its rule
 abbrev pub OpeningSays : List ℕ → ℕ → List ℕ → Opening → Type 0
 OpeningSays s tag t (openings.Kept number method to from) =
-    (nineFrom s true (first tag) t 1 ≡ nineFrom s true (first tag) t 4)
+    (nineFrom s true (firstSetting tag) t 1 ≡ nineFrom s true (firstSetting tag) t 4)
     × ((number ≡ numberOf s t) × ((method ≡ methodOf s t) × ((to ≡ addressOf (fieldText s t 2)) × (from ≡ addressOf (fieldText s t 3)))))
-OpeningSays s tag t (openings.Broken p) = nineFrom s true (first tag) t 1 ≡ Fault 9 p
+OpeningSays s tag t (openings.Broken p) = nineFrom s true (firstSetting tag) t 1 ≡ Fault 9 p
 
 -- the fields 4 to 6
 abbrev pub SentSays : List ℕ → ℕ → List ℕ → Sent → Type 0
 SentSays s tag t (sents.Kept trail) =
-    (nineFrom s true (first tag) t 4 ≡ nineFrom s true (first tag) t 7) × (trail ≡ trailIn (bytes s (getD t 6 0)))
-SentSays s tag t (sents.Broken p) = nineFrom s true (first tag) t 4 ≡ Fault 9 p
+    (nineFrom s true (firstSetting tag) t 4 ≡ nineFrom s true (firstSetting tag) t 7) × (trail ≡ trailIn (bytes s (getD t 6 0)))
+SentSays s tag t (sents.Broken p) = nineFrom s true (firstSetting tag) t 4 ≡ Fault 9 p
 
 -- the field 7, of a response
 abbrev pub ToldSays : List ℕ → ℕ → List ℕ → Told → Type 0
-ToldSays s tag t (tolds.Kept code) = (nineFrom s true (first tag) t 7 ≡ Good) × (code ≡ codeOf s tag (getD t 7 0))
-ToldSays s tag t (tolds.Broken p) = nineFrom s true (first tag) t 7 ≡ Fault 9 p
+ToldSays s tag t (tolds.Kept code) = (nineFrom s true (firstSetting tag) t 7 ≡ Good) × (code ≡ codeOf s tag (getD t 7 0))
+ToldSays s tag t (tolds.Broken p) = nineFrom s true (firstSetting tag) t 7 ≡ Fault 9 p
 
 -- what they all tell
 pub record FactsOf (s : List ℕ) (tag : ℕ) (t : List ℕ) (f : Facts) : Type 0 where
@@ -82,8 +81,8 @@ pub record FactsOf (s : List ℕ) (tag : ℕ) (t : List ℕ) (f : Facts) : Type 
   pub coded : f .code ≡ codeOf s tag (getD t 7 0)
 
 abbrev pub EnvelopeSays : List ℕ → ℕ → List ℕ → Envelope → Type 0
-EnvelopeSays s tag t (envelopes.Kept f) = (nineFrom s true (first tag) t 1 ≡ Good) × FactsOf s tag t f
-EnvelopeSays s tag t (envelopes.Broken p) = nineFrom s true (first tag) t 1 ≡ Fault 9 p
+EnvelopeSays s tag t (envelopes.Kept f) = (nineFrom s true (firstSetting tag) t 1 ≡ Good) × FactsOf s tag t f
+EnvelopeSays s tag t (envelopes.Broken p) = nineFrom s true (firstSetting tag) t 1 ≡ Fault 9 p
 
 -- the parts of an address at v stand within the numbers of 64 bits
 abbrev pub Placed : ℕ → Address → Type 0

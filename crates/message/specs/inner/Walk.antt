@@ -25,14 +25,14 @@ unfoldable pub isUsual : List ℕ → Bool
 isUsual s = isEnd (answer s) && (ltb 0 (tagOf s) && isOnce s (members s (objectOf s)))
 
 -- the places of its known fields
-unfoldable pub fieldsOf : List ℕ → List ℕ
-fieldsOf s = noted fields s empty (members s (objectOf s))
+unfoldable pub fieldPlaces : List ℕ → List ℕ
+fieldPlaces s = noted fields s empty (members s (objectOf s))
 
 -- what is found of a text: its tag, and the places and ends of its known fields; nothing of a text that has not the usual shape
 pub record Usual (s : List ℕ) (tag : ℕ) (t es : List ℕ) : Type 0 where
   pub tagged : tag ≡ cond (isUsual s) (tagOf s) 0
-  pub places : t ≡ cond (isUsual s) (fieldsOf s) empty
-  pub ends : es ≡ cond (isUsual s) (endsOf s (fieldsOf s)) empty
+  pub places : t ≡ cond (isUsual s) (fieldPlaces s) empty
+  pub ends : es ≡ cond (isUsual s) (endsOf s (fieldPlaces s)) empty
 
 -- the text begins with an array whose first element is a tag, and its second opens as an object at o
 pub record Begun (s : List ℕ) (tag o : ℕ) : Type 0 where
@@ -43,7 +43,7 @@ pub record Begun (s : List ℕ) (tag o : ℕ) : Type 0 where
   pub three : getD s (follows s o) 0 ≡ 44 → 0 ≡ tagOf s
 
 -- where the text does not begin so, its shape is not the usual
-pub record Begins (s : List ℕ) (tag o : ℕ) : Type 0 where
+pub record Opening (s : List ℕ) (tag o : ℕ) : Type 0 where
   pub known : 0 < tag → Begun s tag o
   pub unknown : tag ≡ 0 → isUsual s ≡ false
 

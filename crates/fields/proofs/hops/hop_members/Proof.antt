@@ -1,7 +1,8 @@
 -- `fields::hops::hop_members` meets its contract. One law of `HopLaws` for each way out of a turn. Assumes nothing.
+use Rattle.json.proofs.TurnLaws.{no-more, spent, there}
 use Prim.Native.Nat.{_≤_, _<_}
 use Rattle.fields.proofs.ClosingLaws.{known-on, open-comma, opened, shut}
-use Rattle.fields.proofs.GatherLaws.{no-more, spent, hop-few, there}
+use Rattle.fields.proofs.GatherLaws.{hop-few}
 use Rattle.fields.proofs.HopLaws.{Walking, walk-starts, walk-over, walk-twice, walk-again, walk-shut}
 use Rattle.fields.proofs.hops.hop_members.Statement.{statement}
 use Rattle.fields.proofs.hops.hop_members.Tie as tie

@@ -1,9 +1,8 @@
 -- `fields::judging::is_strings` meets its contract. The loop keeps that the elements still to come decide. Assumes nothing.
+use Rattle.json.proofs.TurnLaws.{one-element, no-element, there, comma, no-comma}
 use Prim.Native.Nat.{_-_, _≤_, _<_}
 use Rattle.json.specs.Places.{elementsFrom}
-use Rattle.fields.proofs.ElementLaws.{one-element, no-element, every-more, every-stops, every-none}
-use Rattle.fields.proofs.FieldLaws.{quotes, not-list, empty-list, list-from}
-use Rattle.fields.proofs.GatherLaws.{there, comma, no-comma}
+use Rattle.fields.proofs.FieldLaws.{quotes, not-list, empty-list, list-from, every-more, every-none, every-stops}
 use Rattle.fields.proofs.ValueLaws.{array-there}
 use Rattle.fields.proofs.judging.is_strings.Statement.{statement}
 use Rattle.fields.proofs.judging.is_strings.Tie as tie

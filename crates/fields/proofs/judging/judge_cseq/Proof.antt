@@ -7,16 +7,16 @@ use borrow.Author.Tests.{not-true, not-false}
 use mathlib.Core.Path.{sym, _∙_}
 
 returns : tie.Need-returns
-returns c = let a = c .before .before in cseq-untold (a .before .before .args .v .now) _ (a .own-text .ensures) (c .before .under .ensures) (not-true _ (c .if1 .taken))
+returns c = let a = c .before .before in cseq-untold (a .before .before .args .v .now) _ (a .own-text .ensures) (c .before .is-string .ensures) (not-true _ (c .if1 .taken))
 
 returns-2 : tie.Need-returns-2
 returns-2 c = let q = c .before .before .before in let u = q .before .before in let a = u .before in
-    cseq-kept (a .before .before .args .v .now) _ (a .own-text .ensures) (u .under .ensures) (c .before .number .given .0 .0) (c .before .number .given .0 .1 .0)
+    cseq-kept (a .before .before .args .v .now) _ (a .own-text .ensures) (u .is-string .ensures) (c .before .number .given .0 .0) (c .before .number .given .0 .1 .0)
     (not-false _ (q .before .if1 .left)) (sym (c .before .number .given .1) ∙ q .sequence-of .ensures)
 
 returns-3 : tie.Need-returns-3
 returns-3 c = let q = c .before .before in let u = q .before .before in let a = u .before in
-    cseq-broken (a .before .before .args .v .now) _ (a .own-text .ensures) (u .under .ensures) (not-false _ (q .before .if1 .left))
+    cseq-broken (a .before .before .args .v .now) _ (a .own-text .ensures) (u .is-string .ensures) (not-false _ (q .before .if1 .left))
     (sym (c .enum-told .given .1) ∙ q .sequence-of .ensures)
 
 pub judge-cseq-spec : {M : Type 1} → statement M

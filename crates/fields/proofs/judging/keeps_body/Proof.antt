@@ -1,4 +1,7 @@
 -- `fields::judging::keeps_body` meets its contract. Each exit puts in the tests that led there, and takes what its callee ensures. Assumes nothing.
+use Rattle.fields.proofs.EscapeLaws.{one-of-safe}
+use Rattle.octets.specs.Class.{all}
+use Rattle.rules.specs.Texts.{noBackslash}
 use Rattle.fields.proofs.ValueLaws.{is-ruled, is-free}
 use Rattle.fields.proofs.judging.keeps_body.Statement.{statement}
 use Rattle.fields.proofs.judging.keeps_body.Tie as tie
@@ -9,7 +12,7 @@ use Rattle.rules.specs.Words.{presences}
 use borrow.Author.Needs.{needs}
 use borrow.Author.Tests.{eq-eqb, ne-eqb}
 use lib.Dec.{ltb}
-use mathlib.Core.Path.{ap, _∙_}
+use mathlib.Core.Path.{ap, _∙_, refl}
 
 returns : tie.Need-returns
 unfolding bodyField oneOf
@@ -24,12 +27,12 @@ returns-2 c =
     (is-free imageRule _ _ _ _ (at-own-text .own-text .ensures) (c .before .is-image .ensures) (c .and .ensures ∙ rw (c .before .before .is-string2 .ensures)))
 
 returns-3 : tie.Need-returns-3
-unfolding bodyField oneOf
+unfolding bodyField oneOf all noBackslash
 returns-3 c =
     let at-if1 = c .before .before .before .before in
     let at-own-text = at-if1 .before in
     rw (ne-eqb _ _ (at-if1 .if1 .left), ne-eqb _ _ (c .before .before .before .if2 .left), eq-eqb _ _ (c .before .before .if3 .taken))
-    (is-ruled (oneOf presences) _ _ _ _ (at-own-text .own-text .ensures) (ap (ltb 0) (c .before .presence .ensures)) (c .under .ensures))
+    (is-ruled (oneOf presences) (one-of-safe _ (refl, (refl, tt))) _ _ _ _ (at-own-text .own-text .ensures) (ap (ltb 0) (c .before .presence .ensures)) (c .under .ensures))
 
 returns-4 : tie.Need-returns-4
 unfolding bodyField oneOf

@@ -1,4 +1,5 @@
 -- `fields::judging::keeps_rule` meets its contract. Each exit puts in the tests that led there, and takes what its callee ensures. Assumes nothing.
+use Rattle.fields.proofs.EscapeLaws.{text-safe}
 use Rattle.fields.proofs.ValueLaws.{is-ruled}
 use Rattle.fields.proofs.judging.keeps_rule.Statement.{statement}
 use Rattle.fields.proofs.judging.keeps_rule.Tie as tie
@@ -59,7 +60,7 @@ returns-6 c =
       sym (at-is-by-kind .is-by-kind .ensures)
           ∙ c .before .before .before .if5 .left,
     )
-    (is-ruled (textRule (start .args .n)) _ _ _ _ (c .before .before .own-text .ensures) (c .before .is-text .ensures) (c .under .ensures))
+    (is-ruled (textRule (start .args .n)) (text-safe (start .args .n)) _ _ _ _ (c .before .before .own-text .ensures) (c .before .is-text .ensures) (c .under .ensures))
 
 pub keeps-rule-spec : {M : Type 1} → statement M
 keeps-rule-spec =

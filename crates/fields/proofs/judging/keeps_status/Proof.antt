@@ -1,4 +1,7 @@
 -- `fields::judging::keeps_status` meets its contract. Each exit puts in the tests that led there, and takes what its callee ensures. Assumes nothing.
+use Rattle.fields.proofs.EscapeLaws.{one-of-safe}
+use Rattle.octets.specs.Class.{all}
+use Rattle.rules.specs.Texts.{noBackslash}
 use Rattle.fields.proofs.ValueLaws.{is-ruled, is-free}
 use Rattle.fields.proofs.judging.keeps_status.Statement.{statement}
 use Rattle.fields.proofs.judging.keeps_status.Tie as tie
@@ -8,12 +11,13 @@ use Rattle.rules.specs.Words.{availabilities}
 use borrow.Author.Needs.{needs}
 use borrow.Author.Tests.{eq-eqb, ne-eqb}
 use lib.Dec.{ltb}
-use mathlib.Core.Path.{ap, _∙_}
+use mathlib.Core.Path.{ap, _∙_, refl}
 
 returns : tie.Need-returns
-unfolding statusField oneOf
+unfolding statusField oneOf all noBackslash
 returns c = rw (eq-eqb _ _ (c .before .before .if1 .taken))
-    (is-ruled (oneOf availabilities) _ _ _ _ (c .before .before .before .own-text .ensures) (ap (ltb 0) (c .before .availability .ensures)) (c .under .ensures))
+    (is-ruled (oneOf availabilities) (one-of-safe _ (refl, (refl, tt))) _ _ _ _ (c .before .before .before .own-text .ensures) (ap (ltb 0) (c .before .availability .ensures))
+    (c .under .ensures))
 
 returns-2 : tie.Need-returns-2
 unfolding statusField oneOf

@@ -8,5 +8,4 @@ returns c = cc
 
 pub under-spec : {M : Type 1} → statement M
 under-spec =
-    tie.close
-    (tie.spec (λ c κs. search needs) (λ c κs. search needs) (λ c κs. search needs) (λ c κs. search needs) returns)
+    tie.close (tie.spec (λ c κs. search needs) (λ c κs. search needs) returns)

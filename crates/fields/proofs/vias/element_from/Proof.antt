@@ -4,8 +4,7 @@ use Rattle.fields.proofs.vias.element_from.Tie as tie
 use Rattle.json.proofs.PlaceLaws.{behind-inner, behind-low}
 use Rattle.json.specs.Places.{follows, past}
 use borrow.Author.Needs.{needs}
-use lib.ListN.{length}
-use mathlib.Core.Path.{ap, sym, _∙_}
+use mathlib.Core.Path.{ap, _∙_}
 use native.Mathlib.Omega.{arith}
 
 returns-2 : tie.Need-returns-2

@@ -1,4 +1,5 @@
 -- `fields::vias::keeps_member` meets its contract. One law of `ViaLaws` for each way out. Assumes nothing.
+use Rattle.fields.proofs.EscapeLaws.{hop-safe}
 use Rattle.fields.specs.inner.Asked.{Own}
 use Prim.Native.Nat.{ℕ}
 use Rattle.fields.proofs.TextLaws.{own-bytes}
@@ -23,7 +24,7 @@ returns-2 c =
     let start = at-if1 .before .before in
     let a = start .args in
     is-there (a .v .now) (a .x .at) (a .n) (at-if1 .if1 .left) (c .before .before .before .value-at .ensures)
-    (is-ruled (hopRule (a .n)) _ _ _ _ (c .before .before .own-text .ensures) (c .before .is-hop-text .ensures) (c .under .ensures))
+    (is-ruled (hopRule (a .n)) (hop-safe (a .n)) _ _ _ _ (c .before .before .own-text .ensures) (c .before .is-hop-text .ensures) (c .under .ensures))
 
 pub keeps-member-spec : {M : Type 1} → statement M
 keeps-member-spec =

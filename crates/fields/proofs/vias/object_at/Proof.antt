@@ -1,6 +1,8 @@
 -- `fields::vias::object_at` meets its contract. One law of `ViaLaws` for each way out. Assumes nothing.
-use Rattle.fields.proofs.GatherLaws.{ends-known, there}
-use Rattle.fields.proofs.ViaLaws.{not-object, twice-one, once-each, host-found, none-kept}
+use Rattle.octets.proofs.TestLaws.{clash}
+use Rattle.json.proofs.TurnLaws.{there}
+use Rattle.fields.proofs.GatherLaws.{ends-known}
+use Rattle.fields.proofs.ViaLaws.{not-object, twice-one, once-each, host-found}
 use Rattle.fields.proofs.vias.object_at.Statement.{statement}
 use Rattle.fields.proofs.vias.object_at.Tie as tie
 use borrow.Author.Needs.{needs}
@@ -11,7 +13,7 @@ returns : tie.Need-returns
 returns c =
     let x = c .before .before .before .before .args in (
       c .no-object .ensures .0 ∙ not-object (x .v .now) (x .o) (λ e. c .before .if1 .taken (c .before .before .byte .ensures ∙ e)),
-      (none-kept (c .no-object .ensures .0), λ h. absurd (omega (arith, c .no-object .ensures .1))),
+      (λ h. clash h (c .no-object .ensures .0), λ h. absurd (omega (arith, c .no-object .ensures .1))),
     )
 
 hop-members-requires : tie.Need-hop-members-requires
@@ -26,7 +28,7 @@ returns-2 c =
     let x = start .args in (
       c .no-object2 .ensures .0 ∙ twice-one (x .v .now) (x .o) (sym (at-byte .byte .ensures) ∙ at-if1 .if1 .left) (at-hop-members .hop-members .ensures .0 .0)
           (c .before .if2 .taken),
-      (none-kept (c .no-object2 .ensures .0), λ h. absurd (omega (arith, c .no-object2 .ensures .1))),
+      (λ h. clash h (c .no-object2 .ensures .0), λ h. absurd (omega (arith, c .no-object2 .ensures .1))),
     )
 
 keeps-member-requires : tie.Need-keeps-member-requires

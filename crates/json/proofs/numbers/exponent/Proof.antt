@@ -2,7 +2,7 @@
 use mathlib.Core.Path.{_∙_}
 use native.Mathlib.Omega.{arith}
 use borrow.Author.Needs.{needs}
-use Rattle.json.specs.inner.Machine.{label, after, exp, power, live}
+use Rattle.json.specs.inner.Machine.{label, after, exp, live}
 use Rattle.json.proofs.MoveLaws.{moves, as-good}
 use Rattle.json.proofs.StepLaws.{expo-e, expo-E, expo-rest}
 use Rattle.json.proofs.numbers.exponent.Statement.{statement}

@@ -1,7 +1,7 @@
 -- One law for each way out; what the readers answer is the machine's answer. Assumes nothing.
+use Rattle.json.proofs.TurnLaws.{there}
 use Rattle.json.proofs.PassLaws.{no-string-reached, string-reached, string-some, no-value-reached, value-reached, value-some, no-name, no-colon}
 use Rattle.json.proofs.PassLaws.{no-value, not-followed, a-member}
-use Rattle.json.proofs.TurnLaws.{inside}
 use Rattle.json.proofs.passing.pass_member.Statement.{statement}
 use Rattle.json.proofs.passing.pass_member.Tie as tie
 use Rattle.json.specs.inner.Passing.{isNext}
@@ -28,11 +28,11 @@ returns-2 c =
 
 add-skip : tie.Need-add-skip
 add-skip c = let st = c .before .before .before .before .before .before in let x = st .before .before .args in
-    omega (arith, inside (x .s .now) (c .before .before .skip .result) 57 (sym (c .before .byte .ensures) ∙ c .if1 .left))
+    omega (arith, there (x .s .now) (c .before .before .skip .result) 57 (sym (c .before .byte .ensures) ∙ c .if1 .left))
 
 value-requires : tie.Need-value-requires
 value-requires c κs = let by = c .before .before in let st = by .before .before .before .before .before in let x = st .before .before .args in
-    let h = inside (x .s .now) (by .before .skip .result) 57 (sym (by .byte .ensures) ∙ c .before .if1 .left) in c .skip2 .ensures .inner (omega arith)
+    let h = there (x .s .now) (by .before .skip .result) 57 (sym (by .byte .ensures) ∙ c .before .if1 .left) in c .skip2 .ensures .inner (omega arith)
 
 returns-3 : tie.Need-returns-3
 returns-3 c =

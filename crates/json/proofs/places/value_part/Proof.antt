@@ -1,6 +1,5 @@
 -- The part up to the end that was found. Assumes nothing.
 use mathlib.Core.Path.{ap, _∙_}
-use Rattle.json.proofs.PlaceLaws as laws
 use Rattle.json.specs.Places.{part}
 use Rattle.json.proofs.places.value_part.Statement.{statement}
 use Rattle.json.proofs.places.value_part.Tie as tie

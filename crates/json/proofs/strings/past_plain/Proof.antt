@@ -5,7 +5,7 @@ use Prim.Native.Nat.{ℕ, _-_, _≤_}
 use native.Mathlib.Omega.{arith}
 use borrow.Author.Needs.{needs}
 use lib.ListN.{length}
-use Rattle.json.specs.inner.Machine.{Stack, plain, Mode, live, isPlain, step, from}
+use Rattle.json.specs.inner.Machine.{Stack, Mode, live, isPlain, step, from}
 use Rattle.json.proofs.MoveLaws.{moves, run}
 use Rattle.json.proofs.strings.past_plain.Statement.{statement}
 use Rattle.json.proofs.strings.past_plain.Tie as tie

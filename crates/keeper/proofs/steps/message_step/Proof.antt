@@ -1,5 +1,5 @@
 -- `keeper::steps::message_step` meets its contract. What was read is put in, and the tag's test. Assumes nothing.
-use Rattle.keeper.proofs.StepLaws.{read-named}
+use Rattle.message.proofs.Accepted.{read-named}
 use Rattle.keeper.proofs.steps.message_step.Statement.{statement}
 use Rattle.keeper.proofs.steps.message_step.Tie as tie
 use Rattle.keeper.specs.Keeping.{onMessage}

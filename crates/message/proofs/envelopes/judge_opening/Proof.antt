@@ -7,7 +7,7 @@ use Rattle.fields.specs.Field.{keeps}
 use Rattle.message.proofs.EnvelopeLaws.{method-told, number-told, party-told, passing, stopping}
 use Rattle.message.proofs.envelopes.judge_opening.Statement.{statement}
 use Rattle.message.proofs.envelopes.judge_opening.Tie as tie
-use Rattle.message.specs.Message.{first}
+use Rattle.message.specs.Message.{firstSetting}
 use borrow.Author.Needs.{needs}
 use lib.ListN.{getD}
 use mathlib.Core.List.{List}
@@ -54,7 +54,8 @@ returns c =
     let at-value-at = at-judge-cseq .before in
     let start = at-value-at .before .before .before .before in
     let x = start .args in let f = cseq-fault _ (sym (c .before .before .before .p .given .1) ∙ at-judge-cseq .judge-cseq .ensures) in
-    stopping (x .s .now) (first (x .tag)) (x .at .now) 1 (omega arith) (omega arith) (at-value-at .value-at .ensures) (start .pre .0 .one) (f .1) (f .0) (c .place-in .ensures)
+    stopping (x .s .now) (firstSetting (x .tag)) (x .at .now) 1 (omega arith) (omega arith) (at-value-at .value-at .ensures) (start .pre .0 .one) (f .1) (f .0)
+    (c .place-in .ensures)
 
 returns-2 : tie.Need-returns-2
 unfolding keeps
@@ -65,7 +66,7 @@ returns-2 c =
     let at-judge-cseq = at-number .before .before in
     let at-value-at = at-judge-cseq .before in
     let start = at-value-at .before .before .before .before in
-    let x = start .args in let k = first (x .tag) in let q = cseq-tells _ (sym (at-number .number .given .1) ∙ at-judge-cseq .judge-cseq .ensures) in
+    let x = start .args in let k = firstSetting (x .tag) in let q = cseq-tells _ (sym (at-number .number .given .1) ∙ at-judge-cseq .judge-cseq .ensures) in
     let f = party-fault _ (sym (c .before .before .before .p2 .given .1) ∙ at-judge-party .judge-party .ensures) in
     passing (x .s .now) k (x .at .now) 1 (omega arith) (omega arith) (at-value-at .value-at .ensures) (q .0)
     ∙ stopping (x .s .now) k (x .at .now) 2 (omega arith) (omega arith) (at-value-at2 .value-at2 .ensures) (start .pre .0 .two) (f .1) (f .0) (c .place-in2 .ensures)
@@ -82,7 +83,7 @@ returns-3 c =
     let at-judge-cseq = at-number .before .before in
     let at-value-at = at-judge-cseq .before in
     let start = at-value-at .before .before .before .before in
-    let x = start .args in let k = first (x .tag) in let q = cseq-tells _ (sym (at-number .number .given .1) ∙ at-judge-cseq .judge-cseq .ensures) in
+    let x = start .args in let k = firstSetting (x .tag) in let q = cseq-tells _ (sym (at-number .number .given .1) ∙ at-judge-cseq .judge-cseq .ensures) in
     let a = party-tells _ (sym (at-to .to .given .1) ∙ at-judge-party .judge-party .ensures) in
     let f = party-fault _ (sym (c .before .before .before .p3 .given .1) ∙ at-judge-party2 .judge-party2 .ensures) in
     passing (x .s .now) k (x .at .now) 1 (omega arith) (omega arith) (at-value-at .value-at .ensures) (q .0)
@@ -100,7 +101,7 @@ returns-4 c =
     let at-judge-cseq = at-number .before .before in
     let at-value-at = at-judge-cseq .before in
     let start = at-value-at .before .before .before .before in
-    let x = start .args in let k = first (x .tag) in let q = sym (at-number .number .given .1) ∙ at-judge-cseq .judge-cseq .ensures in
+    let x = start .args in let k = firstSetting (x .tag) in let q = sym (at-number .number .given .1) ∙ at-judge-cseq .judge-cseq .ensures in
     let a = sym (at-to .to .given .1) ∙ at-judge-party .judge-party .ensures in let b = sym (c .before .from .given .1) ∙ c .before .before .before .judge-party2 .ensures in
     let s = x .s .now in let t = x .at .now in (
       passing s k t 1 (omega arith) (omega arith) (at-value-at .value-at .ensures) (cseq-tells _ q .0)

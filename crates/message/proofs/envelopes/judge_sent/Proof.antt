@@ -7,7 +7,7 @@ use Rattle.fields.specs.Field.{keeps}
 use Rattle.message.proofs.EnvelopeLaws.{passing, stopping, trail-told}
 use Rattle.message.proofs.envelopes.judge_sent.Statement.{statement}
 use Rattle.message.proofs.envelopes.judge_sent.Tie as tie
-use Rattle.message.specs.Message.{first}
+use Rattle.message.specs.Message.{firstSetting}
 use borrow.Author.Needs.{needs}
 use lib.ListN.{getD}
 use mathlib.Core.List.{List}
@@ -26,7 +26,7 @@ place-in-requires : tie.Need-place-in-requires
 place-in-requires c κs =
     let at-judge = c .before .before .before .before in
     let start = at-judge .before .before .before .before .before in
-    judged-fault _ (first (start .args .tag)) 4 (sym (c .before .before .p .given .1) ∙ at-judge .judge .ensures) .0
+    judged-fault _ (firstSetting (start .args .tag)) 4 (sym (c .before .before .p .given .1) ∙ at-judge .judge .ensures) .0
 
 value-at-requires-2 : tie.Need-value-at-requires-2
 value-at-requires-2 c κs = c .before .before .before .before .before .before .before .before .before .pre .1 .ends 5
@@ -40,7 +40,7 @@ place-in-requires-2 : tie.Need-place-in-requires-2
 place-in-requires-2 c κs =
     let at-judge2 = c .before .before .before .before in
     let start = at-judge2 .before .before .before .before .before .before .before .before .before .before .before in
-    judged-fault _ (first (start .args .tag)) 5 (sym (c .before .before .p2 .given .1) ∙ at-judge2 .judge2 .ensures) .0
+    judged-fault _ (firstSetting (start .args .tag)) 5 (sym (c .before .before .p2 .given .1) ∙ at-judge2 .judge2 .ensures) .0
 
 value-at-requires-3 : tie.Need-value-at-requires-3
 value-at-requires-3 c κs = c .before .before .before .before .before .before .before .before .before .before .before .before .before .before .before .pre .1 .ends 6
@@ -53,7 +53,7 @@ returns c =
     let at-judge = c .before .before .before .before .before in
     let at-value-at = at-judge .before in
     let start = at-value-at .before .before .before .before in
-    let x = start .args in let k = first (x .tag) in let f = judged-fault _ k 4 (sym (c .before .before .before .p .given .1) ∙ at-judge .judge .ensures) in
+    let x = start .args in let k = firstSetting (x .tag) in let f = judged-fault _ k 4 (sym (c .before .before .before .p .given .1) ∙ at-judge .judge .ensures) in
     stopping (x .s .now) k (x .at .now) 4 (omega arith) (omega arith) (at-value-at .value-at .ensures) (start .pre .0 .four) (f .1) (f .0) (c .place-in .ensures)
 
 returns-2 : tie.Need-returns-2
@@ -64,7 +64,7 @@ returns-2 c =
     let at-judge = at-enum-told .before .before in
     let at-value-at = at-judge .before in
     let start = at-value-at .before .before .before .before in
-    let x = start .args in let k = first (x .tag) in let d = judged-tells _ k 4 (sym (at-enum-told .enum-told .given .1) ∙ at-judge .judge .ensures) in
+    let x = start .args in let k = firstSetting (x .tag) in let d = judged-tells _ k 4 (sym (at-enum-told .enum-told .given .1) ∙ at-judge .judge .ensures) in
     let f = judged-fault _ k 5 (sym (c .before .before .before .p2 .given .1) ∙ at-judge2 .judge2 .ensures) in
     passing (x .s .now) k (x .at .now) 4 (omega arith) (omega arith) (at-value-at .value-at .ensures) d
     ∙ stopping (x .s .now) k (x .at .now) 5 (omega arith) (omega arith) (at-value-at2 .value-at2 .ensures) (start .pre .0 .five) (f .1) (f .0) (c .place-in2 .ensures)
@@ -81,7 +81,7 @@ returns-3 c =
     let at-judge = at-enum-told .before .before in
     let at-value-at = at-judge .before in
     let start = at-value-at .before .before .before .before in
-    let x = start .args in let k = first (x .tag) in let d = judged-tells _ k 4 (sym (at-enum-told .enum-told .given .1) ∙ at-judge .judge .ensures) in
+    let x = start .args in let k = firstSetting (x .tag) in let d = judged-tells _ k 4 (sym (at-enum-told .enum-told .given .1) ∙ at-judge .judge .ensures) in
     let i = judged-tells _ k 5 (sym (at-enum-told2 .enum-told2 .given .1) ∙ at-judge2 .judge2 .ensures) in
     let f = via-fault _ (sym (c .before .before .before .p3 .given .1) ∙ at-judge-via .judge-via .ensures) in
     passing (x .s .now) k (x .at .now) 4 (omega arith) (omega arith) (at-value-at .value-at .ensures) d
@@ -99,7 +99,7 @@ returns-4 c =
     let at-judge = at-enum-told .before .before in
     let at-value-at = at-judge .before in
     let start = at-value-at .before .before .before .before in
-    let x = start .args in let k = first (x .tag) in let d = judged-tells _ k 4 (sym (at-enum-told .enum-told .given .1) ∙ at-judge .judge .ensures) in
+    let x = start .args in let k = firstSetting (x .tag) in let d = judged-tells _ k 4 (sym (at-enum-told .enum-told .given .1) ∙ at-judge .judge .ensures) in
     let i = judged-tells _ k 5 (sym (at-enum-told2 .enum-told2 .given .1) ∙ at-judge2 .judge2 .ensures) in
     let v = sym (c .before .trail .given .1) ∙ c .before .before .before .judge-via .ensures in (
       passing (x .s .now) k (x .at .now) 4 (omega arith) (omega arith) (at-value-at .value-at .ensures) d

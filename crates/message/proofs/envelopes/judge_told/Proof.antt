@@ -10,7 +10,6 @@ use borrow.Author.Needs.{needs}
 use lib.ListN.{getD}
 use mathlib.Core.List.{List}
 use mathlib.Core.Path.{subst, sym, _∙_}
-use native.Mathlib.Omega.{arith}
 
 returns : tie.Need-returns
 returns c = let x = c .before .before .args in (untold (x .s .now) (x .at .now) (c .before .before .pre .0) (c .if1 .taken), no-code (x .s .now) (x .at .now) (c .if1 .taken))

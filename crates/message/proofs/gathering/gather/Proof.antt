@@ -1,8 +1,9 @@
 -- `message::gathering::gather` meets its contract. The loop keeps that the members still to come decide what is left to gather. Assumes nothing.
+use Rattle.json.proofs.TurnLaws.{no-more, one-more, spent, no-comma, comma, there}
 use Prim.Native.Nat.{_≤_, _<_, _-_}
 use Rattle.json.proofs.PlaceLaws.{closing-is, raw-is}
 use Rattle.json.specs.Places.{valueOf, membersFrom}
-use Rattle.fields.proofs.GatherLaws.{Sofar, started, over, repeats, goes-on, no-more, one-more, spent, no-comma, comma, has-is, note-is, number-is, there}
+use Rattle.fields.proofs.GatherLaws.{Sofar, started, over, repeats, goes-on, has-is, note-is, number-is}
 use Rattle.message.proofs.gathering.gather.Statement.{statement}
 use Rattle.message.proofs.gathering.gather.Tie as tie
 use Rattle.rules.specs.Names.{fields}

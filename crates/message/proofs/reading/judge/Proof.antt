@@ -6,7 +6,7 @@ use Rattle.message.proofs.EnvelopeLaws.{asked, envelope-broken, envelop
 use Rattle.message.proofs.FactLaws.{method-few, setting-tag}
 use Rattle.message.proofs.reading.judge.Statement.{statement}
 use Rattle.message.proofs.reading.judge.Tie as tie
-use Rattle.message.specs.Message.{methodOf, first}
+use Rattle.message.specs.Message.{methodOf, firstSetting}
 use Rattle.message.specs.Reading.{judged}
 use Rattle.message.specs.inner.Facts.{FactsOf}
 use borrow.Author.Needs.{needs}
@@ -18,7 +18,7 @@ use native.Mathlib.Omega.{arith}
 
 returns : tie.Need-returns
 unfolding judged
-returns c = let x = c .before .before .before .args in rw (sym (one-missing (x .s .now) true (first (x .tag)) (x .at .now) (c .before .lacking .ensures .0) (c .if1 .taken)))
+returns c = let x = c .before .before .before .args in rw (sym (one-missing (x .s .now) true (firstSetting (x .tag)) (x .at .now) (c .before .lacking .ensures .0) (c .if1 .taken)))
 
 settle-probe-requires : tie.Need-settle-probe-requires
 settle-probe-requires c κs =
@@ -29,7 +29,7 @@ returns-2 : tie.Need-returns-2
 unfolding judged
 returns-2 c = let x = c .before .before .before .before .before .args in
     rw (
-      none-missing (x .s .now) true (first (x .tag)) (x .at .now) (c .before .before .before .lacking .ensures .0) (c .before .before .if1 .left),
+      none-missing (x .s .now) true (firstSetting (x .tag)) (x .at .now) (c .before .before .before .lacking .ensures .0) (c .before .before .if1 .left),
       lt-ltb _ _ (c .before .if2 .taken),
     ) (c .settle-probe .ensures)
 
@@ -68,7 +68,7 @@ returns-3 c =
     let at-if1 = c .before .before .before .before .before in
     let at-lacking = at-if1 .before in
     let start = at-lacking .before .before in
-    let x = start .args in rw (none-missing (x .s .now) true (first (x .tag)) (x .at .now) (at-lacking .lacking .ensures .0) (at-if1 .if1 .left)
+    let x = start .args in rw (none-missing (x .s .now) true (firstSetting (x .tag)) (x .at .now) (at-lacking .lacking .ensures .0) (at-if1 .if1 .left)
     ∙ envelope-broken (x .s .now) (x .at .now) (x .tag) (c .before .p .given .1) (c .before .before .before .judge-envelope .ensures))
 
 returns-4 : tie.Need-returns-4
@@ -80,7 +80,7 @@ returns-4 c =
     let at-lacking = at-if1 .before in
     let start = at-lacking .before .before in
     let x = start .args in rw (
-      none-missing (x .s .now) true (first (x .tag)) (x .at .now) (at-lacking .lacking .ensures .0) (at-if1 .if1 .left)
+      none-missing (x .s .now) true (firstSetting (x .tag)) (x .at .now) (at-lacking .lacking .ensures .0) (at-if1 .if1 .left)
           ∙ envelope-kept (x .s .now) (x .at .now) (x .tag) (c .before .before .before .f .given .1) (at-judge-envelope .judge-envelope .ensures) .0,
       le-ltb _ _ (at-if2 .if2 .left),
     )

@@ -1,8 +1,8 @@
 -- `message::walking::walk_fields` meets its contract. The loop keeps the machine's answer beside what is gathered; one law of `WalkLaws` for each way out. Assumes nothing.
+use Rattle.json.proofs.TurnLaws.{there}
 use Prim.Native.Nat.{_≤_, _<_}
 use Rattle.json.proofs.PassLaws.{member-passed, member-stuck}
 use Rattle.json.specs.inner.Machine.{alone}
-use Rattle.fields.proofs.GatherLaws.{there}
 use Rattle.message.proofs.WalkLaws.{Walking, none-listed, walk-starts, walk-spent, no-name, no-member, name-again, no-other, walk-again, walk-shut}
 use Rattle.message.proofs.walking.walk_fields.Statement.{statement}
 use Rattle.message.proofs.walking.walk_fields.Tie as tie

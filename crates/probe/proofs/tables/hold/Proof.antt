@@ -5,7 +5,7 @@ use Rattle.probe.proofs.tables.hold.Statement.{statement}
 use Rattle.probe.proofs.tables.hold.Tie as tie
 use Rattle.probe.specs.Tables.{verdictText}
 use Rattle.showing.proofs.WordLaws.{hex-short, stands-length}
-use Rattle.showing.specs.Words.{bytesOf}
+use Rattle.showing.specs.Words.{hexBytes}
 use Rattle.table.specs.WellFormed.{wellFormed}
 use borrow.Author.Needs.{needs}
 use borrow.Author.Tests.{not-false, not-true}
@@ -47,8 +47,8 @@ returns-2 c =
     let w = x .word .now in
     let m = c .before .before .before .take-image .ensures in
     let g = sym (at-is-hex-to .is-hex-to .ensures) ∙ not-false _ (at-if1 .if1 .left) in
-    let f = front-written (x .held .now) (bytesOf w) (m .1) (m .0) in
-    turns (x .out .now) (c .before .before .before .take-image .result) (c .before .before .before .take-image .last .0) (bytesOf w) (verdictText (wellFormed (bytesOf w)))
+    let f = front-written (x .held .now) (hexBytes w) (m .1) (m .0) in
+    turns (x .out .now) (c .before .before .before .take-image .result) (c .before .before .before .take-image .last .0) (hexBytes w) (verdictText (wellFormed (hexBytes w)))
     (image (take (x .size) (x .held .now)) w g) (rw f at (c .judge .ensures)) f (omega (arith, stands-length w, m .0, hex-short 131072 w (omega arith) g))
 
 pub hold-spec : {M : Type 1} → statement M

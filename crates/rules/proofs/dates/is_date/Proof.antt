@@ -2,11 +2,11 @@
 use borrow.Author.Needs.{needs}
 use Rattle.rules.proofs.dates.is_date.Statement.{statement}
 use Rattle.rules.specs.Date.{dateRule}
-use Rattle.rules.specs.Pieces.{behind, hasPiece, reads}
+use Rattle.rules.specs.Pieces.{pieceEnd, hasPiece, reads}
 use Rattle.rules.proofs.dates.is_date.Tie as tie
 
 returns : tie.Need-returns
-unfolding dateRule reads hasPiece behind
+unfolding dateRule reads hasPiece pieceEnd
 returns c = cc
 
 pub is-date-spec : {M : Type 1} → statement M

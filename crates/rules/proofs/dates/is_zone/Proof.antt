@@ -1,11 +1,11 @@
 -- `dates::is_zone` meets its contract: the definition opened, and the tests put in. Assumes nothing.
 use borrow.Author.Needs.{needs}
 use Rattle.rules.proofs.dates.is_zone.Statement.{statement}
-use Rattle.rules.specs.Pieces.{behind, hasPiece, reads}
+use Rattle.rules.specs.Pieces.{pieceEnd, hasPiece, reads}
 use Rattle.rules.proofs.dates.is_zone.Tie as tie
 
 returns : tie.Need-returns
-unfolding reads hasPiece behind
+unfolding reads hasPiece pieceEnd
 returns c = cc
 
 pub is-zone-spec : {M : Type 1} → statement M

@@ -7,11 +7,11 @@ use lib.ListN.{drop, length}
 use Rattle.octets.specs.Class.{all}
 use Rattle.rules.proofs.PieceLaws.{memo-ends, memo-more, memo-stops, points-more, points-same}
 use Rattle.rules.proofs.texts.is_memo.Statement.{statement}
-use Rattle.rules.specs.Texts.{points, unescaped}
+use Rattle.rules.specs.Texts.{points, noBackslash}
 use Rattle.rules.proofs.texts.is_memo.Tie as tie
 
 abbrev Inv-loop : tie.InvT-loop
-Inv-loop s n₀ i₀ n i = (i ≤ length s) × ((n ≤ i) × ((all unescaped s ≡ all unescaped (drop i s)) × (points s ≡ n + points (drop i s))))
+Inv-loop s n₀ i₀ n i = (i ≤ length s) × ((n ≤ i) × ((all noBackslash s ≡ all noBackslash (drop i s)) × (points s ≡ n + points (drop i s))))
 
 abbrev μ-loop : tie.MeasureT-loop
 μ-loop s n₀ i₀ n i = length s - i

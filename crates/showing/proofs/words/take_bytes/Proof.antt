@@ -2,14 +2,14 @@
 use Rattle.showing.proofs.WordLaws.{got-none, got-some}
 use Rattle.showing.proofs.words.take_bytes.Statement.{statement}
 use Rattle.showing.proofs.words.take_bytes.Tie as tie
-use Rattle.showing.specs.Words.{bytesOf}
+use Rattle.showing.specs.Words.{hexBytes}
 use borrow.Author.Needs.{needs}
 use mathlib.Core.Path.{_∙_, sym}
 
 returns : tie.Need-returns
 returns c =
     let x = c .before .before .before .before .before .args in
-    got-some (x .bytes .now) (x .at) (bytesOf (x .word .now)) (sym (c .before .before .before .is-hex-to .ensures) ∙ c .before .before .if1 .taken) (c .put-bytes .ensures)
+    got-some (x .bytes .now) (x .at) (hexBytes (x .word .now)) (sym (c .before .before .before .is-hex-to .ensures) ∙ c .before .before .if1 .taken) (c .put-bytes .ensures)
 
 returns-2 : tie.Need-returns-2
 returns-2 c =

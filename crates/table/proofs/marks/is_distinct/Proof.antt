@@ -4,7 +4,7 @@ use Rattle.table.proofs.MarkLaws.{marks-none, marks-more, mark-of}
 use Rattle.table.proofs.SearchLaws.{all-every, every-stops}
 use Rattle.table.proofs.marks.is_distinct.Statement.{statement}
 use Rattle.table.proofs.marks.is_distinct.Tie as tie
-use Rattle.table.specs.Image.{size}
+use Rattle.table.specs.Image.{recordCount}
 use Rattle.table.specs.inner.Mark.{Marks}
 use Rattle.table.specs.WellFormed.{apartBefore, distinct}
 use borrow.Author.Count.{below-more}
@@ -17,7 +17,7 @@ use native.Mathlib.Omega.{arith}
 
 abbrev Inv-loop : tie.InvT-loop
 Inv-loop t n marks₀ k₀ marks k =
-    (k ≤ n) × (n ≡ size t) × (length marks ≡ 255) × Marks t marks k × ((l : ℕ) → l < k → apartBefore t l ≡ true)
+    (k ≤ n) × (n ≡ recordCount t) × (length marks ≡ 255) × Marks t marks k × ((l : ℕ) → l < k → apartBefore t l ≡ true)
 
 abbrev μ-loop : tie.MeasureT-loop
 μ-loop t n marks₀ k₀ marks k = n - k
@@ -41,7 +41,7 @@ returns c =
     let at-loop = c .before .before .before .before .before .before .before in
     let start = at-loop .before .before .before in
     let o = start in
-    sym (every-stops (apartBefore (o .args .t .now)) (size (o .args .t .now))
+    sym (every-stops (apartBefore (o .args .t .now)) (recordCount (o .args .t .now))
     (at-loop .loop .k) (omega arith)
     (sym (c .before .is-new .ensures) ∙ not-true _ (c .if1 .taken)))
 
@@ -66,7 +66,7 @@ loop-again c =
 
 returns-2 : tie.Need-returns-2 Inv-loop μ-loop
 unfolding distinct
-returns-2 c = sym (all-every _ (size (c .before .before .before .before .args .t .now)) (λ j h. c .before .loop .inv .4 j (omega arith)))
+returns-2 c = sym (all-every _ (recordCount (c .before .before .before .before .args .t .now)) (λ j h. c .before .loop .inv .4 j (omega arith)))
 
 pub is-distinct-spec : {M : Type 1} → statement M
 is-distinct-spec =

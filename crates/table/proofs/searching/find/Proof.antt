@@ -3,7 +3,7 @@ use Prim.Native.Nat.{ℕ, _≤_, _<_, _-_}
 use Rattle.table.proofs.SearchLaws.{at-lowest, none-lowest}
 use Rattle.table.proofs.searching.find.Statement.{statement}
 use Rattle.table.proofs.searching.find.Tie as tie
-use Rattle.table.specs.Image.{size, recordAt}
+use Rattle.table.specs.Image.{recordCount, recordAt}
 use Rattle.table.specs.Record.{isNamed}
 use Rattle.table.specs.Search.{placeNamed}
 use borrow.Author.Count.{below-more}
@@ -13,7 +13,7 @@ use mathlib.Core.Path.{_≡_}
 use native.Mathlib.Omega.{arith}
 
 abbrev Inv-loop : tie.InvT-loop
-Inv-loop t id n k₀ k = (k ≤ n) × (n ≡ size t) × ((l : ℕ) → l < k → isNamed id (recordAt t l) ≡ false)
+Inv-loop t id n k₀ k = (k ≤ n) × (n ≡ recordCount t) × ((l : ℕ) → l < k → isNamed id (recordAt t l) ≡ false)
 
 abbrev μ-loop : tie.MeasureT-loop
 μ-loop t id n k₀ k = n - k
@@ -28,7 +28,7 @@ returns c =
     let start = at-loop .before .before .before .before in
     let o = start in
     let l = at-loop in
-    at-lowest (λ k. isNamed (o .args .id .now) (recordAt (o .args .t .now) k)) (size (o .args .t .now)) (l .loop .k) (omega arith) (cc)
+    at-lowest (λ k. isNamed (o .args .id .now) (recordAt (o .args .t .now) k)) (recordCount (o .args .t .now)) (l .loop .k) (omega arith) (cc)
     (l .loop .inv .2)
 
 loop-again : tie.Need-loop-again Inv-loop μ-loop
@@ -46,7 +46,7 @@ loop-again c =
 returns-2 : tie.Need-returns-2 Inv-loop μ-loop
 unfolding placeNamed
 returns-2 c =
-    none-lowest _ (size (c .before .before .before .before .before .args .t .now)) (λ l h. c .before .loop .inv .2 l (omega arith))
+    none-lowest _ (recordCount (c .before .before .before .before .before .args .t .now)) (λ l h. c .before .loop .inv .2 l (omega arith))
 
 pub find-spec : {M : Type 1} → statement M
 find-spec =

@@ -4,7 +4,7 @@ use Rattle.table.proofs.ImageLaws.{is-free, not-free}
 use Rattle.table.proofs.SearchLaws.{at-lowest, none-lowest}
 use Rattle.table.proofs.searching.free_place.Statement.{statement}
 use Rattle.table.proofs.searching.free_place.Tie as tie
-use Rattle.table.specs.Image.{size, recordAt}
+use Rattle.table.specs.Image.{recordCount, recordAt}
 use Rattle.table.specs.Record.{isFree}
 use Rattle.table.specs.Search.{freePlace}
 use borrow.Author.Count.{below-more}
@@ -14,7 +14,7 @@ use mathlib.Core.Path.{_≡_}
 use native.Mathlib.Omega.{arith}
 
 abbrev Inv-loop : tie.InvT-loop
-Inv-loop t n k₀ k = (k ≤ n) × (n ≡ size t) × ((l : ℕ) → l < k → isFree (recordAt t l) ≡ false)
+Inv-loop t n k₀ k = (k ≤ n) × (n ≡ recordCount t) × ((l : ℕ) → l < k → isFree (recordAt t l) ≡ false)
 
 abbrev μ-loop : tie.MeasureT-loop
 μ-loop t n k₀ k = n - k
@@ -27,7 +27,7 @@ unfolding freePlace
 returns c =
     let o = c .before .before .before .before .before .before in
     let l = c .before .before .before in
-    at-lowest (λ k. isFree (recordAt (o .args .t .now) k)) (size (o .args .t .now)) (l .loop .k) (omega arith)
+    at-lowest (λ k. isFree (recordAt (o .args .t .now) k)) (recordCount (o .args .t .now)) (l .loop .k) (omega arith)
     (is-free (o .args .t .now) (l .loop .k) (c .if1 .taken)) (l .loop .inv .2)
 
 loop-again : tie.Need-loop-again Inv-loop μ-loop
@@ -42,7 +42,7 @@ loop-again c =
 
 returns-2 : tie.Need-returns-2 Inv-loop μ-loop
 unfolding freePlace
-returns-2 c = none-lowest _ (size (c .before .before .before .before .args .t .now)) (λ l h. c .before .loop .inv .2 l (omega arith))
+returns-2 c = none-lowest _ (recordCount (c .before .before .before .before .args .t .now)) (λ l h. c .before .loop .inv .2 l (omega arith))
 
 pub free-place-spec : {M : Type 1} → statement M
 free-place-spec =

@@ -4,7 +4,7 @@ use Rattle.table.proofs.SearchLaws.{all-every, every-stops}
 use Rattle.table.proofs.SoundLaws.{through}
 use Rattle.table.proofs.soundness.are_records_sound.Statement.{statement}
 use Rattle.table.proofs.soundness.are_records_sound.Tie as tie
-use Rattle.table.specs.Image.{size, recordAt}
+use Rattle.table.specs.Image.{recordCount, recordAt}
 use Rattle.table.specs.WellFormed.{recordSound, recordsSound}
 use borrow.Author.Count.{below-more}
 use borrow.Author.Needs.{needs}
@@ -14,7 +14,7 @@ use mathlib.Core.Path.{_≡_, sym}
 use native.Mathlib.Omega.{arith}
 
 abbrev Inv-loop : tie.InvT-loop
-Inv-loop t n k₀ k = (k ≤ n) × (n ≡ size t) × ((l : ℕ) → l < k → recordSound (recordAt t l) ≡ true)
+Inv-loop t n k₀ k = (k ≤ n) × (n ≡ recordCount t) × ((l : ℕ) → l < k → recordSound (recordAt t l) ≡ true)
 
 abbrev μ-loop : tie.MeasureT-loop
 μ-loop t n k₀ k = n - k
@@ -28,7 +28,7 @@ returns c =
     let at-loop = c .before .before .before .before in
     let start = at-loop .before .before .before in
     let o = start in
-    sym (every-stops (λ l. recordSound (recordAt (o .args .t .now) l)) (size (o .args .t .now))
+    sym (every-stops (λ l. recordSound (recordAt (o .args .t .now) l)) (recordCount (o .args .t .now))
     (at-loop .loop .k) (omega arith)
     (through recordSound (c .before .is-record-sound .ensures) (c .before .before .record-at .ensures .0) (not-true _ (c .if1 .taken))))
 
@@ -46,7 +46,7 @@ loop-again c =
 
 returns-2 : tie.Need-returns-2 Inv-loop μ-loop
 unfolding recordsSound
-returns-2 c = sym (all-every _ (size (c .before .before .before .before .args .t .now)) (λ j h. c .before .loop .inv .2 j (omega arith)))
+returns-2 c = sym (all-every _ (recordCount (c .before .before .before .before .args .t .now)) (λ j h. c .before .loop .inv .2 j (omega arith)))
 
 pub are-records-sound-spec : {M : Type 1} → statement M
 are-records-sound-spec =

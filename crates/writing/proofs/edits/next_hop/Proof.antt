@@ -1,6 +1,5 @@
 -- `writing::edits::next_hop` meets its contract. Assumes nothing.
 use Rattle.json.proofs.PlaceLaws.{part-none}
-use Rattle.json.specs.Places.{part}
 use Rattle.writing.proofs.edits.next_hop.Statement.{statement}
 use Rattle.writing.proofs.edits.next_hop.Tie as tie
 use borrow.Author.Needs.{needs}

@@ -1,8 +1,7 @@
 -- `writing::objects::has_ours` meets its contract. The loop keeps that the objects still to come decide. Assumes nothing.
+use Rattle.json.proofs.TurnLaws.{no-elements, some-elements, one-element, no-element, there, comma, no-comma}
 use Prim.Native.Nat.{ℕ, _-_, _≤_, _<_}
 use Rattle.json.specs.Places.{bytes, elements, elementsFrom}
-use Rattle.fields.proofs.ElementLaws.{no-elements, some-elements, one-element, no-element}
-use Rattle.fields.proofs.GatherLaws.{there, comma, no-comma}
 use Rattle.writing.proofs.TrailLaws.{own-part, some-none, some-now, some-later}
 use Rattle.writing.proofs.objects.has_ours.Statement.{statement}
 use Rattle.writing.proofs.objects.has_ours.Tie as tie
