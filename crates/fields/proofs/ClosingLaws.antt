@@ -1,7 +1,7 @@
 -- Where an object ends, by its members: a member whose value opens with a quote or a bracket leaves as many brackets open as closed-there were, so the brace
 -- behind the last of them closes the object. Assumes nothing.
+use Rattle.octets.proofs.TextLaws.{there}
 use Rattle.json.proofs.PlaceLaws.{left-none}
-use Rattle.json.proofs.TurnLaws.{there}
 use Prim.Native.Nat.{ℕ, zero, suc, _+_, _-_, _<_}
 use Rattle.fields.specs.inner.Gathering.{Open, plain}
 use Rattle.json.specs.Places.{Inside, outside, quoted, escaped, turn, depth, left, size, spaces, past, next, behind, valueOf, follows, isWs, isOpen, isShut}

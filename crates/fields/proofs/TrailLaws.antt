@@ -1,7 +1,8 @@
 -- The walk over the objects of Via, one object at a time: the trail so far, and that the objects still to come decide the rest; and the trail by the
 -- places of the message. Assumes nothing.
+use Rattle.octets.proofs.TextLaws.{there}
 use Rattle.json.proofs.PlaceLaws.{last-one, prev-two}
-use Rattle.json.proofs.TurnLaws.{some-elements, one-element, comma, no-comma, there}
+use Rattle.json.proofs.TurnLaws.{some-elements, one-element, comma, no-comma}
 use Rattle.fields.specs.inner.Asked.{Within}
 use Rattle.json.specs.inner.Landing.{Cell}
 use Prim.Native.Nat.{ℕ, zero, suc, _+_, _-_, _≤_, _<_}

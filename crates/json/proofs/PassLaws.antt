@@ -1,6 +1,6 @@
 -- For readers that go from place to place: white space before the machine's next byte, what a byte behind a value says of its end; and what a string or a
 -- member that passes, or does not, says of the machine's answer, whatever stands around. Assumes nothing.
-use Rattle.json.proofs.TurnLaws.{there}
+use Rattle.octets.proofs.TextLaws.{there}
 use Prim.Native.Nat.{ℕ, suc, _+_, _≤_, _<_}
 use Rattle.json.proofs.AroundLaws.{string-around, value-around, one-ends}
 use Rattle.json.proofs.EndLaws.{ws-mark, ends-at, ends-open}

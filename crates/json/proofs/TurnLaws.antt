@@ -8,12 +8,6 @@ use lib.ListN.{length, getD}
 use borrow.Author.Tests.{eq-eqb, ne-eqb}
 use Rattle.json.specs.Places.{past, valueOf, follows, more, memberAt, membersFrom, elementsFrom, elements}
 
--- a byte that is not 0 stands in the text
-pub there : (s : List ℕ) (i b : ℕ) → getD s i 0 ≡ suc b → i < length s
-there [] i b e = absurd (omega (arith, e))
-there (x ∷ xs) zero b e = omega arith
-there (x ∷ xs) (suc i) b e = omega (arith, there xs i b e)
-
 -- The members from a place on.
 
 module _ (s : List ℕ) (n p : ℕ) where

@@ -1,6 +1,6 @@
 -- Via of an accepted request or response keeps its rule and stands within the text (`via-kept`, `via-inside`); how long a value is (`value-short`).
 -- Assumes nothing.
-use Rattle.json.proofs.TurnLaws.{there}
+use Rattle.octets.proofs.TextLaws.{there}
 use Rattle.octets.proofs.TestLaws.{and-parts}
 use Prim.Native.Nat.{ℕ, zero, suc, _-_, _≤_, _<_}
 use Rattle.json.specs.Places.{part, bytes, behind}

@@ -1,6 +1,7 @@
 -- One walk over a text of the usual shape: its beginning, one turn for each member, its end. The machine's answer is carried along from place to
 -- place, and beside it what is gathered so far; where the walk breaks off, the text has not the usual shape. Assumes nothing.
-use Rattle.json.proofs.TurnLaws.{no-more, one-more, comma, no-comma, there}
+use Rattle.octets.proofs.TextLaws.{there}
+use Rattle.json.proofs.TurnLaws.{no-more, one-more, comma, no-comma}
 use Rattle.octets.proofs.TestLaws.{and-parts}
 use Rattle.message.specs.inner.Shaping.{Shaped}
 use Rattle.fields.specs.inner.Gathering.{endsOf, Ended}

@@ -1,5 +1,5 @@
--- Laws of `same` and `before`: what the tests mean, and one byte at a time for the loops. Assumes nothing.
-use Prim.Native.Nat.{ℕ, _≤_, _<_, _+_, _-_}
+-- What stands in a text, and laws of `same` and `before`: what the tests mean, and one byte at a time for the loops. Assumes nothing.
+use Prim.Native.Nat.{ℕ, zero, suc, _≤_, _<_, _+_, _-_}
 use Rattle.octets.proofs.TestLaws.{and-parts}
 use Rattle.octets.specs.Text.{same, standsAt, before}
 use borrow.Author.Tests.{eq-eqb, ne-eqb, eqb-true}
@@ -11,6 +11,12 @@ use mathlib.Core.List.{List, [], _∷_}
 use mathlib.Core.Path.{_≡_, refl, ap, sym}
 use native.Mathlib.Numerals.{add-one}
 use native.Mathlib.Omega.{arith}
+
+-- a byte that is not 0 stands in the text
+pub there : (s : List ℕ) (i b : ℕ) → getD s i 0 ≡ suc b → i < length s
+there [] i b e = absurd (omega (arith, e))
+there (x ∷ xs) zero b e = omega arith
+there (x ∷ xs) (suc i) b e = omega (arith, there xs i b e)
 
 -- the test means equality
 pub same-eq : (a b : List ℕ) → same a b ≡ true → a ≡ b

@@ -1,18 +1,18 @@
 -- A text that keeps a rule has no backslash: no class has it, no fixed word does, and none of these rules ends in free text (`rules`' Texts,
 -- `noBackslash`). So whoever has asked the rule need not look for one. Assumes nothing.
-use Prim.Native.Nat.{_+_, _<_, _≤_, suc, zero, ℕ}
+use Prim.Native.Nat.{_+_, _-_, _<_, _≤_, suc, zero, ℕ}
 use mathlib.Core.Bool.{Bool, _||_, cond, false, true}
 use mathlib.Core.List.{List, _∷_, []}
 use mathlib.Core.Logic.{_⊎_, inl, inr}
 use mathlib.Core.Path.{_∙_, _≡_, ap, refl, sym}
 use native.Mathlib.Omega.{arith}
-use borrow.Author.Tests.{eqb-true, ltb-false, ltb-true, ne-eqb}
+use borrow.Author.Tests.{eqb-true, ltb-true, ne-eqb}
 use lib.Dec.{leb, ltb}
-use lib.ListN.{List·getD-eq-default, drop, drop-of-length-le, getD, length, take, take-append-drop}
+use lib.ListN.{drop, drop-of-length-le, getD, length, take, take-append-drop}
 use lib.Seq.{drop-cons, drop-drop}
 use Rattle.octets.proofs.ClassLaws.{all-append, digit-in}
 use Rattle.octets.proofs.TestLaws.{and-parts, clash, or-split}
-use Rattle.octets.proofs.TextLaws.{same-eq}
+use Rattle.octets.proofs.TextLaws.{same-eq, there}
 use Rattle.octets.specs.Ascii.{ascii}
 use Rattle.octets.specs.Class.{all, among, isAlnum, isDigit, isLetter, isLower, isUpper}
 use Rattle.octets.specs.Text.{standsAt}
@@ -61,20 +61,13 @@ run-safe c (b ∷ l) = by (holds c b) refl (run-safe c l)
 run-at : (c : Class) (s : List ℕ) (at : ℕ) → all noBackslash (drop at s) ≡ all noBackslash (drop (at + runLength c (drop at s)) s)
 run-at c s at = run-safe c (drop at s) ∙ ap (all noBackslash) (drop-drop (runLength c (drop at s)) at s)
 
--- Digits that are there.
-
-inside : (s : List ℕ) (i : ℕ) → isDigit (getD s i 0) ≡ true → i < length s
-inside s i e = by (ltb i (length s)) refl
-  where
-    by : (u : Bool) → ltb i (length s) ≡ u → i < length s
-    by true h = ltb-true i (length s) h
-    by false h =
-        let z : getD s i 0 ≡ 0 = List·getD-eq-default s 0 (ltb-false i (length s) h) in
-        absurd (omega (arith, digit-in (getD s i 0) e .0))
+-- Digits.
 
 digit-on : (s : List ℕ) (i : ℕ) → isDigit (getD s i 0) ≡ true → all noBackslash (drop i s) ≡ all noBackslash (drop (suc i) s)
 unfolding all holds
-digit-on s i e = rw (drop-cons s i 0 (inside s i e), class-safe Digit (getD s i 0) e)
+digit-on s i e =
+    let h : getD s i 0 ≡ suc (getD s i 0 - 1) = omega (arith, digit-in (getD s i 0) e .0) in
+    rw (drop-cons s i 0 (there s i (getD s i 0 - 1) h), class-safe Digit (getD s i 0) e)
 
 digits-safe : (n : ℕ) (s : List ℕ) (at : ℕ) → digits n s at ≡ true → all noBackslash (drop at s) ≡ all noBackslash (drop (at + n) s)
 unfolding digits

@@ -6,11 +6,12 @@ use mathlib.Core.Path.{_∙_, _≡_, ap, refl, sym}
 use native.Mathlib.Nat.{zero-add}
 use native.Mathlib.Numerals.{add-one}
 use native.Mathlib.Omega.{arith}
-use borrow.Author.Tests.{eq-eqb, eqb-false, eqb-true, le-leb, lt-leb, ltb-false, ltb-true, ne-eqb}
-use lib.Dec.{eqb, leb, ltb}
-use lib.ListN.{List·getD-eq-default, drop, drop-of-length-le, getD, length}
+use borrow.Author.Tests.{eq-eqb, eqb-false, eqb-true, le-leb, lt-leb, ne-eqb}
+use lib.Dec.{eqb, leb}
+use lib.ListN.{drop, drop-of-length-le, getD, length}
 use lib.Seq.{drop-cons, drop-nil}
 use Rattle.octets.proofs.ClassLaws.{all-ends, all-more, all-stops}
+use Rattle.octets.proofs.TextLaws.{there}
 use Rattle.octets.specs.Class.{all, among, isDigit}
 use Rattle.octets.specs.Text.{same, standsAt}
 use Rattle.rules.specs.Classes.{holds}
@@ -86,14 +87,9 @@ stands-one (x ∷ s) (suc at) b h = stands-one s at b h
 
 -- so a byte that stands there is inside
 pub stands-inside : (s : List ℕ) (at b : ℕ) → 0 < b → standsAt s at (b ∷ []) ≡ true → at < length s
-stands-inside s at b h e = go (ltb at (length s)) refl
-  where
-    go : (t : Bool) → ltb at (length s) ≡ t → at < length s
-    go true f = ltb-true at (length s) f
-    go false f =
-        let z : getD s at 0 ≡ 0 = List·getD-eq-default s 0 (ltb-false at (length s) f) in
-        let y : getD s at 0 ≡ b = eqb-true (getD s at 0) b (sym (stands-one s at b h) ∙ e) in
-        omega arith
+stands-inside s at b h e =
+    let y : getD s at 0 ≡ suc (b - 1) = omega (arith, eqb-true (getD s at 0) b (sym (stands-one s at b h) ∙ e)) in
+    there s at (b - 1) y
 
 -- the steps of `number_at`
 pub number-more : (s : List ℕ) (at i v b w : ℕ) → v ≡ decimalAt i s at → b ≡ getD s (at + i) 0 → w ≡ b - 48 → v * 10 + w ≡ decimalAt (i + 1) s at

@@ -1,5 +1,5 @@
 -- Via of an accepted message edited: our entry added (`entry-added`), the last object taken off (`entry-removed`). Assumes nothing.
-use Rattle.json.proofs.TurnLaws.{there}
+use Rattle.octets.proofs.TextLaws.{there}
 use Prim.Native.Nat.{ℕ, _≤_}
 use Rattle.frame.proofs.ArrayEdits.{Solids, front, back, items-split, items-grow, grow, grow₁, grow-solid, grow-values, prior, gap, front-gap, items-shrink, shrink, shrink₁}
 use Rattle.frame.proofs.ArrayEdits.{shrink-solid, shrink-values, butLast, array-elements, added-is, removed-is}

@@ -17,7 +17,7 @@ use Rattle.message.proofs.AlikeLaws.{SameFacts, same-bytes, alike-facts}
 use Rattle.writing.proofs.ChangeLaws.{Again}
 use Rattle.writing.proofs.ForwardLaws.{forward-all, added-again, reduce-all, removed-again}
 use Rattle.message.proofs.MemberLaws.{shape, via-where}
-use Rattle.writing.proofs.OutcomeLaws.{stood, Added, was-added, Taken, was-taken}
+use Rattle.writing.proofs.OutcomeLaws.{stood, Added, was-added, TakenOff, was-taken}
 use Rattle.writing.proofs.PartLaws.{lastIn, prior-last}
 use Rattle.writing.proofs.PutLaws.{halves}
 use Rattle.writing.proofs.TrailLaws.{trail-passed}
@@ -136,7 +136,7 @@ some-left : (w : List ℕ) (x b : ℕ) → getD w x 0 ≡ suc b → 1 ≤ length
 some-left [] x b h = absurd (omega arith)
 some-left (c ∷ w) x b h = omega arith
 
-pub returned-by : (s h d o w : List ℕ) (e : Taken s h d o w) → length w ≤ 32768 → Returned s (e .m) w
+pub returned-by : (s h d o w : List ℕ) (e : TakenOff s h d o w) → length w ≤ 32768 → Returned s (e .m) w
 returned-by s h d o w e l =
     let a = read-taken s (e .m) (e .read) (omega (arith, e .response)) in
     let t = a .t in

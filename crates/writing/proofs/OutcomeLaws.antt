@@ -138,7 +138,7 @@ was-added s h d o w e =
     }
 
 -- a removing
-pub record Taken (s h d o w : List ℕ) : Type 0 where
+pub record TakenOff (s h d o w : List ℕ) : Type 0 where
   pub path : pathRule h d o ≡ true
   pub m : Message
   pub read : reading s ≡ readings.Read m
@@ -147,7 +147,7 @@ pub record Taken (s h d o w : List ℕ) : Type 0 where
   pub ours : isOurs h d (bytes s (lastOf (elements s (m .via)))) ≡ true
   pub is : w ≡ removed s (m .via)
 
-pub was-taken : (s h d o w : List ℕ) → removing s h d o ≡ write w → Taken s h d o w
+pub was-taken : (s h d o w : List ℕ) → removing s h d o ≡ write w → TakenOff s h d o w
 unfolding removing removeFrom
 was-taken s h d o w e =
     let p₀ = past-test (not (pathRule h d o)) Path _ w e in

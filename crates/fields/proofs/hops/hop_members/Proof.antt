@@ -1,5 +1,6 @@
 -- `fields::hops::hop_members` meets its contract. One law of `HopLaws` for each way out of a turn. Assumes nothing.
-use Rattle.json.proofs.TurnLaws.{no-more, spent, there}
+use Rattle.octets.proofs.TextLaws.{there}
+use Rattle.json.proofs.TurnLaws.{no-more, spent}
 use Prim.Native.Nat.{_≤_, _<_}
 use Rattle.fields.proofs.ClosingLaws.{known-on, open-comma, opened, shut}
 use Rattle.fields.proofs.GatherLaws.{hop-few}

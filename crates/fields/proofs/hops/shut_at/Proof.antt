@@ -1,5 +1,5 @@
 -- `fields::hops::shut_at` meets its contract. Each exit says what was tested before it. Assumes nothing.
-use Rattle.json.proofs.TurnLaws.{there}
+use Rattle.octets.proofs.TextLaws.{there}
 use Rattle.fields.proofs.hops.shut_at.Statement.{statement}
 use Rattle.fields.proofs.hops.shut_at.Tie as tie
 use borrow.Author.Needs.{needs}

@@ -1,5 +1,6 @@
 -- `fields::judging::is_strings` meets its contract. The loop keeps that the elements still to come decide. Assumes nothing.
-use Rattle.json.proofs.TurnLaws.{one-element, no-element, there, comma, no-comma}
+use Rattle.octets.proofs.TextLaws.{there}
+use Rattle.json.proofs.TurnLaws.{one-element, no-element, comma, no-comma}
 use Prim.Native.Nat.{_-_, _≤_, _<_}
 use Rattle.json.specs.Places.{elementsFrom}
 use Rattle.fields.proofs.FieldLaws.{quotes, not-list, empty-list, list-from, every-more, every-none, every-stops}

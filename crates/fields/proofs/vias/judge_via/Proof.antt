@@ -1,5 +1,6 @@
 -- `fields::vias::judge_via` meets its contract. One law of `TrailLaws` for each way out of a turn. Assumes nothing.
-use Rattle.json.proofs.TurnLaws.{no-element, there}
+use Rattle.octets.proofs.TextLaws.{there}
+use Rattle.json.proofs.TurnLaws.{no-element}
 use Prim.Native.Nat.{_≤_, _<_}
 use Rattle.fields.proofs.JudgingLaws.{via-broken, via-kept}
 use Rattle.fields.proofs.TrailLaws.{Walking, walk-starts, walk-over, walk-full, walk-broken, walk-again, walk-shut}

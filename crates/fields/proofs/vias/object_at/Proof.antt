@@ -1,6 +1,6 @@
 -- `fields::vias::object_at` meets its contract. One law of `ViaLaws` for each way out. Assumes nothing.
+use Rattle.octets.proofs.TextLaws.{there}
 use Rattle.octets.proofs.TestLaws.{clash}
-use Rattle.json.proofs.TurnLaws.{there}
 use Rattle.fields.proofs.GatherLaws.{ends-known}
 use Rattle.fields.proofs.ViaLaws.{not-object, twice-one, once-each, host-found}
 use Rattle.fields.proofs.vias.object_at.Statement.{statement}

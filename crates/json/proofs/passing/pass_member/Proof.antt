@@ -1,5 +1,5 @@
 -- One law for each way out; what the readers answer is the machine's answer. Assumes nothing.
-use Rattle.json.proofs.TurnLaws.{there}
+use Rattle.octets.proofs.TextLaws.{there}
 use Rattle.json.proofs.PassLaws.{no-string-reached, string-reached, string-some, no-value-reached, value-reached, value-some, no-name, no-colon}
 use Rattle.json.proofs.PassLaws.{no-value, not-followed, a-member}
 use Rattle.json.proofs.passing.pass_member.Statement.{statement}

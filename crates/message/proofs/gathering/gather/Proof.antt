@@ -1,5 +1,6 @@
 -- `message::gathering::gather` meets its contract. The loop keeps that the members still to come decide what is left to gather. Assumes nothing.
-use Rattle.json.proofs.TurnLaws.{no-more, one-more, spent, no-comma, comma, there}
+use Rattle.octets.proofs.TextLaws.{there}
+use Rattle.json.proofs.TurnLaws.{no-more, one-more, spent, no-comma, comma}
 use Prim.Native.Nat.{_≤_, _<_, _-_}
 use Rattle.json.proofs.PlaceLaws.{closing-is, raw-is}
 use Rattle.json.specs.Places.{valueOf, membersFrom}

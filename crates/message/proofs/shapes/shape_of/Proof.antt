@@ -1,5 +1,5 @@
 -- `message::shapes::shape_of` meets its contract. One law of `ShapeLaws` for each way out. Assumes nothing.
-use Rattle.json.proofs.TurnLaws.{there}
+use Rattle.octets.proofs.TextLaws.{there}
 use Rattle.message.proofs.ShapeLaws.{shapeless, no-array, no-tag, one-alone, no-object, three, a-pair}
 use Rattle.message.proofs.shapes.shape_of.Statement.{statement}
 use Rattle.message.proofs.shapes.shape_of.Tie as tie

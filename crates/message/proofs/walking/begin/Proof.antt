@@ -1,5 +1,5 @@
 -- `message::walking::begin` meets its contract. One law of `WalkLaws` for each byte on the way. Assumes nothing.
-use Rattle.json.proofs.TurnLaws.{there}
+use Rattle.octets.proofs.TextLaws.{there}
 use Rattle.message.proofs.WalkLaws.{no-beginning, begins-no-array, begins-no-string, begins-broken, begins-alone, begins-no-object, begins}
 use Rattle.message.proofs.walking.begin.Statement.{statement}
 use Rattle.message.proofs.walking.begin.Tie as tie

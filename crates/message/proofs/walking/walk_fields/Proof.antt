@@ -1,5 +1,5 @@
 -- `message::walking::walk_fields` meets its contract. The loop keeps the machine's answer beside what is gathered; one law of `WalkLaws` for each way out. Assumes nothing.
-use Rattle.json.proofs.TurnLaws.{there}
+use Rattle.octets.proofs.TextLaws.{there}
 use Prim.Native.Nat.{_≤_, _<_}
 use Rattle.json.proofs.PassLaws.{member-passed, member-stuck}
 use Rattle.json.specs.inner.Machine.{alone}

@@ -1,5 +1,5 @@
 -- `message::walking::walk_text` meets its contract. One law of `WalkLaws` for each way out. Assumes nothing.
-use Rattle.json.proofs.TurnLaws.{there}
+use Rattle.octets.proofs.TextLaws.{there}
 use Rattle.message.proofs.WalkLaws.{no-walk, fields-unusual, no-bracket, more-behind, usual}
 use Rattle.message.proofs.walking.walk_text.Statement.{statement}
 use Rattle.message.proofs.walking.walk_text.Tie as tie

@@ -1,5 +1,6 @@
 -- `writing::objects::has_ours` meets its contract. The loop keeps that the objects still to come decide. Assumes nothing.
-use Rattle.json.proofs.TurnLaws.{no-elements, some-elements, one-element, no-element, there, comma, no-comma}
+use Rattle.octets.proofs.TextLaws.{there}
+use Rattle.json.proofs.TurnLaws.{no-elements, some-elements, one-element, no-element, comma, no-comma}
 use Prim.Native.Nat.{ℕ, _-_, _≤_, _<_}
 use Rattle.json.specs.Places.{bytes, elements, elementsFrom}
 use Rattle.writing.proofs.TrailLaws.{own-part, some-none, some-now, some-later}
