@@ -1,9 +1,10 @@
 /*
  * libnet119.a: a call keeper for NET119 text emergency calls, for programs that link C on x86-64 Linux (System V).
  *
- * Document 01, the customer's 'NET119 call rules', decides what every function answers; each function is proved to answer so, for any
- * bytes, any time and any table image, and to leave in each buffer what is said here (docs/THEOREMS.md). The library has no state of its
- * own, takes nothing from the heap, calls nothing but memcpy and memset, prints nothing and never stops the program.
+ * Document 01, the customer's 'NET119 call rules', as changed by those of his requests that have landed (docs/CHANGES.md), decides what
+ * every function answers; each function is proved to answer so, for any bytes, any time and any table image, and to leave in each buffer
+ * what is said here (docs/THEOREMS.md). The library has no state of its own, takes nothing from the heap, calls nothing but memcpy and
+ * memset, prints nothing and never stops the program.
  *
  * Texts and buffers are a pointer and a length in bytes, in this order; texts need no 0 at their end.
  *

@@ -33,6 +33,10 @@ pub enum Side {
     Callee,
 }
 
+impl Side {
+    pub const ALL: [Side; 2] = [Side::Caller, Side::Callee];
+}
+
 /// What a request and its responses have in common. All slices are parts of
 /// the message itself.
 #[derive(Debug)]
@@ -224,7 +228,9 @@ impl<'a, 'v> Draft<'a, 'v> {
         match self.content_type() {
             None => false,
             Some(ContentType::Plain) => text.is_some(),
-            Some(ContentType::Image) => text.is_some_and(rules::is_image),
+            Some(ContentType::TextImage | ContentType::MessageImage) => {
+                text.is_some_and(rules::is_image)
+            }
             Some(ContentType::Presence) => {
                 text.is_some_and(|text| rules::is_one_of(&rules::PRESENCES, text))
             }
@@ -356,6 +362,7 @@ fn only_text<'a>(bytes: &'a [u8], members: &[Member], name: &[u8]) -> Option<&'a
 #[cfg(test)]
 mod tests {
     use super::*;
+    use crate::gen::texts;
     use crate::samples::{Sample, CALLEE, CALLER};
 
     fn verdict(bytes: &[u8]) -> Option<(u8, usize)> {
@@ -387,6 +394,10 @@ mod tests {
 
     fn cseq(method: &str) -> String {
         format!("1 {method}")
+    }
+
+    fn quoted(text: &str) -> String {
+        format!("\"{text}\"")
     }
 
     #[test]
@@ -783,22 +794,10 @@ mod tests {
             &["{}", "1", "null", "[]"],
         );
         rule(
-            message.clone(),
+            message,
             "Options",
             &["[]", "[\"a\",\"\\n\"]"],
             &["{}", "[1]", "[\"a\",null]", "\"a\"", "[[]]"],
-        );
-        rule(
-            message.with("Content-Type", "\"text/vnd.net119.uri.image\""),
-            "Body",
-            &["\"https://\"", "\"https://x\\n\""],
-            &[
-                "\"http://x\"",
-                "\"\"",
-                "\"https:\\/\\/x\"",
-                "\"HTTPS://x\"",
-                "{}",
-            ],
         );
         let notify = |kind: &str| {
             let kind = format!("\"message/vnd.net119.{kind}\"");
@@ -848,6 +847,71 @@ mod tests {
         rule(refer, "Refer-Memo", &["\"\""], &["\"\\\\\"", "null"]);
     }
 
+    /// Both names of an image, as values.
+    const IMAGE_TYPES: [&str; 2] = [
+        "\"text/vnd.net119.uri.image\"",
+        "\"message/vnd.net119.uri.image\"",
+    ];
+
+    #[test]
+    fn images_in_messages() {
+        for name in IMAGE_TYPES {
+            let image = Sample::request("1 MESSAGE")
+                .with("Content-Type", name)
+                .with("Body", "\"https://x\"");
+            let callees = image.clone().sent_by_callee();
+            assert_eq!(of(image.clone()), None);
+            assert_eq!(of(callees.clone()), Some((10, 0)));
+            for good in texts::IMAGES {
+                rule(image.clone(), "Body", &[&quoted(good)], &[]);
+            }
+            // 9 before a callee's 10.
+            for sent in [image, callees] {
+                for bad in texts::BAD_IMAGES {
+                    rule(sent.clone(), "Body", &[], &[&quoted(bad)]);
+                }
+                let no_strings = ["{}", "[\"https://x\"]", "1", "true", "null"];
+                rule(sent, "Body", &[], &no_strings);
+            }
+        }
+    }
+
+    /// TS-1022 5.11 shows one there: refused, whatever the Body is (02 §14).
+    #[test]
+    fn images_in_notifies() {
+        for body in ["\"https://x\"", "\"online\"", "\"180 Ringing\"", "{}"] {
+            let notify = Sample::request("1 NOTIFY").with("Body", body);
+            rule(notify.clone(), "Content-Type", &[], &IMAGE_TYPES);
+            rule(notify.sent_by_callee(), "Content-Type", &[], &IMAGE_TYPES);
+        }
+    }
+
+    #[test]
+    fn images_change_nothing_elsewhere() {
+        let others = ["INVITE", "BYE", "CANCEL", "ACK", "CALLBACK", "REFER"];
+        let requests = others.map(|method| Sample::request(&cseq(method)));
+        let responses = Method::NAMES.map(|method| Sample::response(&cseq(method), "200 OK"));
+        for sample in requests.into_iter().chain(responses) {
+            for sent in [sample.clone().sent_by_caller(), sample.sent_by_callee()] {
+                for name in IMAGE_TYPES {
+                    let image = sent.clone().with("Content-Type", name);
+                    assert_eq!(of(image.clone()), of(sent.clone()));
+                    assert_eq!(of(image.with("Body", "1")), of(sent.clone()));
+                }
+            }
+        }
+    }
+
+    #[test]
+    fn content_types_that_are_only_near() {
+        for near in texts::BAD_CONTENT_TYPES {
+            for method in ["MESSAGE", "NOTIFY"] {
+                let sample = Sample::request(&cseq(method)).with("Body", "\"https://x\"");
+                rule(sample, "Content-Type", &[], &[&quoted(near)]);
+            }
+        }
+    }
+
     #[test]
     fn row_10_sides() {
         let ten = Some((10, 0));
@@ -880,11 +944,6 @@ mod tests {
         assert_eq!(of(invite.clone().with("Call-Mode", "\"training\"")), ten);
         let fire = invite.with("Request-Service", "\"fire\"");
         assert_eq!(of(fire.with("Call-Mode", "\"training\"")), None);
-        let image = Sample::request("1 MESSAGE")
-            .with("Content-Type", "\"text/vnd.net119.uri.image\"")
-            .with("Body", "\"https://x\"");
-        assert_eq!(of(image.clone()), None);
-        assert_eq!(of(image.sent_by_callee()), ten);
         for method in Method::NAMES {
             let wanted = if method == "REFER" { None } else { ten };
             assert_eq!(of(Sample::response(&cseq(method), "202 OK")), wanted);

@@ -189,7 +189,17 @@ mod tests {
             ("desk", "kita.callee", "kita.caller"),
             ("message-id", "caller-kita-1", "caller-kita-"),
             ("message-type", "text/plain", "message/vnd.net119.refer"),
+            (
+                "message-type",
+                "message/vnd.net119.uri.image",
+                "message/vnd.net119.uri.images",
+            ),
             ("notify-type", "message/vnd.net119.refer", "text/plain"),
+            (
+                "notify-type",
+                "message/vnd.net119.location",
+                "message/vnd.net119.uri.image",
+            ),
             ("image", "https://", "http://x"),
             ("memo", "a\"b", "a\\b"),
             ("language", "ja", "JA"),
@@ -224,8 +234,9 @@ mod tests {
             ("availability", "available unavailable"),
             (
                 "content-type",
-                "text/plain text/vnd.net119.uri.image message/vnd.net119.presence \
-                 message/vnd.net119.location message/vnd.net119.refer",
+                "text/plain text/vnd.net119.uri.image message/vnd.net119.uri.image \
+                 message/vnd.net119.presence message/vnd.net119.location \
+                 message/vnd.net119.refer",
             ),
             ("presence", "online offline"),
             ("call-mode", "emergency training"),

@@ -80,32 +80,37 @@ impl Method {
     }
 }
 
-/// What a Content-Type says of the Body.
+/// What a Content-Type says of the Body. An image comes under two names, that of
+/// TS-1022 7.5 and that of 5.11 (02 §14).
 #[derive(Debug, Clone, Copy, PartialEq, Eq)]
 pub enum ContentType {
     Plain = 1,
-    Image = 2,
-    Presence = 3,
-    Location = 4,
-    Refer = 5,
+    TextImage = 2,
+    MessageImage = 3,
+    Presence = 4,
+    Location = 5,
+    Refer = 6,
 }
 
 impl ContentType {
     /// A MESSAGE's first, then a NOTIFY's.
-    pub const ALL: [ContentType; 5] = [
+    pub const ALL: [ContentType; 6] = [
         ContentType::Plain,
-        ContentType::Image,
+        ContentType::TextImage,
+        ContentType::MessageImage,
         ContentType::Presence,
         ContentType::Location,
         ContentType::Refer,
     ];
-    pub const NAMES: [&'static str; 5] = [
+    pub const NAMES: [&'static str; 6] = [
         "text/plain",
         "text/vnd.net119.uri.image",
+        "message/vnd.net119.uri.image",
         "message/vnd.net119.presence",
         "message/vnd.net119.location",
         "message/vnd.net119.refer",
     ];
+    pub const IMAGES: [ContentType; 2] = [ContentType::TextImage, ContentType::MessageImage];
 
     pub fn of_name(name: &[u8]) -> Option<ContentType> {
         numbered(&Self::ALL, number_among(&Self::NAMES, name)?)
@@ -119,7 +124,9 @@ impl ContentType {
     pub fn of_method(method: Method, name: &[u8]) -> Option<ContentType> {
         let content_type = Self::of_name(name)?;
         let own = match content_type {
-            ContentType::Plain | ContentType::Image => Method::Message,
+            ContentType::Plain | ContentType::TextImage | ContentType::MessageImage => {
+                Method::Message
+            }
             ContentType::Presence | ContentType::Location | ContentType::Refer => Method::Notify,
         };
         (own == method).then_some(content_type)
@@ -484,16 +491,21 @@ mod tests {
             assert_eq!(ContentType::of_name(name), Some(content_type));
             for method in Method::ALL {
                 let own = match method {
-                    Method::Message => content_type as u8 <= 2,
-                    Method::Notify => content_type as u8 > 2,
+                    Method::Message => content_type as u8 <= 3,
+                    Method::Notify => content_type as u8 > 3,
                     _ => false,
                 };
                 let found = ContentType::of_method(method, name);
                 assert_eq!(found, own.then_some(content_type));
             }
         }
-        assert_eq!(ContentType::of_name(b"text/html"), None);
-        assert_eq!(ContentType::of_method(Method::Message, b""), None);
+        for bad in texts::BAD_CONTENT_TYPES {
+            assert_eq!(ContentType::of_name(bad.as_bytes()), None, "{bad}");
+        }
+        assert_eq!(
+            ContentType::IMAGES.map(ContentType::name),
+            ["text/vnd.net119.uri.image", "message/vnd.net119.uri.image"]
+        );
     }
 
     #[test]
@@ -508,9 +520,10 @@ mod tests {
         assert!(is_memo(&[0x80; 500]));
         assert!(is_memo(&[0xff; 128]));
         assert!(!is_memo(&[0xff; 129]));
-        assert!(is_image(b"https://"));
-        assert!(is_image(b"https://x\\n"));
-        for bad in ["", "https:/", "http://x", "HTTPS://x", " https://x"] {
+        for good in texts::IMAGES {
+            assert!(is_image(good.as_bytes()), "{good}");
+        }
+        for bad in texts::BAD_IMAGES {
             assert!(!is_image(bad.as_bytes()), "{bad}");
         }
     }

@@ -60,12 +60,12 @@ fn rules_answers_questions() {
     assert_eq!(output(&["rules"], b""), b"");
 }
 
-/// A program's answers to 400 lines that are made for it.
-fn answers_to_made(kind: &str) -> Vec<u8> {
+/// A program's answers to 400 lines of a kind that is made for it.
+fn answers_to_made(kind: &str, program: &str) -> Vec<u8> {
     let cases = output(&["gen", kind, "4", "400"], b"");
     assert_eq!(cases, output(&["gen", kind, "4", "400"], b""));
     assert_eq!(cases.iter().filter(|byte| **byte == b'\n').count(), 400);
-    let answers = output(&[kind], &cases);
+    let answers = output(&[program], &cases);
     assert_eq!(answers.iter().filter(|byte| **byte == b'\n').count(), 400);
     answers
 }
@@ -73,14 +73,14 @@ fn answers_to_made(kind: &str) -> Vec<u8> {
 #[test]
 fn gen_feeds_the_smaller_programs() {
     for kind in ["json", "rules"] {
-        answers_to_made(kind);
+        answers_to_made(kind, kind);
     }
 }
 
 #[test]
 fn gen_feeds_the_programs_and_count_counts() {
-    for kind in ["keep", "probe"] {
-        let answers = answers_to_made(kind);
+    for (kind, program) in [("keep", "keep"), ("probe", "probe"), ("photos", "probe")] {
+        let answers = answers_to_made(kind, program);
         let counts = String::from_utf8(output(&["count"], &answers)).unwrap();
         let numbers = counts.lines().map(|line| line.split_whitespace().next());
         let total: u64 = numbers
@@ -98,6 +98,7 @@ fn wrong_arguments_give_usage_and_2() {
         &["keep", "x"],
         &["json", "x"],
         &["rule"],
+        &["photos"],
         &["gen"],
         &["gen", "keep", "1"],
         &["gen", "keep", "x", "1"],

@@ -9,7 +9,7 @@ use Rattle.fields.specs.declared.judging.Setting.{Setting}
 use Rattle.octets.specs.Class.{all}
 use Rattle.rules.specs.Address.{callerRule, calleeRule}
 use Rattle.rules.specs.Date.{dateRule}
-use Rattle.rules.specs.Numbers.{contentImage, contentLocation, contentPresence, contentText, methodMessage, tagPong}
+use Rattle.rules.specs.Numbers.{contentLocation, contentMessageImage, contentPresence, contentText, contentTextImage, methodMessage, tagPong}
 use Rattle.rules.specs.Pieces.{wordNumber}
 use Rattle.rules.specs.Sequence.{sequenceRule}
 use Rattle.rules.specs.Status.{statusRule}
@@ -38,12 +38,16 @@ statusField tag v = cond (eqb tag tagPong) (ruled (oneOf availabilities) v) (fre
 unfoldable pub contentField : ℕ → List ℕ → Bool
 contentField method v = cond (eqb method methodMessage) (ruled (oneOf messageTypes) v) (ruled (oneOf notifyTypes) v)
 
+-- a Content-Type's number is the image's, under either of its names (02 §14)
+unfoldable pub namesImage : ℕ → Bool
+namesImage content = eqb content contentTextImage || eqb content contentMessageImage
+
 -- Body, by Content-Type: text a string; the image's a string that starts `https://`; presence `online` or `offline`; the location
 -- an object; refer as Status (any other number counts as refer: a Body is only asked about once field 9 has kept its rule)
 unfoldable pub bodyField : ℕ → List ℕ → Bool
 bodyField content v =
     cond (eqb content contentText) (isString v)
-    (cond (eqb content contentImage) (freely imageRule v)
+    (cond (namesImage content) (freely imageRule v)
     (cond (eqb content contentPresence) (ruled (oneOf presences) v)
     (cond (eqb content contentLocation) (isObject v) (freely statusRule v))))
 

@@ -19,12 +19,12 @@ use rules::CALLER;
 use rules::CONTENT_TYPE;
 use rules::DATE;
 use rules::DESTINATION;
-use rules::IMAGE_CONTENT;
 use rules::LANGUAGE;
 use rules::LOCATION_CONTENT;
 use rules::LOCATIONS;
 use rules::MESSAGE;
 use rules::MESSAGE_ID;
+use rules::MESSAGE_IMAGE_CONTENT;
 use rules::PONG;
 use rules::PRESENCE_CONTENT;
 use rules::REFER_MEMO;
@@ -34,12 +34,13 @@ use rules::SECURE_CALL;
 use rules::SESSION_ID;
 use rules::STATUS;
 use rules::TEXT_CONTENT;
+use rules::TEXT_IMAGE_CONTENT;
 use rules::USER_AGENT;
 use rules::VIA;
 ghost use Rattle.fields.specs.inner.Asked.{Own};
 ghost use mathlib.Core.Path.{_≡_};
 ghost use Prim.Native.Nat.{_<_};
-ghost use Rattle.fields.specs.Field.{bodyField, contentField, statusField, stringsField};
+ghost use Rattle.fields.specs.Field.{bodyField, contentField, namesImage, statusField, stringsField};
 ghost use Rattle.fields.specs.inner.Judging.{cseqOf, judgedValue, partyOf, statusIn};
 ghost use Rattle.fields.specs.inner.Chain.{byKind, chain, kindRule, laterRule, textRule};
 ghost use Rattle.fields.specs.Via.{viaRule};
@@ -255,6 +256,16 @@ fn keeps_content(method: u8, v: &[u8]) -> bool
     under(v, 0 < rules::notify_type(t))
 }
 
+// Whether a Content-Type is the image's, under either of its names.
+fn names_image(content: u8) -> bool
+    ensures { λ r. ⌜ r ≡ namesImage content ⌝ }
+{
+    or(
+        content == TEXT_IMAGE_CONTENT,
+        content == MESSAGE_IMAGE_CONTENT,
+    )
+}
+
 fn keeps_body(content: u8, v: &[u8]) -> bool
     requires { ⌜ Own (now v) ⌝ }
     ensures { λ r. ⌜ r ≡ bodyField content (now (v .entry)) ⌝ }
@@ -263,7 +274,7 @@ fn keeps_body(content: u8, v: &[u8]) -> bool
     if content == TEXT_CONTENT {
         return is_string(v);
     }
-    if content == IMAGE_CONTENT {
+    if names_image(content) {
         return and(is_string(v), rules::is_image(t));
     }
     if content == PRESENCE_CONTENT {

@@ -5,15 +5,17 @@ use Rattle.json.specs.inner.Machine.{ends}
 use Rattle.json.specs.Places.{behind, closing, elements, elementsFrom, follows, isMark, isOpen, isShut, left, memberAt, members, membersFrom, more, next, part, isWs}
 use Rattle.json.specs.Places.{past, raw, size, spaces, unmarked, valueOf}
 use Rattle.message.specs.Checks.{breaks, checked, lacks, lowest}
-use Rattle.fields.specs.Field.{addressRule, keeps, statusField}
+use Rattle.fields.specs.Field.{addressRule, bodyField, contentField, keeps, namesImage, oneOf, statusField}
 use Rattle.fields.specs.Known.{has, note, noted, numberAt, repeated}
-use Rattle.message.specs.Message.{contentAt, disagrees, fromCaller, methodOf, numberOf, sameSide, settingOf, sidesDisagree, toCaller}
+use Rattle.message.specs.Message.{contentAt, disagrees, fromCaller, methodOf, numberOf, requestDisagrees, sameSide, settingOf, sidesDisagree, toCaller}
+use Rattle.message.specs.Message.{wrongNumber, wrongSide}
 use Rattle.message.specs.Reading.{agreed, judged, known, reading, settled, shaped}
 use Rattle.message.specs.Shape.{objectOf, tagAt, tagOf}
 use Rattle.fields.specs.Spans.{textAt}
 use Rattle.fields.specs.Value.{freely, isArray, isString, ruled, textOf}
 use Rattle.fields.specs.Via.{hopKeeps, hopPlaces, hopRule, isHop, viaRule}
-use Rattle.message.specs.declared.reading.Reading.the-variants.{Refused}
+use Rattle.message.specs.declared.reading.Reading.the-variants.{Read, Refused}
+use Rattle.message.specs.declared.reading.Reading.{Reading}
 use Rattle.octets.specs.Ascii.{ascii}
 use Rattle.octets.specs.Class.{all, among, isAlnum, isDigit, isLetter, isLower, isUpper}
 use Rattle.octets.specs.Text.{same, standsAt}
@@ -26,10 +28,10 @@ use Rattle.rules.specs.Pieces.{digits, wordNumberFrom, reads, runLength, decima
 use Rattle.rules.specs.Sequence as sequence
 use Rattle.rules.specs.Sequence.{numberEnd, sequenceOf, sequenceRule}
 use Rattle.rules.specs.Status.{statusRule}
-use Rattle.rules.specs.Texts.{callIdRule, destinationRule, hostRule, organizationRule, noBackslash}
+use Rattle.rules.specs.Texts.{callIdRule, destinationRule, hostRule, imageRule, messageIdRule, noBackslash, organizationRule}
 use Rattle.utf8.specs.Rfc3629.{begins, charAt, goesOn, octets}
 use lib.ListN.{replicate}
-use mathlib.Core.Bool.{false, true}
+use mathlib.Core.Bool.{Bool, false, true}
 use mathlib.Core.List.{List, [], _++_}
 use mathlib.Core.Path.{_≡_, refl}
 
@@ -38,7 +40,7 @@ pub lengths : (reading [] ≡ Refused 2 0) × (reading (replicate 32768 120) ≡
 unfolding reading octets charAt begins goesOn among from walk step isWs begin isDigit
 lengths = (refl, refl, refl)
 
--- a message of this tag, with this Status or none, of this method, from one address to another; its other fields keep their rules
+-- a message that begins so, with its tag and fields that are not named here, of this method, from one address to another; its other fields keep their rules
 abbrev told : List ℕ → List ℕ → List ℕ → List ℕ → List ℕ
 told begun method from to =
     begun
@@ -50,6 +52,27 @@ told begun method from to =
     ++ (to
     ++ ascii "\",\"Date\":\"2024-02-29T23:59:59+0900\",\"Call-ID\":\"A1\",\"Via\":[{\"host\":\"h\",\"destination\":\"d\",\"organization\":\"og\"}]}]"))))))
 
+-- the two parties
+abbrev caller : List ℕ
+caller = ascii "u1@nishi.caller"
+
+abbrev callee : List ℕ
+callee = ascii "fire@kita.callee"
+
+-- a request with this Content-Type, whose value begins at 57, and this Body, of this method, from one address to another
+abbrev sent : List ℕ → List ℕ → List ℕ → List ℕ → List ℕ → List ℕ
+sent content body =
+    told (ascii "[\"request\",{\"Message-ID\":\"caller-nishi-1\",\"Content-Type\":\"" ++ (content ++ (ascii "\",\"Body\":" ++ (body ++ ascii ","))))
+
+-- an image under its second name (02 §14), with this Body, whose value begins at 95
+abbrev image : List ℕ → List ℕ → List ℕ → List ℕ → List ℕ
+image = sent (ascii "message/vnd.net119.uri.image")
+
+-- a message is read
+abbrev isRead : Reading → Bool
+isRead (Refused n p) = false
+isRead (Read m) = true
+
 pub rows :
     -- row 7: a known name twice, at the opening quote of the repeat; `date` is none
     (reading (ascii "[\"ping\",{\"Date\":0,\"date\":0,\"Date\":0}]") ≡ Refused 7 27)
@@ -58,10 +81,20 @@ pub rows :
     -- row 9: none is missing, and all break their rules
     × (reading (ascii "[\"ping\",{\"Via\":0,\"Date\":0,\"Destination\":0}]") ≡ Refused 9 24)
     -- row 8 again, on the method's fields: a NOTIFY without 9 and 10
-    × (reading (told (ascii "[\"request\",{") (ascii "NOTIFY") (ascii "u1@nishi.caller") (ascii "fire@kita.callee")) ≡ Refused 8 9)
+    × (reading (told (ascii "[\"request\",{") (ascii "NOTIFY") caller callee) ≡ Refused 8 9)
     -- row 10: From and To on the same side, in a request and in a response
-    × (reading (told (ascii "[\"request\",{") (ascii "BYE") (ascii "u1@nishi.caller") (ascii "u2@kita.caller")) ≡ Refused 10 0)
-    × (reading (told (ascii "[\"response\",{\"Status\":\"200 OK\",") (ascii "BYE") (ascii "fire@kita.callee") (ascii "fire@nishi.callee")) ≡ Refused 10 0)
+    × (reading (told (ascii "[\"request\",{") (ascii "BYE") caller (ascii "u2@kita.caller")) ≡ Refused 10 0)
+    × (reading (told (ascii "[\"response\",{\"Status\":\"200 OK\",") (ascii "BYE") callee (ascii "fire@nishi.callee")) ≡ Refused 10 0)
+    -- an image in a caller's MESSAGE, under either name; row 9 where its Body does not start `https://` or is no string
+    × (isRead (reading (sent (ascii "text/vnd.net119.uri.image") (ascii "\"https://x\"") (ascii "MESSAGE") caller callee)) ≡ true)
+    × (isRead (reading (image (ascii "\"https://x\"") (ascii "MESSAGE") caller callee)) ≡ true)
+    × (reading (image (ascii "\"http://x\"") (ascii "MESSAGE") caller callee) ≡ Refused 9 95)
+    × (reading (image (ascii "{}") (ascii "MESSAGE") caller callee) ≡ Refused 9 95)
+    -- row 10: a callee's; row 9 comes first
+    × (reading (image (ascii "\"https://x\"") (ascii "MESSAGE") callee caller) ≡ Refused 10 0)
+    × (reading (image (ascii "\"http://x\"") (ascii "MESSAGE") callee caller) ≡ Refused 9 95)
+    -- row 9, at Content-Type: one under NOTIFY
+    × (reading (image (ascii "\"https://x\"") (ascii "NOTIFY") caller callee) ≡ Refused 9 57)
 unfolding reading octets charAt begins goesOn from walk step isWs begin opens point expo ends stops shaped tagOf tagAt objectOf elements elementsFrom more follows past spaces
     behind size left unmarked isMark isOpen isShut raw closing part wordNumberFrom same standsAt members membersFrom memberAt valueOf next known repeated has numberAt note noted
     judged checked lacks breaks lowest tagAsks methodAsks isIn keeps ruled freely isString isArray textOf textAt viaRule isHop hopPlaces hopRule hopKeeps
@@ -69,7 +102,8 @@ unfolding reading octets charAt begins goesOn from walk step isWs begin opens po
     decimalAt
     digits within holds all among isAlnum isDigit isLetter isLower isUpper pieces.hasPiece pieces.pieceEnd settingOf methodOf numberOf contentAt sequenceOf numberEnd
     sequence.cseqNumber sequence.cseqMethod settled agreed disagrees sidesDisagree sameSide fromCaller toCaller addressOf userEnd callerEnd calleeEnd
-rows = (refl, refl, refl, refl, refl, refl)
+    messageIdRule contentField oneOf bodyField namesImage imageRule wrongSide wrongNumber requestDisagrees
+rows = (refl, refl, refl, refl, refl, refl, refl, refl, refl, refl, refl, refl, refl)
 
 -- so many objects of Via, and a comma behind each
 abbrev hops : ℕ → List ℕ

@@ -13,7 +13,7 @@ use Rattle.rules.specs.Date.{dateRule, daysIn, leap}
 use Rattle.rules.specs.Asks.{isIn, methodAsks, tagAsks}
 use Rattle.rules.specs.Names as names
 use Rattle.rules.specs.Names.{methods, tags}
-use Rattle.rules.specs.Numbers.{contentImage, contentLocation, contentPresence, contentText, tagPong, tagRequest, tagResponse}
+use Rattle.rules.specs.Numbers.{contentLocation, contentMessageImage, contentPresence, contentText, contentTextImage, tagPong, tagRequest, tagResponse}
 use Rattle.rules.specs.Numbers.{methodAck, methodCallback, methodCancel, methodInvite, methodMessage, methodNotify, methodRefer}
 use Rattle.rules.specs.Numbers.{fieldCSeq, fieldCallId, fieldCallMode, fieldContentType, fieldFrom, fieldRequestService, fieldSecureCall, fieldStatus, fieldTo, fieldVia}
 use Rattle.rules.specs.Words.{contentTypes}
@@ -125,11 +125,12 @@ method-names = (refl, refl, refl, refl, refl, refl, refl)
 -- Content-Types
 pub content-names :
     (wordNumber contentTypes (ascii "text/plain") ≡ contentText)
-    × (wordNumber contentTypes (ascii "text/vnd.net119.uri.image") ≡ contentImage)
+    × (wordNumber contentTypes (ascii "text/vnd.net119.uri.image") ≡ contentTextImage)
+    × (wordNumber contentTypes (ascii "message/vnd.net119.uri.image") ≡ contentMessageImage)
     × (wordNumber contentTypes (ascii "message/vnd.net119.presence") ≡ contentPresence)
     × (wordNumber contentTypes (ascii "message/vnd.net119.location") ≡ contentLocation)
 unfolding wordNumberFrom same
-content-names = (refl, refl, refl, refl)
+content-names = (refl, refl, refl, refl, refl)
 
 -- fields
 pub field-names :

@@ -33,18 +33,21 @@ methodRefer = 7
 abbrev pub methodNotify : ℕ
 methodNotify = 8
 
--- the Content-Types
+-- the Content-Types; the image's two by the first part of their names
 abbrev pub contentText : ℕ
 contentText = 1
 
-abbrev pub contentImage : ℕ
-contentImage = 2
+abbrev pub contentTextImage : ℕ
+contentTextImage = 2
+
+abbrev pub contentMessageImage : ℕ
+contentMessageImage = 3
 
 abbrev pub contentPresence : ℕ
-contentPresence = 3
+contentPresence = 4
 
 abbrev pub contentLocation : ℕ
-contentLocation = 4
+contentLocation = 5
 
 -- the known fields
 abbrev pub fieldCSeq : ℕ

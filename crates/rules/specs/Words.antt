@@ -8,9 +8,13 @@ use Rattle.octets.specs.Ascii.{ascii}
 abbrev pub availabilities : List (List ℕ)
 availabilities = ascii "available" ∷ ascii "unavailable" ∷ []
 
+-- Content-Type of an image, under its two names: that of TS-1022 7.5 and that of 5.11 (02 §14)
+abbrev pub imageTypes : List (List ℕ)
+imageTypes = ascii "text/vnd.net119.uri.image" ∷ ascii "message/vnd.net119.uri.image" ∷ []
+
 -- Content-Type of a MESSAGE
 abbrev pub messageTypes : List (List ℕ)
-messageTypes = ascii "text/plain" ∷ ascii "text/vnd.net119.uri.image" ∷ []
+messageTypes = ascii "text/plain" ∷ imageTypes
 
 -- Content-Type of a NOTIFY
 abbrev pub notifyTypes : List (List ℕ)

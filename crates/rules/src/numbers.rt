@@ -26,13 +26,15 @@ pub const NOTIFY: u8 = 8;
 
 pub const TEXT_CONTENT: u8 = 1;
 
-pub const IMAGE_CONTENT: u8 = 2;
+pub const TEXT_IMAGE_CONTENT: u8 = 2;
 
-pub const PRESENCE_CONTENT: u8 = 3;
+pub const MESSAGE_IMAGE_CONTENT: u8 = 3;
 
-pub const LOCATION_CONTENT: u8 = 4;
+pub const PRESENCE_CONTENT: u8 = 4;
 
-pub const REFER_CONTENT: u8 = 5;
+pub const LOCATION_CONTENT: u8 = 5;
+
+pub const REFER_CONTENT: u8 = 6;
 
 pub const CSEQ: usize = 1;
 

@@ -1,9 +1,10 @@
 // The fields whose text is one of a few words: the word's number from 1, and 0 for any other text.
-use crate::numbers::IMAGE_CONTENT;
 use crate::numbers::LOCATION_CONTENT;
+use crate::numbers::MESSAGE_IMAGE_CONTENT;
 use crate::numbers::PRESENCE_CONTENT;
 use crate::numbers::REFER_CONTENT;
 use crate::numbers::TEXT_CONTENT;
+use crate::numbers::TEXT_IMAGE_CONTENT;
 use crate::pieces::word_or;
 ghost use mathlib.Core.List.{[], _∷_};
 ghost use mathlib.Core.Path.{_≡_};
@@ -26,7 +27,7 @@ pub fn availability(s: &[u8]) -> u8
     either(s, b"available", b"unavailable")
 }
 
-// Content-Type of a MESSAGE: text, image.
+// Content-Type of a MESSAGE: text, and the image under either of its names.
 pub fn message_type(s: &[u8]) -> u8
     ensures { λ r. ⌜ r ≡ wordNumber messageTypes (now (s .entry)) ⌝ }
 {
@@ -34,7 +35,12 @@ pub fn message_type(s: &[u8]) -> u8
         s,
         b"text/plain",
         TEXT_CONTENT,
-        word_or(s, b"text/vnd.net119.uri.image", IMAGE_CONTENT, 0),
+        word_or(
+            s,
+            b"text/vnd.net119.uri.image",
+            TEXT_IMAGE_CONTENT,
+            word_or(s, b"message/vnd.net119.uri.image", MESSAGE_IMAGE_CONTENT, 0),
+        ),
     )
 }
 

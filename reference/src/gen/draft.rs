@@ -33,11 +33,10 @@ pub struct Draft {
 
 /// The side that sends a method, where there is a choice either.
 pub fn sender(rng: &mut Rng, method: Method) -> Side {
-    const SIDES: [Side; 2] = [Side::Caller, Side::Callee];
-    match SIDES.map(|side| message::may_send(side, method)) {
+    match Side::ALL.map(|side| message::may_send(side, method)) {
         [true, false] => Side::Caller,
         [false, true] => Side::Callee,
-        _ => *rng.pick(&SIDES),
+        _ => *rng.pick(&Side::ALL),
     }
 }
 
@@ -63,6 +62,11 @@ pub fn paths(rng: &mut Rng) -> Vec<OwnPath> {
 impl Plan {
     pub fn random(rng: &mut Rng) -> Plan {
         let method = *rng.pick(&Method::ALL);
+        Plan::of_method(rng, method)
+    }
+
+    /// The same of this method, from a side that may send it.
+    pub fn of_method(rng: &mut Rng, method: Method) -> Plan {
         let status = status(rng, method);
         Plan {
             response: rng.one_in(3).then_some(status),
@@ -118,9 +122,12 @@ impl Plan {
         match self.method {
             Method::Invite => self.add_invite_fields(rng, draft),
             Method::Message => {
-                let image = self.from == Side::Caller && rng.one_in(2);
+                let content_type = match self.from == Side::Caller && rng.one_in(2) {
+                    true => *rng.pick(&ContentType::IMAGES),
+                    false => Plain,
+                };
                 draft.set("Message-ID", Node::text(texts::message_id(rng)));
-                draft.set_body(rng, if image { Image } else { Plain });
+                draft.set_body(rng, content_type);
                 if rng.one_in(4) {
                     let count = rng.below(3);
                     let options = (0..count).map(|_| Node::text(texts::free(rng)));
@@ -295,16 +302,8 @@ impl Draft {
 
     /// A Content-Type with a Body that fits it.
     fn set_body(&mut self, rng: &mut Rng, content_type: ContentType) {
-        use ContentType::*;
-        let body = match content_type {
-            Plain => Node::text(texts::free(rng)),
-            Image => Node::text(rng.pick(&["https://", "https://x.jp/1.jpg", "https://\\u0041"])),
-            Presence => Node::text(rng.pick(&rules::PRESENCES)),
-            Location => Node::Object(vec![Node::member("latitude", Node::raw("34.68952"))]),
-            Refer => Node::text(rng.pick(&["180 Ringing", "202 Accepted", "699 ", "100 \\n"])),
-        };
         self.set("Content-Type", Node::text(content_type.name()));
-        self.set("Body", body);
+        self.set("Body", body(rng, content_type));
     }
 
     /// The whole message as a tree.
@@ -425,6 +424,11 @@ impl Draft {
             let memo = bad_value(rng, fields::REFER_MEMO, &Node::raw("\"\""));
             self.set("Refer-Memo", memo);
         }
+        // TS-1022 5.11 shows a photo in a NOTIFY, which has no Message-ID.
+        let is_notify = self.get("Content-Type").is_some() && self.get("Message-ID").is_none();
+        if is_notify && rng.one_in(6) {
+            self.set_body(rng, ContentType::MessageImage);
+        }
     }
 
     /// Any field, but half the time one of the method's own if there is any.
@@ -478,11 +482,24 @@ impl Draft {
                 self.set("Request-Service", Node::text("callback"));
             }
             _ => {
-                self.set_body(rng, ContentType::Image);
+                let content_type = *rng.pick(&ContentType::IMAGES);
+                self.set_body(rng, content_type);
                 self.fields[from].1 = Node::text("net119:fire@kita.callee");
                 self.fields[to].1 = Node::text("net119:u1@nishi.caller");
             }
         }
+    }
+}
+
+/// A Body that fits a Content-Type.
+pub fn body(rng: &mut Rng, content_type: ContentType) -> Node {
+    use ContentType::*;
+    match content_type {
+        Plain => Node::text(texts::free(rng)),
+        TextImage | MessageImage => Node::text(texts::image(rng)),
+        Presence => Node::text(rng.pick(&rules::PRESENCES)),
+        Location => Node::Object(vec![Node::member("latitude", Node::raw("34.68952"))]),
+        Refer => Node::text(rng.pick(&["180 Ringing", "202 Accepted", "699 ", "100 \\n"])),
     }
 }
 
@@ -555,17 +572,9 @@ fn bad_value(rng: &mut Rng, field: usize, old: &Node) -> Node {
         VIA => return bad_via(rng, old),
         STATUS => texts::bad_status(rng),
         MESSAGE_ID => texts::bad_message_id(rng),
-        CONTENT_TYPE => {
-            const OTHERS: [&str; 6] = [
-                "message/vnd.net119.uri.image",
-                "text/html",
-                "text/plain ",
-                "Text/plain",
-                "text\\/plain",
-                "",
-            ];
-            rng.one_of(&[&ContentType::NAMES[..], &OTHERS].concat())
-        }
+        // The other method's are as wrong as those of none.
+        CONTENT_TYPE if rng.one_in(2) => rng.one_of(&ContentType::NAMES),
+        CONTENT_TYPE => texts::bad_content_type(rng),
         BODY => bad_body(rng, old),
         REFER_TO | REFERRED_BY => texts::bad_fire_id(rng),
         REFER_MEMO => match rng.below(3) {
@@ -602,13 +611,6 @@ fn bad_value(rng: &mut Rng, field: usize, old: &Node) -> Node {
 
 /// A Body that the Content-Type it stands with seldom allows.
 fn bad_body(rng: &mut Rng, old: &Node) -> Vec<u8> {
-    const LINKS: &[&str] = &[
-        "https:/x",
-        "https:/",
-        "http://x",
-        "https:\\/\\/x",
-        "HTTPS://x",
-    ];
     const BODIES: &[&str] = &[
         "Online",
         "online ",
@@ -620,8 +622,8 @@ fn bad_body(rng: &mut Rng, old: &Node) -> Vec<u8> {
         "180 \\n",
         "",
     ];
-    let is_link = matches!(old, Node::Raw(bytes) if bytes.starts_with(b"\"https:"));
-    let bodies = if is_link { LINKS } else { BODIES };
+    let is_image = matches!(old, Node::Raw(bytes) if bytes.starts_with(b"\"https:"));
+    let bodies = if is_image { texts::BAD_IMAGES } else { BODIES };
     rng.one_of(bodies)
 }
 

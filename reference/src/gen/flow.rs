@@ -119,10 +119,8 @@ impl Flow {
     /// A new INVITE.
     fn begin(&mut self, rng: &mut Rng) -> (u64, Happening) {
         self.made += 1;
-        let mut plan = Plan::random(rng);
+        let mut plan = Plan::of_method(rng, Method::Invite);
         plan.response = None;
-        plan.method = Method::Invite;
-        plan.from = Side::Caller;
         plan.call_id = self.new_call_id(rng);
         plan.number = if rng.one_in(12) {
             draft::number(rng)

@@ -7,6 +7,7 @@ mod flow;
 mod image;
 mod log;
 mod node;
+mod photos;
 mod questions;
 mod raw;
 mod rng;
@@ -27,6 +28,12 @@ pub fn keep_lines(seed: u64, count: u64, output: impl Write) -> io::Result<()> {
 pub fn probe_lines(seed: u64, count: u64, output: impl Write) -> io::Result<()> {
     let mut script = script::Script::new(seed);
     write_lines(seed, count, output, || script.line())
+}
+
+/// So many lines for `probe` that read photos.
+pub fn photo_lines(seed: u64, count: u64, output: impl Write) -> io::Result<()> {
+    let mut photos = photos::Photos::new(seed);
+    write_lines(seed, count, output, || photos.line())
 }
 
 /// So many lines for `json`.
@@ -63,11 +70,13 @@ fn write_lines(
 mod tests {
     use super::*;
     use crate::count;
+    use crate::hex;
     use crate::json_lines::JsonLines;
     use crate::keep::Keep;
     use crate::lines::tests::written;
     use crate::lines::{Answerer, Lines};
     use crate::probe::Probe;
+    use crate::rules::Method;
     use crate::table;
 
     /// What a generator puts into an output.
@@ -85,6 +94,10 @@ mod tests {
         made(|out| probe_lines(seed, count, out))
     }
 
+    fn photo_script(seed: u64, count: u64) -> Vec<u8> {
+        made(|out| photo_lines(seed, count, out))
+    }
+
     fn json_script(seed: u64, count: u64) -> Vec<u8> {
         made(|out| json_lines(seed, count, out))
     }
@@ -97,8 +110,10 @@ mod tests {
     fn the_same_seed_gives_the_same_lines() {
         assert_eq!(keep_log(5, 500), keep_log(5, 500));
         assert_eq!(probe_script(5, 500), probe_script(5, 500));
+        assert_eq!(photo_script(5, 500), photo_script(5, 500));
         assert_eq!(json_script(5, 500), json_script(5, 500));
         assert_eq!(rule_script(5, 500), rule_script(5, 500));
+        assert_ne!(photo_script(5, 500), photo_script(6, 500));
         assert_ne!(json_script(5, 500), json_script(6, 500));
         assert_ne!(rule_script(5, 500), rule_script(6, 500));
         assert_ne!(keep_log(5, 500), keep_log(6, 500));
@@ -112,6 +127,7 @@ mod tests {
             for text in [
                 keep_log(seed, 300),
                 probe_script(seed, 300),
+                photo_script(seed, 300),
                 json_script(seed, 300),
                 rule_script(seed, 300),
             ] {
@@ -146,13 +162,85 @@ mod tests {
         assert_eq!(never_reached(&answers), Vec::<String>::new());
     }
 
+    /// Each of these beginnings has at least so many answers.
+    fn reaches(answers: &str, wanted: &[(&str, usize)]) {
+        for (start, least) in wanted {
+            let begun = answers.lines().filter(|line| line.starts_with(start));
+            let count = begun.count();
+            assert!(count >= *least, "{start}: {count}");
+        }
+    }
+
     #[test]
     fn texts_reach_both_rows_and_neither() {
-        let text = written(JsonLines, &json_script(1, 5000));
-        for (start, least) in [("ok", 500), ("no 4 ", 500), ("no 5 ", 50), ("?", 10)] {
-            let count = text.lines().filter(|line| line.starts_with(start)).count();
-            assert!(count >= least, "{start}: {count}");
+        let answers = written(JsonLines, &json_script(1, 5000));
+        reaches(
+            &answers,
+            &[("ok", 500), ("no 4 ", 500), ("no 5 ", 50), ("?", 10)],
+        );
+    }
+
+    #[test]
+    fn photos_reach_their_rows() {
+        let answers = written(Probe::new(), &photo_script(1, 4000));
+        reaches(
+            &answers,
+            &[
+                ("ok", 800),
+                ("no 7 ", 50),
+                ("no 8 ", 100),
+                ("no 9 ", 500),
+                ("no 10 ", 500),
+            ],
+        );
+    }
+
+    const PHOTO: &str = "message/vnd.net119.uri.image";
+
+    /// The messages that the lines of a script read.
+    fn messages_read(script: &[u8]) -> Vec<String> {
+        let lines = script.split(|byte| *byte == b'\n');
+        let words = lines.filter_map(|line| line.strip_prefix(b"read "));
+        let messages = words.filter_map(|word| String::from_utf8(hex::decode(word)?).ok());
+        messages.collect()
+    }
+
+    /// The strings that stand as values of a name.
+    fn values<'m>(message: &'m str, name: &str) -> Vec<&'m str> {
+        let parts: Vec<&str> = message.split('"').collect();
+        let named = parts
+            .windows(3)
+            .filter(|part| part[0] == name && part[1].trim() == ":");
+        named.map(|part| part[2]).collect()
+    }
+
+    #[test]
+    fn photos_take_turns() {
+        let messages = messages_read(&photo_script(1, 1600));
+        assert_eq!(messages.len(), 1600);
+        for (turn, message) in messages.iter().enumerate() {
+            let method = format!(" {}", Method::NAMES[turn % 8]);
+            let (from, to) = match turn % 16 {
+                0..=7 => (".caller", ".callee"),
+                _ => (".callee", ".caller"),
+            };
+            assert_eq!(values(message, "Content-Type"), [PHOTO]);
+            // Via's objects may have a CSeq too, which says no method.
+            let cseqs = values(message, "CSeq");
+            assert!(cseqs.iter().any(|cseq| cseq.ends_with(&method)));
+            for (name, side) in [("From", from), ("To", to)] {
+                assert!(matches!(values(message, name)[..], [one] if one.ends_with(side)));
+            }
         }
+    }
+
+    #[test]
+    fn a_script_has_photos_in_notifies() {
+        let messages = messages_read(&probe_script(1, 15_000));
+        let photos = messages.iter().filter(|message| {
+            values(message, "Content-Type") == [PHOTO] && message.contains(" NOTIFY\"")
+        });
+        assert!(photos.count() >= 5);
     }
 
     /// Whatever happens, a table that was well-formed stays so.

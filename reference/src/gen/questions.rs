@@ -58,13 +58,6 @@ const fn words(name: &'static str, weight: usize, words: &'static [&'static str]
     }
 }
 
-const IMAGES: [&str; 4] = [
-    "https://",
-    "https://x.jp/1.jpg",
-    "https://a\\n",
-    "https:///",
-];
-
 /// Every name that is asked.
 static NAMES: [Name; 32] = [
     made("fire-id", 4, texts::fire_id, |rng| {
@@ -97,9 +90,12 @@ static NAMES: [Name; 32] = [
     made("message-id", 8, texts::message_id, |rng| {
         either(rng, texts::bad_message_id, near_message_id)
     }),
-    words("message-type", 2, &ContentType::NAMES),
-    words("notify-type", 2, &ContentType::NAMES),
-    words("image", 2, &IMAGES),
+    made("message-type", 2, content_type, near_content_type),
+    made("notify-type", 2, content_type, near_content_type),
+    made("image", 2, texts::image, |rng| {
+        let near = |rng: &mut Rng| near_word(rng, texts::IMAGES);
+        either(rng, texts::bad_image, near)
+    }),
     made("memo", 4, memo, near_memo),
     made("language", 3, language, |rng| at_length(rng, b"az", 2, 2)),
     made("cseq", 10, cseq, near_cseq),
@@ -110,7 +106,7 @@ static NAMES: [Name; 32] = [
         either(rng, texts::bad_status, near_status)
     }),
     words("availability", 2, &rules::AVAILABILITIES),
-    words("content-type", 3, &ContentType::NAMES),
+    made("content-type", 3, content_type, near_content_type),
     words("presence", 2, &rules::PRESENCES),
     words("call-mode", 2, &rules::CALL_MODES),
     words("call-test", 2, &rules::CALL_TESTS),
@@ -277,6 +273,15 @@ fn near_date(rng: &mut Rng) -> Vec<u8> {
         text[at..at + number.len()].copy_from_slice(number);
     }
     text
+}
+
+fn content_type(rng: &mut Rng) -> Vec<u8> {
+    rng.one_of(&ContentType::NAMES)
+}
+
+fn near_content_type(rng: &mut Rng) -> Vec<u8> {
+    let near = |rng: &mut Rng| near_word(rng, &ContentType::NAMES);
+    either(rng, texts::bad_content_type, near)
 }
 
 fn memo(rng: &mut Rng) -> Vec<u8> {
@@ -486,7 +491,7 @@ mod tests {
     /// The answers to each name, in a long run.
     fn answers_by_name() -> BTreeMap<String, BTreeSet<String>> {
         let mut rng = Rng::new(1);
-        let lines: Vec<Vec<u8>> = (0..20_000).map(|_| line(&mut rng)).collect();
+        let lines: Vec<Vec<u8>> = (0..100_000).map(|_| line(&mut rng)).collect();
         let answers = written(RuleLines, &lines.join(&b'\n'));
         let mut all: BTreeMap<String, BTreeSet<String>> = BTreeMap::new();
         for (line, answer) in lines.iter().zip(answers.lines()) {

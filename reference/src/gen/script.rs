@@ -239,8 +239,8 @@ fn odd_line(rng: &mut Rng) -> Vec<u8> {
 fn long_line(rng: &mut Rng) -> Vec<u8> {
     let over = rng.below(2);
     match rng.below(8) {
-        0 => words("read", &[&Hex(vec![b'['; MAX_BYTES + over])]),
-        1 => words("read", &[&Hex(vec![b' '; MAX_LENGTH + over])]),
+        0 => read(vec![b'['; MAX_BYTES + over]),
+        1 => read(vec![b' '; MAX_LENGTH + over]),
         2 => words("msg", &[&1usize, &Hex(vec![b' '; MAX_BYTES + over])]),
         3 => words("tick", &[&1usize, &Hex(vec![b'A'; MAX_BYTES + over])]),
         4 => words("table", &[&Hex(vec![0; MAX_TABLE + over])]),
@@ -262,7 +262,7 @@ fn long_line(rng: &mut Rng) -> Vec<u8> {
             let plan = Plan::random(rng);
             let mut bytes = flow::message(rng, &plan);
             damage::grow(rng, &mut bytes, MAX_LENGTH + over);
-            words("read", &[&Hex(bytes)])
+            read(bytes)
         }
     }
 }
@@ -271,15 +271,13 @@ fn read_line(rng: &mut Rng) -> Vec<u8> {
     let bytes = match rng.below(10) {
         0..=4 => raw::text(rng),
         5 => {
-            let mut plan = Plan::random(rng);
-            let own = [
+            let own = *rng.pick(&[
                 Method::Invite,
                 Method::Message,
                 Method::Notify,
                 Method::Refer,
-            ];
-            plan.method = *rng.pick(&own);
-            plan.from = draft::sender(rng, plan.method);
+            ]);
+            let mut plan = Plan::of_method(rng, own);
             plan.response = None;
             let mut draft = plan.compose(rng);
             draft.break_a_field(rng);
@@ -309,6 +307,11 @@ fn read_line(rng: &mut Rng) -> Vec<u8> {
             bytes
         }
     };
+    read(bytes)
+}
+
+/// The line that reads these bytes.
+pub fn read(bytes: Vec<u8>) -> Vec<u8> {
     words("read", &[&Hex(bytes)])
 }
 

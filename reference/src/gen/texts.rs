@@ -393,6 +393,67 @@ pub fn bad_message_id(rng: &mut Rng) -> Vec<u8> {
     rng.one_of(BAD_MESSAGE_IDS)
 }
 
+pub const BAD_CONTENT_TYPES: &[&str] = &[
+    "",
+    "text/html",
+    "text/plain ",
+    "Text/plain",
+    "text\\/plain",
+    "message/plain",
+    "text/vnd.net119.presence",
+    "message/vnd.net119.",
+    "message/vnd.net119.uri",
+    "message/vnd.net119.image",
+    "message/vnd.net119.uri.imag",
+    "message/vnd.net119.uri.images",
+    "message/vnd.net119.uri.image ",
+    " message/vnd.net119.uri.image",
+    "Message/vnd.net119.uri.image",
+    "message/vnd.net119.URI.image",
+    "message\\/vnd.net119.uri.image",
+    "application/vnd.net119.uri.image",
+    "vnd.net119.uri.image",
+];
+
+pub fn bad_content_type(rng: &mut Rng) -> Vec<u8> {
+    rng.one_of(BAD_CONTENT_TYPES)
+}
+
+/// Bodies of an image.
+pub const IMAGES: &[&str] = &[
+    "https://",
+    "https:///",
+    "https://x.jp/1.jpg",
+    "https://\\u0041",
+    "https://a\\n",
+];
+
+pub fn image(rng: &mut Rng) -> Vec<u8> {
+    rng.one_of(IMAGES)
+}
+
+pub const BAD_IMAGES: &[&str] = &[
+    "",
+    "https:",
+    "https:/",
+    "https:/x",
+    "https//x",
+    "http://",
+    "http://x",
+    "HTTPS://",
+    "Https://x",
+    " https://",
+    "https ://x",
+    "https:\\/\\/",
+    "https:/\\/x",
+    "\\u0068ttps://x",
+    "x.jp/1.jpg",
+];
+
+pub fn bad_image(rng: &mut Rng) -> Vec<u8> {
+    rng.one_of(BAD_IMAGES)
+}
+
 /// A memo of about 128 code points, one or three bytes each.
 pub fn memo(rng: &mut Rng, count: usize) -> Vec<u8> {
     let unit = *rng.pick(&["a", "語", "é", "\u{1f600}"]);

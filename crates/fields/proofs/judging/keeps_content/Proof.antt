@@ -17,14 +17,14 @@ use native.Mathlib.Omega.{arith}
 returns : tie.Need-returns
 unfolding contentField oneOf all noBackslash
 returns c = rw (eq-eqb _ _ (c .before .before .if1 .taken))
-    (is-ruled (oneOf messageTypes) (one-of-safe _ (refl, (refl, tt))) _ _ _ _ (c .before .before .before .own-text .ensures) (ap (ltb 0) (c .before .message-type .ensures))
+    (is-ruled (oneOf messageTypes) (one-of-safe _ (refl, (refl, (refl, tt)))) _ _ _ _ (c .before .before .before .own-text .ensures) (ap (ltb 0) (c .before .message-type .ensures))
     (c .under .ensures))
 
 returns-2 : tie.Need-returns-2
 unfolding contentField oneOf all noBackslash
 returns-2 c = rw (ne-eqb _ _ (c .before .before .if1 .left))
     (is-ruled (oneOf notifyTypes) (one-of-safe _ (refl, (refl, (refl, tt)))) _ _ _ _ (c .before .before .before .own-text .ensures)
-    (ap (ltb 0) (c .before .notify-type .ensures) ∙ some-number notifyTypes 3 1 _ (omega arith) (omega arith)) (c .under2 .ensures))
+    (ap (ltb 0) (c .before .notify-type .ensures) ∙ some-number notifyTypes 4 1 _ (omega arith) (omega arith)) (c .under2 .ensures))
 
 pub keeps-content-spec : {M : Type 1} → statement M
 keeps-content-spec =
