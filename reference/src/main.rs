@@ -37,6 +37,7 @@ const USAGE: &str = "usage: reference keep | probe | json | rules | count
        reference gen keep SEED COUNT
        reference gen probe SEED COUNT
        reference gen photos SEED COUNT
+       reference gen utf8 SEED COUNT
        reference gen json SEED COUNT
        reference gen rules SEED COUNT";
 
@@ -61,6 +62,7 @@ fn main() -> ExitCode {
             ("keep", Ok(seed), Ok(count)) => gen::keep_lines(seed, count, output),
             ("probe", Ok(seed), Ok(count)) => gen::probe_lines(seed, count, output),
             ("photos", Ok(seed), Ok(count)) => gen::photo_lines(seed, count, output),
+            ("utf8", Ok(seed), Ok(count)) => gen::utf8_lines(seed, count, output),
             ("json", Ok(seed), Ok(count)) => gen::json_lines(seed, count, output),
             ("rules", Ok(seed), Ok(count)) => gen::rule_lines(seed, count, output),
             _ => return usage(),

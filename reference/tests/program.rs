@@ -79,7 +79,12 @@ fn gen_feeds_the_smaller_programs() {
 
 #[test]
 fn gen_feeds_the_programs_and_count_counts() {
-    for (kind, program) in [("keep", "keep"), ("probe", "probe"), ("photos", "probe")] {
+    for (kind, program) in [
+        ("keep", "keep"),
+        ("probe", "probe"),
+        ("photos", "probe"),
+        ("utf8", "probe"),
+    ] {
         let answers = answers_to_made(kind, program);
         let counts = String::from_utf8(output(&["count"], &answers)).unwrap();
         let numbers = counts.lines().map(|line| line.split_whitespace().next());

@@ -1,11 +1,12 @@
 -- The rows of the RFC's syntax, one law a row, and a sequence's bytes one at a time. Assumes nothing.
 use Prim.Native.Nat.{ℕ, _+_, _≤_, _<_}
 use Rattle.octets.proofs.ClassLaws.{in-among, among-low, among-high, among-in}
+use Rattle.octets.proofs.TestLaws.{and-parts}
 use Rattle.octets.specs.Class.{among}
 use Rattle.utf8.specs.Rfc3629.{Bounds, _to_, tail, char, none, begins, goesOn, counted, charOf, charAt}
 use lib.ListN.{length, drop, getD, drop-of-length-le, List·getD-eq-default}
 use lib.Seq.{drop-cons}
-use mathlib.Core.Bool.{true, false, _&&_, cond, and-true}
+use mathlib.Core.Bool.{Bool, true, false, _&&_, cond, and-true}
 use mathlib.Core.List.{List, [], _∷_}
 use mathlib.Core.Path.{_≡_, sym, _∙_}
 use native.Mathlib.Decide.{decLt}
@@ -132,14 +133,20 @@ inside s i lo hi h e = go (decLt i (length s))
         let k = among-in lo hi (getD s i 0) e .0 in
         absurd (omega arith)
 
--- one byte of a sequence, by the byte at its place, which is 0 past the end
+-- one byte of a sequence, by the byte at its place
+goes-here : (r : Bounds) (rs : List Bounds) (s : List ℕ) (i : ℕ) → i < length s
+    → goesOn (r ∷ rs) (drop i s) ≡ (among (r .low) (r .high) (getD s i 0) && goesOn rs (drop (i + 1) s))
+unfolding goesOn
+goes-here r rs s i h = rw (add-one, drop-cons s i 0)
+
+-- the same at any place: a byte is 0 past the end
 pub goes-more : (r : Bounds) (rs : List Bounds) (s : List ℕ) (i : ℕ) → 0 < r .low
     → goesOn (r ∷ rs) (drop i s) ≡ (among (r .low) (r .high) (getD s i 0) && goesOn rs (drop (i + 1) s))
 unfolding goesOn
 goes-more r rs s i h = go (decLt i (length s))
   where
     go : Dec (i < length s) → goesOn (r ∷ rs) (drop i s) ≡ (among (r .low) (r .high) (getD s i 0) && goesOn rs (drop (i + 1) s))
-    go (yes a) = rw (add-one, drop-cons s i 0)
+    go (yes a) = goes-here r rs s i a
     go (no a) =
         let d : drop i s ≡ [] = drop-of-length-le s {i = i} (omega arith) in
         let z : getD s i 0 ≡ 0 = List·getD-eq-default s 0 {n = i} (omega arith) in
@@ -160,3 +167,22 @@ last lo hi s i h = sym (goes-more (lo to hi) [] s i h ∙ and-true (among lo hi 
 pub char-here : (s : List ℕ) (i : ℕ) → i < length s → charAt (drop i s) ≡ charOf (begins (getD s i 0)) (drop (i + 1) s)
 unfolding charAt
 char-here s i h = rw (add-one, drop-cons s i 0)
+
+module _ (lo hi from till : ℕ) (s : List ℕ) (i : ℕ) (h : i + 3 ≤ length s) where
+  -- three bytes of a row
+  pub three-bytes : (among lo hi (getD s i 0) && (among from till (getD s (i + 1) 0) && among 0x80 0xBF (getD s (i + 2) 0)))
+      ≡ goesOn ((lo to hi) ∷ (from to till) ∷ tail ∷ []) (drop i s)
+  three-bytes =
+      let e : i + 1 + 1 ≡ i + 2 = omega arith in
+      sym (goes-here (lo to hi) ((from to till) ∷ tail ∷ []) s i (omega arith)
+      ∙ rw (goes-here (from to till) (tail ∷ []) s (i + 1) (omega arith), e, sym (last 0x80 0xBF s (i + 2) (omega arith))))
+
+  -- they are a char where the row is one of the syntax
+  pub three-char : ((b : ℕ) → lo ≤ b → b ≤ hi → begins b ≡ char ((from to till) ∷ tail ∷ []))
+      → {t : Bool} → t ≡ goesOn ((lo to hi) ∷ (from to till) ∷ tail ∷ []) (drop i s) → t ≡ true → 3 ≡ charAt (drop i s)
+  three-char f e g =
+      let b : ℕ = getD s i 0 in
+      let p = and-parts (among lo hi b) (goesOn ((from to till) ∷ tail ∷ []) (drop (i + 1) s))
+      (sym (goes-here (lo to hi) ((from to till) ∷ tail ∷ []) s i (omega arith)) ∙ sym e ∙ g) in
+      let a = among-in lo hi b (p .0) in
+      sym (char-here s i (omega arith) ∙ rw (f b (a .0) (a .1), p .1))

@@ -4,14 +4,12 @@ use Rattle.octets.proofs.TestLaws.{and-parts}
 use Rattle.octets.specs.Class.{among}
 use Rattle.utf8.proofs.Rows.{char-here, one}
 use Rattle.utf8.specs.Rfc3629.{Bounds, Begins, char, none, begins, goesOn, counted, charOf, charAt, octets}
-use Rattle.utf8.specs.inner.Ascii.{Ascii}
 use Rattle.utf8.specs.declared.Verdict.the-variants.{Good, Bad}
 use lib.ListN.{length, drop, getD, drop-of-length-le}
 use lib.Seq.{drop-cons, drop-drop}
 use mathlib.Core.Bool.{Bool, true, false}
 use mathlib.Core.List.{List, [], _∷_}
 use mathlib.Core.Path.{_≡_, refl, sym, ap, _∙_}
-use native.Mathlib.Decide.{ℕ-discrete}
 use native.Mathlib.Omega.{arith}
 
 -- the octets of a char are there
@@ -72,23 +70,3 @@ module _ (s : List ℕ) (i : ℕ) where
   pub ends : length s ≤ i → Good ≡ octets 0 i (drop i s)
   unfolding octets
   ends h = rw (drop-of-length-le s h)
-
--- a run of ASCII is passed at once
-pub ascii-run : (s : List ℕ) (i n : ℕ) → i + n ≤ length s → Ascii s i n → octets 0 i (drop i s) ≡ octets 0 (i + n) (drop (i + n) s)
-ascii-run s i zero h f = let z : i + 0 ≡ i = omega arith in rw z
-ascii-run s i (suc n) h f =
-    let a = ascii-run s i n (omega arith) (record { each = λ j g. f .each j (omega arith) }) in
-    let b = ascii-more s (i + n) (omega arith) (f .each n (omega arith)) in
-    let z : i + n + 1 ≡ i + suc n = omega arith in
-    a ∙ b ∙ ap (λ (k : ℕ). octets 0 k (drop k s)) z
-
--- the largest byte so far bounds them all
-pub below-more : (s : List ℕ) (at k m r : ℕ) → ((j : ℕ) → j < k → getD s (at + j) 0 ≤ m) → m ≤ r → getD s (at + k) 0 ≤ r → (j : ℕ) → j < k + 1 → getD s (at + j) 0 ≤ r
-below-more s at k m r f h g j l = by (ℕ-discrete j k)
-  where
-    by : Dec (j ≡ k) → getD s (at + j) 0 ≤ r
-    by (yes e) = rw e g
-    by (no e) = omega (arith, f j (omega arith))
-
-pub ascii-one : (s : List ℕ) (at : ℕ) → getD s at 0 < 0x80 → Ascii s at 1
-ascii-one s at h = record { each = λ j g. let z : at + j ≡ at = omega arith in rw z h }

@@ -13,6 +13,7 @@ mod raw;
 mod rng;
 mod script;
 pub mod texts;
+mod utf8;
 mod walks;
 
 use rng::Rng;
@@ -34,6 +35,12 @@ pub fn probe_lines(seed: u64, count: u64, output: impl Write) -> io::Result<()> 
 pub fn photo_lines(seed: u64, count: u64, output: impl Write) -> io::Result<()> {
     let mut photos = photos::Photos::new(seed);
     write_lines(seed, count, output, || photos.line())
+}
+
+/// So many lines for `probe` that try the check of UTF-8.
+pub fn utf8_lines(seed: u64, count: u64, output: impl Write) -> io::Result<()> {
+    let mut utf8 = utf8::Utf8::new(seed);
+    write_lines(seed, count, output, || utf8.line())
 }
 
 /// So many lines for `json`.
@@ -98,6 +105,10 @@ mod tests {
         made(|out| photo_lines(seed, count, out))
     }
 
+    fn utf8_script(seed: u64, count: u64) -> Vec<u8> {
+        made(|out| utf8_lines(seed, count, out))
+    }
+
     fn json_script(seed: u64, count: u64) -> Vec<u8> {
         made(|out| json_lines(seed, count, out))
     }
@@ -111,9 +122,11 @@ mod tests {
         assert_eq!(keep_log(5, 500), keep_log(5, 500));
         assert_eq!(probe_script(5, 500), probe_script(5, 500));
         assert_eq!(photo_script(5, 500), photo_script(5, 500));
+        assert_eq!(utf8_script(5, 500), utf8_script(5, 500));
         assert_eq!(json_script(5, 500), json_script(5, 500));
         assert_eq!(rule_script(5, 500), rule_script(5, 500));
         assert_ne!(photo_script(5, 500), photo_script(6, 500));
+        assert_ne!(utf8_script(5, 500), utf8_script(6, 500));
         assert_ne!(json_script(5, 500), json_script(6, 500));
         assert_ne!(rule_script(5, 500), rule_script(6, 500));
         assert_ne!(keep_log(5, 500), keep_log(6, 500));
@@ -128,6 +141,7 @@ mod tests {
                 keep_log(seed, 300),
                 probe_script(seed, 300),
                 photo_script(seed, 300),
+                utf8_script(seed, 300),
                 json_script(seed, 300),
                 rule_script(seed, 300),
             ] {
@@ -192,6 +206,15 @@ mod tests {
                 ("no 9 ", 500),
                 ("no 10 ", 500),
             ],
+        );
+    }
+
+    #[test]
+    fn texts_that_try_utf8_reach_their_rows() {
+        let answers = written(Probe::new(), &utf8_script(1, 4000));
+        reaches(
+            &answers,
+            &[("no 3 ", 3400), ("no 4 ", 150), ("no 6 0", 150)],
         );
     }
 

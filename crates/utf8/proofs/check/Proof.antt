@@ -1,79 +1,56 @@
--- `utf8::check` meets its contract. The loop keeps that the rest decides, one character at a time. Assumes nothing.
-use Prim.Native.Nat.{_-_, _≤_}
-use Rattle.utf8.proofs.Walk.{ascii-run, char-more, char-bad, ends, charAt-length}
+-- `utf8::check` meets its contract. The loop keeps that all before was passed: the character there, then what is passed at once. Assumes nothing.
+use Prim.Native.Nat.{_-_}
+use Rattle.utf8.proofs.Passing.{stays, then, past-char}
+use Rattle.utf8.proofs.Walk.{char-bad, ends}
 use Rattle.utf8.proofs.check.Statement.{statement}
 use Rattle.utf8.proofs.check.Tie as tie
-use Rattle.utf8.specs.Rfc3629.{octets, verdict}
+use Rattle.utf8.specs.inner.Passed.{Passed}
 use borrow.Author.Needs.{needs}
-use lib.ListN.{length, drop, length-drop}
-use mathlib.Core.Path.{_≡_, refl, sym, _∙_}
+use lib.ListN.{length}
+use mathlib.Core.Path.{sym, _∙_}
 use native.Mathlib.Omega.{arith}
 
 abbrev Inv-loop : tie.InvT-loop
-Inv-loop s i₀ i = (i ≤ length s) × (verdict s ≡ octets 0 i (drop i s))
+Inv-loop s i₀ i = Passed s 0 i
 
 abbrev μ-loop : tie.MeasureT-loop
 μ-loop s i₀ i = length s - i
 
 loop-holds : tie.Need-loop-holds Inv-loop μ-loop
-loop-holds c = (search needs, refl)
-
-loop-again : tie.Need-loop-again Inv-loop μ-loop
-loop-again c =
-    let l = c .before .before .before .before in
-    let x = l .before .before .args in
-    let s = x .s .now in
-    let i = l .loop .i in
-    (search needs, l .loop .inv .1 ∙ ascii-run s i (c .ascii-run .result) (c .ascii-run .ensures .1 .0) (c .ascii-run .ensures .1 .1))
+loop-holds c = stays (c .before .args .s .now) 0 (omega arith)
 
 returns : tie.Need-returns Inv-loop μ-loop
 returns c =
-    let l = c .before .before .before .before .before in
-    let x = l .before .before .args in
-    let s = x .s .now in
-    let i = l .loop .i in
-    char-bad s i (omega arith) (sym (c .if2 .taken) ∙ c .before .sequence .ensures) ∙ sym (l .loop .inv .1)
+    let q = c .before in
+    let l = q .before .before in
+    char-bad (l .before .before .args .s .now) (l .loop .i) (omega arith) (sym (c .if1 .taken) ∙ q .sequence .ensures) ∙ sym (l .loop .inv .goes)
 
-add-i-2 : tie.Need-add-i-2 Inv-loop μ-loop
-add-i-2 c =
-    let l = c .before .before .before .before .before in
-    let x = l .before .before .args in
-    let s = x .s .now in
-    let i = l .loop .i in
-    let f = charAt-length (drop i s) in
-    let g : length (drop i s) ≡ length s - i = length-drop i s in
-    let e = c .before .sequence .ensures in
-    omega arith
+add-past-row : tie.Need-add-past-row Inv-loop μ-loop
+add-past-row c =
+    let q = c .before in
+    let l = q .before .before in
+    omega (arith, past-char (l .before .before .args .s .now) (l .loop .i) _ (omega arith) (q .sequence .ensures) (c .if1 .left) .within)
 
-loop-less-2 : tie.Need-loop-less-2 Inv-loop μ-loop
-loop-less-2 c =
-    let l = c .before .before .before .before .before in
-    let x = l .before .before .args in
-    let s = x .s .now in
-    let i = l .loop .i in
-    let f = charAt-length (drop i s) in
-    let g : length (drop i s) ≡ length s - i = length-drop i s in
-    let e = c .before .sequence .ensures in
-    omega arith
+past-row-requires : tie.Need-past-row-requires Inv-loop μ-loop
+past-row-requires c κs =
+    let q = c .before in
+    let l = q .before .before in
+    past-char (l .before .before .args .s .now) (l .loop .i) _ (omega arith) (q .sequence .ensures) (c .if1 .left) .within
 
-loop-again-2 : tie.Need-loop-again-2 Inv-loop μ-loop
-loop-again-2 c =
-    let l = c .before .before .before .before .before in
-    let x = l .before .before .args in
-    let s = x .s .now in
-    let i = l .loop .i in
-    let f = charAt-length (drop i s) in
-    let g : length (drop i s) ≡ length s - i = length-drop i s in
-    let e = c .before .sequence .ensures in
-    (omega arith, l .loop .inv .1 ∙ char-more s i _ (omega arith) e (c .if2 .left))
+loop-less : tie.Need-loop-less Inv-loop μ-loop
+loop-less c = omega (arith, c .past-row .ensures .onward, c .before .if1 .left)
+
+loop-again : tie.Need-loop-again Inv-loop μ-loop
+loop-again c =
+    let q = c .before .before in
+    let l = q .before .before in
+    let s = l .before .before .args .s .now in
+    then s (then s (l .loop .inv) (past-char s (l .loop .i) _ (omega arith) (q .sequence .ensures) (c .before .if1 .left))) (c .past-row .ensures)
 
 returns-2 : tie.Need-returns-2 Inv-loop μ-loop
 returns-2 c =
     let l = c .before in
-    let x = l .before .before .args in
-    let s = x .s .now in
-    let i = l .loop .i in
-    ends s i (omega arith) ∙ sym (l .loop .inv .1)
+    ends (l .before .before .args .s .now) (l .loop .i) (omega arith) ∙ sym (l .loop .inv .goes)
 
 pub check-spec : {M : Type 1} → statement M
 check-spec =
@@ -82,14 +59,10 @@ check-spec =
     Inv-loop
     μ-loop
     loop-holds
-    (λ c. search needs)
-    (λ c κs. search needs)
-    (λ c. search needs)
-    (λ c. search needs)
-    loop-again
     (λ c κs. search needs)
     returns
-    add-i-2
-    loop-less-2
-    loop-again-2
+    add-past-row
+    past-row-requires
+    loop-less
+    loop-again
     returns-2)

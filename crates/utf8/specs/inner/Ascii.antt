@@ -1,5 +1,5 @@
--- Runs of ASCII: what the contracts of `src/lib.rt` cite for passing 32 bytes at a time. Inner: what `check` promises does not speak of it, and by
--- `ascii-run` in proofs/Walk.antt the verdict goes over such a run. Assumes nothing.
+-- Runs of ASCII: what the tests of `src/ascii.rt` cite. Inner: what `check` promises does not speak of it, and by `past-run` in proofs/Passing.antt such
+-- a run is passed. Assumes nothing.
 use Prim.Native.Nat.{ℕ, _+_, _<_}
 use lib.ListN.{getD}
 use mathlib.Core.List.{List}
