@@ -36,11 +36,11 @@ module _ (s : List ℕ) where
       by j h (yes a) = f .each j a
       by j h (no a) = let z : at + j ≡ k + (j - m) = omega arith in rw z (g .each (j - m) (omega arith))
 
-  one : (i b : ℕ) → IsByte s i b → b < 0x80 → Ascii s i 1
-  one i b e h = record { each = λ j g. let z : i + j ≡ i = omega arith in rw (z, sym (e .0)) h }
+  first : (i b : ℕ) → IsByte s i b → b < 0x80 → Ascii s i 1
+  first i b e h = record { each = λ j g. let z : i + j ≡ i = omega arith in rw (z, sym (e .0)) h }
 
   more : {at m : ℕ} (b : ℕ) → Ascii s at m → IsByte s (at + m) b → b < 0x80 → Ascii s at (m + 1)
-  more {at} {m} b f e h = joined (at + m) refl f (one (at + m) b e h)
+  more {at} {m} b f e h = joined (at + m) refl f (first (at + m) b e h)
 
   pub eight : (at : ℕ) {a b c d e f g h : ℕ}
       → IsByte s at a → IsByte s (at + 1) b → IsByte s (at + 2) c → IsByte s (at + 3) d
@@ -65,5 +65,5 @@ module _ (s : List ℕ) where
       let pe = apart e v5 0x808080 (ie .1) (pd .1) in
       let pf = apart f v6 0x8080 (if .1) (pe .1) in
       let pg = apart g h 0x80 (ig .1) (pf .1) in
-      let four = more d (more c (more b (one at a ia (pa .0)) ib (pb .0)) ic (pc .0)) id (pd .0) in
+      let four = more d (more c (more b (first at a ia (pa .0)) ib (pb .0)) ic (pc .0)) id (pd .0) in
       more h (more g (more f (more e four ie (pe .0)) if (pf .0)) ig (pg .0)) ih (low h (ih .1) (pg .1))

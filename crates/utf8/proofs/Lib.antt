@@ -1,6 +1,6 @@
 pub mod Rows
 pub mod Walk
 pub mod AsciiLaws
-pub mod Passing
+pub mod PassedLaws
 pub mod Join
 pub mod Marks

@@ -168,21 +168,21 @@ pub char-here : (s : List ℕ) (i : ℕ) → i < length s → charAt (drop i s) 
 unfolding charAt
 char-here s i h = rw (add-one, drop-cons s i 0)
 
-module _ (lo hi from till : ℕ) (s : List ℕ) (i : ℕ) (h : i + 3 ≤ length s) where
+module _ (from till lo hi : ℕ) (s : List ℕ) (i : ℕ) (h : i + 3 ≤ length s) where
   -- three bytes of a row
-  pub three-bytes : (among lo hi (getD s i 0) && (among from till (getD s (i + 1) 0) && among 0x80 0xBF (getD s (i + 2) 0)))
-      ≡ goesOn ((lo to hi) ∷ (from to till) ∷ tail ∷ []) (drop i s)
+  pub three-bytes : (among from till (getD s i 0) && (among lo hi (getD s (i + 1) 0) && among 0x80 0xBF (getD s (i + 2) 0)))
+      ≡ goesOn ((from to till) ∷ (lo to hi) ∷ tail ∷ []) (drop i s)
   three-bytes =
       let e : i + 1 + 1 ≡ i + 2 = omega arith in
-      sym (goes-here (lo to hi) ((from to till) ∷ tail ∷ []) s i (omega arith)
-      ∙ rw (goes-here (from to till) (tail ∷ []) s (i + 1) (omega arith), e, sym (last 0x80 0xBF s (i + 2) (omega arith))))
+      sym (goes-here (from to till) ((lo to hi) ∷ tail ∷ []) s i (omega arith)
+      ∙ rw (goes-here (lo to hi) (tail ∷ []) s (i + 1) (omega arith), e, sym (last 0x80 0xBF s (i + 2) (omega arith))))
 
   -- they are a char where the row is one of the syntax
-  pub three-char : ((b : ℕ) → lo ≤ b → b ≤ hi → begins b ≡ char ((from to till) ∷ tail ∷ []))
-      → {t : Bool} → t ≡ goesOn ((lo to hi) ∷ (from to till) ∷ tail ∷ []) (drop i s) → t ≡ true → 3 ≡ charAt (drop i s)
+  pub three-char : ((b : ℕ) → from ≤ b → b ≤ till → begins b ≡ char ((lo to hi) ∷ tail ∷ []))
+      → {t : Bool} → t ≡ goesOn ((from to till) ∷ (lo to hi) ∷ tail ∷ []) (drop i s) → t ≡ true → 3 ≡ charAt (drop i s)
   three-char f e g =
       let b : ℕ = getD s i 0 in
-      let p = and-parts (among lo hi b) (goesOn ((from to till) ∷ tail ∷ []) (drop (i + 1) s))
-      (sym (goes-here (lo to hi) ((from to till) ∷ tail ∷ []) s i (omega arith)) ∙ sym e ∙ g) in
-      let a = among-in lo hi b (p .0) in
+      let p = and-parts (among from till b) (goesOn ((lo to hi) ∷ tail ∷ []) (drop (i + 1) s))
+      (sym (goes-here (from to till) ((lo to hi) ∷ tail ∷ []) s i (omega arith)) ∙ sym e ∙ g) in
+      let a = among-in from till b (p .0) in
       sym (char-here s i (omega arith) ∙ rw (f b (a .0) (a .1), p .1))

@@ -1,8 +1,7 @@
--- The walk over a text: one character at a time, which is how `check` goes. Assumes nothing.
+-- The walk over a text, one character at a time. Assumes nothing.
 use Prim.Native.Nat.{ℕ, zero, suc, _+_, _≤_, _<_}
 use Rattle.octets.proofs.TestLaws.{and-parts}
 use Rattle.octets.specs.Class.{among}
-use Rattle.utf8.proofs.Rows.{char-here, one}
 use Rattle.utf8.specs.Rfc3629.{Bounds, Begins, char, none, begins, goesOn, counted, charOf, charAt, octets}
 use Rattle.utf8.specs.declared.Verdict.the-variants.{Good, Bad}
 use lib.ListN.{length, drop, getD, drop-of-length-le}
@@ -33,17 +32,17 @@ charAt-length [] = omega arith
 charAt-length (b ∷ s) = char-length b s (begins b)
 
 -- the octets of a char that was begun are passed
-pub passed : (k i : ℕ) (s : List ℕ) → k ≤ length s → octets k i s ≡ octets 0 (i + k) (drop k s)
+tails-passed : (k i : ℕ) (s : List ℕ) → k ≤ length s → octets k i s ≡ octets 0 (i + k) (drop k s)
 unfolding octets
-passed zero i s h = let e : i + 0 ≡ i = omega arith in rw e
-passed (suc k) i [] h = absurd (omega arith)
-passed (suc k) i (b ∷ s) h = passed k (suc i) s (omega arith) ∙ ap (λ (n : ℕ). octets 0 n (drop k s)) (let e : suc i + k ≡ i + suc k = omega arith in e)
+tails-passed zero i s h = let e : i + 0 ≡ i = omega arith in rw e
+tails-passed (suc k) i [] h = absurd (omega arith)
+tails-passed (suc k) i (b ∷ s) h = tails-passed k (suc i) s (omega arith) ∙ ap (λ (n : ℕ). octets 0 n (drop k s)) (let e : suc i + k ≡ i + suc k = omega arith in e)
 
 begun : (k i : ℕ) (b : ℕ) (s : List ℕ) → charAt (b ∷ s) ≡ suc k → octets 0 i (b ∷ s) ≡ octets 0 (i + suc k) (drop k s)
 unfolding octets
 begun k i b s e =
     let h = charAt-length (b ∷ s) in
-    rw e (passed k (suc i) s (omega arith) ∙ ap (λ (n : ℕ). octets 0 n (drop k s)) (let z : suc i + k ≡ i + suc k = omega arith in z))
+    rw e (tails-passed k (suc i) s (omega arith) ∙ ap (λ (n : ℕ). octets 0 n (drop k s)) (let z : suc i + k ≡ i + suc k = omega arith in z))
 
 module _ (s : List ℕ) (i : ℕ) where
   -- a char of n octets at i
@@ -53,11 +52,6 @@ module _ (s : List ℕ) (i : ℕ) where
       let d : drop i s ≡ getD s i 0 ∷ drop (suc i) s = drop-cons s i 0 h in
       rw d (begun k i (getD s i 0) (drop (suc i) s) (ap charAt (sym d) ∙ sym e)
       ∙ ap (octets 0 (i + suc k)) (drop-drop k (suc i) s ∙ ap (λ (n : ℕ). drop n s) (let z : suc i + k ≡ i + suc k = omega arith in z)))
-
-  -- an ASCII byte at i
-  pub ascii-more : i < length s → getD s i 0 < 0x80 → octets 0 i (drop i s) ≡ octets 0 (i + 1) (drop (i + 1) s)
-  unfolding goesOn
-  ascii-more h k = char-more 1 h (sym (char-here s i h ∙ rw (one (getD s i 0) k))) (λ e. omega arith)
 
   -- no char at i
   pub char-bad : i < length s → 0 ≡ charAt (drop i s) → Bad i ≡ octets 0 i (drop i s)

@@ -20,8 +20,8 @@ pub enum Verdict {
     Bad(usize),
 }
 
-// Past what goes on behind a character of n bytes: behind ASCII the rest of its run, and behind that, or behind three bytes, a row of such characters.
-fn past_row(s: &[u8], at: usize, n: usize) -> usize
+// Past the characters that mostly follow one of n bytes: behind ASCII more of it, then three-byte ones; behind three bytes more of these.
+fn past_alike(s: &[u8], at: usize, n: usize) -> usize
     requires { ⌜ at ≤ length (now s) ⌝ }
     ensures { λ r. ⌜ Passed (now (s .entry)) at r ⌝ }
 {
@@ -44,7 +44,7 @@ pub fn check(s: &[u8]) -> Verdict
         if n == 0 {
             return Verdict::Bad(i);
         }
-        i = past_row(s, i + n, n);
+        i = past_alike(s, i + n, n);
     }
     Verdict::Good
 }

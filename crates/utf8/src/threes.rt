@@ -1,4 +1,4 @@
-// Rows of characters of three bytes, as kana and kanji are.
+// Runs of characters of three bytes, as kana and kanji are.
 use octets::among;
 use octets::and;
 ghost use mathlib.Core.Bool.{true};
@@ -9,15 +9,16 @@ ghost use lib.ListN.{drop, length};
 ghost use Rattle.utf8.specs.Rfc3629.{_to_, charAt, goesOn, tail};
 ghost use Rattle.utf8.specs.inner.Passed.{Passed};
 
-// Whether three bytes of a row stand at `at`: the first from lo to hi, the second from `from` to `till`, the third a tail.
-fn is_row(s: &[u8], at: usize, lo: u8, hi: u8, from: u8, till: u8) -> bool
+// Whether three bytes of a row of the syntax stand at `at`: one from `from` to `till`, one from lo to hi, a tail. That three are left is known here,
+// which `sequences::three` has to ask byte by byte.
+fn is_row(s: &[u8], at: usize, from: u8, till: u8, lo: u8, hi: u8) -> bool
     requires { ⌜ at + 3 ≤ length (now s) ⌝ }
-    ensures { λ r. ⌜ r ≡ goesOn ((lo to hi) ∷ (from to till) ∷ tail ∷ []) (drop at (now (s .entry))) ⌝ }
+    ensures { λ r. ⌜ r ≡ goesOn ((from to till) ∷ (lo to hi) ∷ tail ∷ []) (drop at (now (s .entry))) ⌝ }
 {
-    if !among(lo, hi, s[at]) {
+    if !among(from, till, s[at]) {
         return false;
     }
-    and(among(from, till, s[at + 1]), among(0x80, 0xBF, s[at + 2]))
+    and(among(lo, hi, s[at + 1]), among(0x80, 0xBF, s[at + 2]))
 }
 
 // Whether a character of three bytes stands at `at`, by the rows of UTF8-3: that of kana and kanji first, then that of full-width letters.
@@ -37,7 +38,7 @@ fn is_three(s: &[u8], at: usize) -> bool
     is_row(s, at, 0xED, 0xED, 0x80, 0x9F)
 }
 
-// Past the characters of three bytes from `at` on.
+// Past the characters of three bytes from `at` on. Three bytes are left before `end`, which is cheaper to ask than how many are left.
 pub fn past_threes(s: &[u8], at: usize) -> usize
     requires { ⌜ at ≤ length (now s) ⌝ }
     ensures { λ r. ⌜ Passed (now (s .entry)) at r ⌝ }

@@ -1,6 +1,6 @@
 -- `utf8::check` meets its contract. The loop keeps that all before was passed: the character there, then what is passed at once. Assumes nothing.
 use Prim.Native.Nat.{_-_}
-use Rattle.utf8.proofs.Passing.{stays, then, past-char}
+use Rattle.utf8.proofs.PassedLaws.{stays, then, passed-char}
 use Rattle.utf8.proofs.Walk.{char-bad, ends}
 use Rattle.utf8.proofs.check.Statement.{statement}
 use Rattle.utf8.proofs.check.Tie as tie
@@ -25,27 +25,27 @@ returns c =
     let l = q .before .before in
     char-bad (l .before .before .args .s .now) (l .loop .i) (omega arith) (sym (c .if1 .taken) ∙ q .sequence .ensures) ∙ sym (l .loop .inv .goes)
 
-add-past-row : tie.Need-add-past-row Inv-loop μ-loop
-add-past-row c =
+add-past-alike : tie.Need-add-past-alike Inv-loop μ-loop
+add-past-alike c =
     let q = c .before in
     let l = q .before .before in
-    omega (arith, past-char (l .before .before .args .s .now) (l .loop .i) _ (omega arith) (q .sequence .ensures) (c .if1 .left) .within)
+    omega (arith, passed-char (l .before .before .args .s .now) (l .loop .i) _ (omega arith) (q .sequence .ensures) (c .if1 .left) .within)
 
-past-row-requires : tie.Need-past-row-requires Inv-loop μ-loop
-past-row-requires c κs =
+past-alike-requires : tie.Need-past-alike-requires Inv-loop μ-loop
+past-alike-requires c κs =
     let q = c .before in
     let l = q .before .before in
-    past-char (l .before .before .args .s .now) (l .loop .i) _ (omega arith) (q .sequence .ensures) (c .if1 .left) .within
+    passed-char (l .before .before .args .s .now) (l .loop .i) _ (omega arith) (q .sequence .ensures) (c .if1 .left) .within
 
 loop-less : tie.Need-loop-less Inv-loop μ-loop
-loop-less c = omega (arith, c .past-row .ensures .onward, c .before .if1 .left)
+loop-less c = omega (arith, c .past-alike .ensures .onward, c .before .if1 .left)
 
 loop-again : tie.Need-loop-again Inv-loop μ-loop
 loop-again c =
     let q = c .before .before in
     let l = q .before .before in
     let s = l .before .before .args .s .now in
-    then s (then s (l .loop .inv) (past-char s (l .loop .i) _ (omega arith) (q .sequence .ensures) (c .before .if1 .left))) (c .past-row .ensures)
+    then s (then s (l .loop .inv) (passed-char s (l .loop .i) _ (omega arith) (q .sequence .ensures) (c .before .if1 .left))) (c .past-alike .ensures)
 
 returns-2 : tie.Need-returns-2 Inv-loop μ-loop
 returns-2 c =
@@ -61,8 +61,8 @@ check-spec =
     loop-holds
     (λ c κs. search needs)
     returns
-    add-past-row
-    past-row-requires
+    add-past-alike
+    past-alike-requires
     loop-less
     loop-again
     returns-2)

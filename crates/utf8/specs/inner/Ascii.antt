@@ -1,5 +1,5 @@
--- Runs of ASCII: what the tests of `src/ascii.rt` cite. Inner: what `check` promises does not speak of it, and by `past-run` in proofs/Passing.antt such
--- a run is passed. Assumes nothing.
+-- Runs of ASCII: what the contracts of `is_ascii_8` and `is_ascii_32` cite. Inner: what `check` promises does not speak of it, and by `passed-run` in
+-- proofs/PassedLaws.antt such a run is passed. Assumes nothing.
 use Prim.Native.Nat.{ℕ, _+_, _<_}
 use lib.ListN.{getD}
 use mathlib.Core.List.{List}

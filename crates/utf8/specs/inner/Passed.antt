@@ -1,5 +1,5 @@
--- Passing several characters at once: what the contracts of `src/ascii.rt`, `src/threes.rt` and `past_row` cite. Inner: what `check` promises does not
--- speak of it; its loop keeps that all before was passed. Assumes nothing.
+-- Passing characters: what the contracts of the functions `past_..` cite. Inner: what `check` promises does not speak of it, and its loop keeps that all
+-- before was passed. Assumes nothing.
 use Prim.Native.Nat.{ℕ, _≤_}
 use Rattle.utf8.specs.Rfc3629.{octets}
 use lib.ListN.{drop, length}

@@ -1,6 +1,6 @@
 -- `utf8::ascii::past_ascii` meets its contract. The loop keeps that all before was passed. Assumes nothing.
 use Prim.Native.Nat.{_-_}
-use Rattle.utf8.proofs.Passing.{then, past-run}
+use Rattle.utf8.proofs.PassedLaws.{then, passed-run}
 use Rattle.utf8.proofs.ascii.past_ascii.Statement.{statement}
 use Rattle.utf8.proofs.ascii.past_ascii.Tie as tie
 use Rattle.utf8.specs.inner.Passed.{Passed}
@@ -23,7 +23,7 @@ loop-again c =
     let a = c .before .before in
     let l = a .before .before in
     let s = l .before .before .args .s .now in
-    then s (then s (l .loop .inv) (past-run s (l .loop .i) 8 (omega arith) (a .is-ascii-8 .ensures (not-false _ (c .before .if1 .left))))) (c .past-32 .ensures)
+    then s (then s (l .loop .inv) (passed-run s (l .loop .i) 8 (omega arith) (a .is-ascii-8 .ensures (not-false _ (c .before .if1 .left))))) (c .past-32 .ensures)
 
 returns-2 : tie.Need-returns-2 Inv-loop μ-loop
 returns-2 c = let l = c .before .before in then (l .before .before .args .s .now) (l .loop .inv) (c .past-each2 .ensures)

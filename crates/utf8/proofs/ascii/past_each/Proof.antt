@@ -1,6 +1,6 @@
 -- `utf8::ascii::past_each` meets its contract. The loop keeps that all before was passed. Assumes nothing.
 use Prim.Native.Nat.{_-_}
-use Rattle.utf8.proofs.Passing.{then, past-one}
+use Rattle.utf8.proofs.PassedLaws.{then, passed-byte}
 use Rattle.utf8.proofs.ascii.past_each.Statement.{statement}
 use Rattle.utf8.proofs.ascii.past_each.Tie as tie
 use Rattle.utf8.specs.inner.Passed.{Passed}
@@ -18,7 +18,7 @@ loop-again : tie.Need-loop-again Inv-loop μ-loop
 loop-again c =
     let l = c .before .before .before in
     let x = l .before .args in
-    then (x .s .now) (l .loop .inv) (past-one (x .s .now) (l .loop .i) (omega arith) (c .if1 .left))
+    then (x .s .now) (l .loop .inv) (passed-byte (x .s .now) (l .loop .i) (omega arith) (c .if1 .left))
 
 pub past-each-spec : {M : Type 1} → statement M
 past-each-spec =

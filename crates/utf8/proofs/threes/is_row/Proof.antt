@@ -13,8 +13,8 @@ use native.Mathlib.Omega.{arith}
 returns : tie.Need-returns
 returns c =
     let x = c .before .before .before .before .args in
-    let f : among (x .lo) (x .hi) (getD (x .s .now) (x .at) 0) ≡ false = sym (c .before .among .ensures) ∙ not-true _ (c .if1 .taken) in
-    rw (sym (three-bytes (x .lo) (x .hi) (x .from) (x .till) (x .s .now) (x .at) (omega arith)), f)
+    let f : among (x .from) (x .till) (getD (x .s .now) (x .at) 0) ≡ false = sym (c .before .among .ensures) ∙ not-true _ (c .if1 .taken) in
+    rw (sym (three-bytes (x .from) (x .till) (x .lo) (x .hi) (x .s .now) (x .at) (omega arith)), f)
 
 returns-2 : tie.Need-returns-2
 returns-2 c =
@@ -22,8 +22,8 @@ returns-2 c =
     let m = d .before .before in
     let e = m .before .before in
     let x = e .before .before .before .before .args in
-    let f : among (x .lo) (x .hi) (getD (x .s .now) (x .at) 0) ≡ true = sym (e .before .among .ensures) ∙ not-false _ (e .if1 .left) in
-    rw (sym (three-bytes (x .lo) (x .hi) (x .from) (x .till) (x .s .now) (x .at) (omega arith)), f) (c .and .ensures ∙ rw (d .among3 .ensures, m .among2 .ensures))
+    let f : among (x .from) (x .till) (getD (x .s .now) (x .at) 0) ≡ true = sym (e .before .among .ensures) ∙ not-false _ (e .if1 .left) in
+    rw (sym (three-bytes (x .from) (x .till) (x .lo) (x .hi) (x .s .now) (x .at) (omega arith)), f) (c .and .ensures ∙ rw (d .among3 .ensures, m .among2 .ensures))
 
 pub is-row-spec : {M : Type 1} → statement M
 is-row-spec =

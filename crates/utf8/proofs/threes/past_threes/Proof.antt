@@ -1,6 +1,6 @@
 -- `utf8::threes::past_threes` meets its contract. The loop keeps that all before was passed. Assumes nothing.
 use Prim.Native.Nat.{_-_}
-use Rattle.utf8.proofs.Passing.{then, past-char}
+use Rattle.utf8.proofs.PassedLaws.{then, passed-char}
 use Rattle.utf8.proofs.threes.past_threes.Statement.{statement}
 use Rattle.utf8.proofs.threes.past_threes.Tie as tie
 use Rattle.utf8.specs.inner.Passed.{Passed}
@@ -19,7 +19,7 @@ loop-again : tie.Need-loop-again Inv-loop μ-loop
 loop-again c =
     let l = c .before .before .before in
     let s = l .before .before .before .args .s .now in
-    then s (l .loop .inv) (past-char s (l .loop .i) 3 (omega arith) (c .before .is-three .ensures (not-false _ (c .if2 .left))) (λ e. omega (arith, e)))
+    then s (l .loop .inv) (passed-char s (l .loop .i) 3 (omega arith) (c .before .is-three .ensures (not-false _ (c .if2 .left))) (λ e. omega (arith, e)))
 
 pub past-threes-spec : {M : Type 1} → statement M
 past-threes-spec =
