@@ -181,11 +181,27 @@ static void chat(void) {
     check("  it is the reply to the message as it came", d.length == b.length && memcmp(direct, back, d.length) == 0);
 }
 
+/* A budget of JSON values: the message is counted, read with so many, and refused with one less. */
+static void budget(void) {
+    net119_count_answer all, enough, less;
+    make("request", "A1.nx", "3 BYE", "");
+    all = net119_read_within(BYTES(message), NET119_CEILING);
+    enough = net119_read_within(BYTES(message), (uint32_t)all.count);
+    less = net119_read_within(BYTES(message), (uint32_t)all.count - 1);
+    check("BYE of A1 has thirteen values: array, tag, object, six fields, Via's object and its three", all.number == NET119_OK && all.count == 13);
+    check("  a budget of as many is enough", enough.number == NET119_OK && enough.count == all.count);
+    check("  with one less, the last value is one too many",
+          less.number == NET119_TOO_MANY && less.count == 0 && less.place == place_of("\"nx\"}]}]"));
+    event("  and so it is for the table", net119_message_within(table, sizeof table, 8000, BYTES(message), (uint32_t)all.count - 1),
+          refused(NET119_TOO_MANY, 0, less.place));
+}
+
 /* What is refused, and where; a reply that is due and cannot be written. */
 static void refusals(void) {
     net119_read_answer r = net119_read(BYTES("[01]"));
     net119_write_answer w = net119_reply(out, 10, BYTES(message), 200, BYTES(DATE));
     check("[01] is not JSON, at 2", r.number == NET119_NOT_JSON && r.place == 2);
+    budget();
     check("ten bytes are no room for a reply", w.number == NET119_NO_ROOM && w.length == 0);
     event("no bytes, on no table", net119_message(NULL, 0, 0, NULL, 0), refused(NET119_BAD_TABLE, 0, 0));
     make("request", "A1.nx", "03 BYE", "");

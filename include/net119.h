@@ -39,6 +39,12 @@ extern "C" {
 #define NET119_TABLE_LENGTH(count) (16 + 160 * (size_t)(count))
 
 /*
+ * The ceiling of JSON values at which every function reads that is not handed one: twice the number of a JSON text's values is at most its
+ * bytes and one, so none of NET119_LONGEST bytes passes it. Bytes that only begin as a JSON text does may, and are refused by 11.
+ */
+#define NET119_CEILING 16384
+
+/*
  * No call takes more stack than this, whatever it is handed: the stack grows with the nesting of JSON alone, and that ends at eight. About
  * half of it is used.
  */
@@ -50,7 +56,8 @@ enum {
 
     NET119_BAD_TABLE = 1,      /* the table is not well-formed; for net119_blank, a wrong count or length */
 
-    /* Reading; in this order, the first that fails answers. */
+    /* Reading; in this order, the first that fails answers. 4, 5 and 11 are found in one walk, before 6: of the three the one with the
+       lowest place answers, and 5 before 11 at one place. */
     NET119_BAD_LENGTH = 2,     /* length 0 or over 32,768; place 0 */
     NET119_NOT_UTF8 = 3,       /* place: the first byte of the first bad sequence */
     NET119_NOT_JSON = 4,       /* place: the first byte after which no JSON text can continue, or the length if it only stops short */
@@ -60,6 +67,7 @@ enum {
     NET119_MISSING = 8,        /* a required field is missing; place: the lowest such field NUMBER, 1 to 26 */
     NET119_BAD_VALUE = 9,      /* a value breaks its rule; place: the first byte of the value */
     NET119_DISAGREE = 10,      /* fields disagree; place 0 */
+    NET119_TOO_MANY = 11,      /* a JSON value past the ceiling begins; place: its first byte */
 
     /* Events. */
     NET119_NO_CALL = 20,       /* no such call */
@@ -108,16 +116,23 @@ enum {
 };
 
 typedef struct {
-    uint8_t number; /* 0, or 2 to 10 */
+    uint8_t number; /* 0, or 2 to 11 */
     size_t place;   /* of the refusal, as said above; 0 where accepted */
 } net119_read_answer;
 
 typedef struct {
-    uint8_t number; /* 0, or 1 to 10, 20 to 28 */
+    uint8_t number; /* 0, or 2 to 11 */
+    size_t place;   /* of the refusal, as said above; 0 where accepted */
+    size_t count;   /* the JSON values of the message: the outermost, every element and every member's value, names not. At most the
+                       ceiling, and twice it at most the bytes and one; 0 where refused by 2 to 5 or 11 */
+} net119_count_answer;
+
+typedef struct {
+    uint8_t number; /* 0, or 1 to 11, 20 to 28 */
     uint8_t word;   /* where accepted, 1 to 7; else 0 */
     uint8_t state;  /* where accepted, the call's state after it, 0 once freed; else 0 */
     uint16_t reply; /* where refused, the status code that the sender is due: 400, 404, 405, 481, 486 or 500; 0, none: send nothing */
-    size_t place;   /* where refused by 2 to 10, the place as said above; else 0 */
+    size_t place;   /* where refused by 2 to 11, the place as said above; else 0 */
 } net119_event_answer;
 
 typedef struct {
@@ -145,6 +160,11 @@ NET119_LAYOUT(sizeof(net119_read_answer) == 16)
 NET119_LAYOUT(offsetof(net119_read_answer, number) == 0)
 NET119_LAYOUT(offsetof(net119_read_answer, place) == 8)
 
+NET119_LAYOUT(sizeof(net119_count_answer) == 24)
+NET119_LAYOUT(offsetof(net119_count_answer, number) == 0)
+NET119_LAYOUT(offsetof(net119_count_answer, place) == 8)
+NET119_LAYOUT(offsetof(net119_count_answer, count) == 16)
+
 NET119_LAYOUT(sizeof(net119_event_answer) == 16)
 NET119_LAYOUT(offsetof(net119_event_answer, number) == 0)
 NET119_LAYOUT(offsetof(net119_event_answer, word) == 1)
@@ -165,10 +185,17 @@ NET119_LAYOUT(offsetof(net119_remove_answer, host_end) == 24)
 #undef NET119_LAYOUT
 
 /*
- * Reads a message, and answers whether document 01 accepts it: number 0, or 2 to 10 with the place.
+ * Reads a message, and answers whether document 01 accepts it: number 0, or 2 to 11 with the place. The ceiling is NET119_CEILING.
  * Nothing is written.
  */
 net119_read_answer net119_read(const uint8_t *message, size_t message_length);
+
+/*
+ * The same under a ceiling of JSON values, any 32-bit number, and how many the message has: a host may give each message a budget. A value
+ * is too many where as many values as the ceiling have begun before it; with a ceiling of 0 the outermost is. In a message that is refused by
+ * 11 as many values as the ceiling have begun, although no count is told; they may have been walked twice.
+ */
+net119_count_answer net119_read_within(const uint8_t *message, size_t message_length, uint32_t ceiling);
 
 /*
  * Makes a blank table of `count` free records. `table_length` must be NET119_TABLE_LENGTH(count), and `count` 1 to 255.
@@ -185,13 +212,21 @@ bool net119_well_formed(const uint8_t *table, size_t table_length);
 /*
  * A message, request or response, that came at a time: milliseconds, any 64-bit number, by the caller's own clock.
  *
- * Answers number 0 with the word PASS, REPEAT or BYE and the call's new state; or a refusal: 1, then 2 to 10 as net119_read, then 28,
+ * Answers number 0 with the word PASS, REPEAT or BYE and the call's new state; or a refusal: 1, then 2 to 11 as net119_read, then 28,
  * 20, 21, 22, 23, 24, 25, 26 or 27, the first that holds, with the place and the reply that is due (net119_reply writes it).
  *
  * The table: after PASS and BYE the record of the message's Call-ID is what document 01's rules give (an INVITE takes the lowest free
  * record), and every byte of every other record is as it was. After REPEAT, and on every refusal, the whole table is as it was.
  */
 net119_event_answer net119_message(uint8_t *table, size_t table_length, uint64_t time, const uint8_t *message, size_t message_length);
+
+/*
+ * The same, with 2 to 11 as net119_read_within under this ceiling. Give every message on one table the same: only then is it proved that the
+ * order of two events of different calls does not matter. A tick reads no message and has no ceiling; net119_reply, net119_add and
+ * net119_remove read at NET119_CEILING, and so may take a message that was refused here by 11.
+ */
+net119_event_answer net119_message_within(uint8_t *table, size_t table_length, uint64_t time, const uint8_t *message, size_t message_length,
+                                          uint32_t ceiling);
 
 /*
  * A tick for one call: asks whether a limit has run out at that time. A relay ticks each call it has, every second or so.

@@ -29,6 +29,8 @@ static unsigned answered;
 static int wrong;
 
 static void reads(void) { answered = net119_read(message, length).number; }
+static void counts(void) { answered = net119_read_within(message, length, NET119_CEILING).number; }
+static void refuses(void) { answered = net119_message_within(table, NET119_TABLE_LENGTH(COUNT), now, message, length, 9).number; }
 static void blanks(void) { answered = net119_blank(table, NET119_TABLE_LENGTH(COUNT), COUNT); }
 static void tells(void) { answered = net119_well_formed(table, NET119_TABLE_LENGTH(COUNT)); }
 static void hears(void) { answered = net119_message(table, NET119_TABLE_LENGTH(COUNT), now, message, length).number; }
@@ -119,6 +121,7 @@ int main(void) {
     length = 0;
     put("[1,{\"x\":[[[[[[[]]]]]]]}]");
     run("a ninth level", reads, NET119_TOO_DEEP);
+    run("a ninth level, counted", counts, NET119_TOO_DEEP);
 
     /* A full table; the last call of it. */
     for (int i = 0; i < COUNT; i++) {
@@ -134,6 +137,8 @@ int main(void) {
     make("response", "C254", "1 INVITE", 16, ",\"Status\":\"200 OK\"" DEEPEST);
     run("200", hears, NET119_OK);
     run("read, a response", reads, NET119_OK);
+    run("read, a response, counted", counts, NET119_OK);
+    run("200 under a ceiling", refuses, NET119_TOO_MANY);
     run("remove", removes, NET119_OK);
     make("request", "C254", "1 ACK", 16, DEEPEST);
     run("ACK", hears, NET119_OK);

@@ -22,7 +22,10 @@ enum Shape {
     Ok,
     WrongTable,
     Dump,
+    Read,
     Unread(u32),
+    /// 2 to 5 and 11: a reading and an event are answered alike.
+    NoText(u32),
     EventAccepted(Word, u8),
     EventRefused(u32, u32),
     Written,
@@ -49,7 +52,9 @@ impl fmt::Display for Shape {
             Shape::Ok => write!(f, "ok"),
             Shape::WrongTable => write!(f, "no 1"),
             Shape::Dump => write!(f, "dump"),
+            Shape::Read => write!(f, "read ok"),
             Shape::Unread(number) => write!(f, "read no {number}"),
+            Shape::NoText(number) => write!(f, "read or event no {number}"),
             Shape::EventAccepted(word, state) => write!(f, "event ok {} {state}", word.name()),
             Shape::EventRefused(number, reply) => write!(f, "event no {number} reply {reply}"),
             Shape::Written => write!(f, "written ok"),
@@ -114,7 +119,7 @@ fn keep_shapes() -> Vec<Shape> {
             .into_iter()
             .map(|(word, state)| Shape::Accepted(word, state)),
     );
-    shapes.extend((2..=10).chain(20..=28).map(Shape::Refused));
+    shapes.extend((2..=11).chain(20..=28).map(Shape::Refused));
     shapes
 }
 
@@ -124,17 +129,20 @@ fn probe_shapes() -> Vec<Shape> {
         Shape::Ok,
         Shape::WrongTable,
         Shape::Dump,
+        Shape::Read,
         Shape::Written,
         Shape::Removed,
     ];
-    shapes.extend((2..=10).map(Shape::Unread));
+    shapes.extend((6..=10).map(Shape::Unread));
+    shapes.extend((2..=5).chain([11]).map(Shape::NoText));
     shapes.extend(
         words()
             .into_iter()
             .map(|(word, state)| Shape::EventAccepted(word, state)),
     );
-    shapes.extend((1..=10).map(|number| Shape::EventRefused(number, 0)));
+    shapes.extend((6..=10).map(|number| Shape::EventRefused(number, 0)));
     let replies = [
+        (1, 0),
         (20, 0),
         (20, 404),
         (20, 481),
@@ -172,21 +180,19 @@ fn known_shape(words: &[&str]) -> Option<Shape> {
         ["?"] => Shape::Question,
         ["ok"] => Shape::Ok,
         ["no", "1"] => Shape::WrongTable,
+        ["ok", count] if count.parse::<u64>().is_ok() => Shape::Read,
         ["ok", word, state] if Word::of_name(word).is_some() => {
             Shape::EventAccepted(Word::of_name(word)?, state.parse().ok()?)
         }
         ["ok", _, _] => Shape::Written,
         ["ok", _, _, _] => Shape::Removed,
-        ["no", number, rest] => match number.parse().ok()? {
+        ["no", number, _] => match number.parse().ok()? {
             number @ 30.. => Shape::NotWritten(number),
-            number => {
-                rest.parse::<u64>().ok()?;
-                Shape::Unread(number)
-            }
+            _ => return None,
         },
         ["no", number, _, rest] => match number.parse().ok()? {
             number @ 30.. => Shape::NotRemoved(number),
-            number => Shape::EventRefused(number, rest.parse().ok()?),
+            number => refusal(number, rest.parse().ok()?),
         },
         [_, "refused", number] => Shape::Refused(number.parse().ok()?),
         [_, word, state] => Shape::Accepted(Word::of_name(word)?, state.parse().ok()?),
@@ -194,6 +200,16 @@ fn known_shape(words: &[&str]) -> Option<Shape> {
         _ => return None,
     };
     Some(shape)
+}
+
+/// A refusal with a place: of a reading with its count, which is 0 only where
+/// there is no text, or of an event with its reply, 0 for all of reading's.
+fn refusal(number: u32, count_or_reply: u32) -> Shape {
+    match (number, count_or_reply) {
+        (2..=5 | 11, 0) => Shape::NoText(number),
+        (6..=10, 1..) => Shape::Unread(number),
+        (_, reply) => Shape::EventRefused(number, reply),
+    }
 }
 
 #[cfg(test)]
@@ -212,7 +228,11 @@ mod tests {
             ("no 1", Shape::WrongTable),
             ("4e4354", Shape::Dump),
             ("-", Shape::Dump),
-            ("no 4 2", Shape::Unread(4)),
+            ("ok 12", Shape::Read),
+            ("no 4 2 0", Shape::NoText(4)),
+            ("no 11 0 0", Shape::NoText(11)),
+            ("no 9 19 12", Shape::Unread(9)),
+            ("no 9 19 0", Shape::EventRefused(9, 0)),
             ("ok pass 3", Shape::EventAccepted(Word::Pass, 3)),
             ("no 20 0 481", Shape::EventRefused(20, 481)),
             ("ok 12 5b5d", Shape::Written),
@@ -221,6 +241,7 @@ mod tests {
             ("no 36 5a -", Shape::NotRemoved(36)),
             ("", Shape::Other),
             ("a b", Shape::Other),
+            ("no 4 2", Shape::Other),
         ] {
             assert_eq!(shape_of(line.as_bytes()), shape, "{line}");
         }

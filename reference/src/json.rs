@@ -1,8 +1,20 @@
-//! RFC 7159 to a depth of eight: one walk from left to right that builds a tree
-//! with the place of every value, or stops at the first byte that cannot be.
+//! RFC 7159 to a depth of eight and a ceiling of values: one walk from left to
+//! right that builds a tree with the place of every value and counts them, or
+//! stops at the first byte that cannot be.
 
 /// Arrays and objects may hold each other to this depth (01 Reading).
 pub const MAX_DEPTH: usize = 8;
+
+/// The bytes that a value may begin with.
+const FIRST_BYTES: &[u8] = b"{[\"-0123456789ntf";
+
+/// A whole JSON text.
+#[derive(Debug, Clone, PartialEq, Eq)]
+pub struct Text {
+    pub outermost: Value,
+    /// The outermost value, every element and every member's value (02 §9).
+    pub count: u32,
+}
 
 /// A value and the bytes `start..end` it stands on.
 #[derive(Debug, Clone, PartialEq, Eq)]
@@ -36,11 +48,12 @@ pub struct Span {
     pub end: usize,
 }
 
-/// Why the walk stopped, and where (01 Reading, rows 4 and 5).
+/// Why the walk stopped, and where (01 Reading, rows 4 and 5, and 02 §9's 11).
 #[derive(Debug, Clone, Copy, PartialEq, Eq)]
 pub enum Fault {
     NotJson(usize),
     TooDeep(usize),
+    TooMany(usize),
 }
 
 impl Fault {
@@ -49,6 +62,7 @@ impl Fault {
         match self {
             Fault::NotJson(place) => (4, place),
             Fault::TooDeep(place) => (5, place),
+            Fault::TooMany(place) => (11, place),
         }
     }
 }
@@ -89,16 +103,21 @@ impl Span {
     }
 }
 
-/// Reads a whole JSON text: white space, one value, white space.
-pub fn parse(bytes: &[u8]) -> Result<Value, Fault> {
-    let mut walker = Walker { bytes, at: 0 };
-    walker.skip_space();
-    let value = walker.value(0)?;
-    walker.skip_space();
-    match walker.peek() {
-        None => Ok(value),
-        Some(_) => Err(walker.not_json()),
-    }
+/// Reads a whole JSON text of no more values than the ceiling.
+pub fn parse(bytes: &[u8], ceiling: u32) -> Result<Text, Fault> {
+    let mut walker = Walker::new(bytes, ceiling);
+    let outermost = walker.text()?;
+    Ok(Text {
+        outermost,
+        count: walker.begun,
+    })
+}
+
+/// How many values begin until the walk stops, whatever stops it.
+pub fn begun(bytes: &[u8]) -> u32 {
+    let mut walker = Walker::new(bytes, u32::MAX);
+    let _ = walker.text();
+    walker.begun
 }
 
 /// The walk. All bytes before `at` begin some JSON text, so the place of a
@@ -106,9 +125,21 @@ pub fn parse(bytes: &[u8]) -> Result<Value, Fault> {
 struct Walker<'a> {
     bytes: &'a [u8],
     at: usize,
+    ceiling: u32,
+    /// The values that have begun: never more than the ceiling.
+    begun: u32,
 }
 
-impl Walker<'_> {
+impl<'a> Walker<'a> {
+    fn new(bytes: &'a [u8], ceiling: u32) -> Self {
+        Walker {
+            bytes,
+            at: 0,
+            ceiling,
+            begun: 0,
+        }
+    }
+
     fn peek(&self) -> Option<u8> {
         self.bytes.get(self.at).copied()
     }
@@ -140,24 +171,34 @@ impl Walker<'_> {
         }
     }
 
+    /// White space, one value, white space.
+    fn text(&mut self) -> Result<Value, Fault> {
+        self.skip_space();
+        let value = self.value(0)?;
+        self.skip_space();
+        match self.peek() {
+            None => Ok(value),
+            Some(_) => Err(self.not_json()),
+        }
+    }
+
     /// A value inside `depth` open arrays and objects.
     fn value(&mut self, depth: usize) -> Result<Value, Fault> {
         let start = self.at;
-        let kind = match self.peek() {
-            Some(b'{') => Kind::Object(self.list(b'}', depth, Self::member)?),
-            Some(b'[') => Kind::Array(self.list(b']', depth, Self::value)?),
-            Some(b'"') => {
+        let kind = match self.begin(depth)? {
+            b'{' => Kind::Object(self.list(b'}', depth, Self::member)?),
+            b'[' => Kind::Array(self.list(b']', depth, Self::value)?),
+            b'"' => {
                 self.string()?;
                 Kind::String
             }
-            Some(b'-' | b'0'..=b'9') => {
+            b'n' => self.literal(b"null", Kind::Null)?,
+            b't' => self.literal(b"true", Kind::True)?,
+            b'f' => self.literal(b"false", Kind::False)?,
+            _ => {
                 self.number()?;
                 Kind::Number
             }
-            Some(b'n') => self.literal(b"null", Kind::Null)?,
-            Some(b't') => self.literal(b"true", Kind::True)?,
-            Some(b'f') => self.literal(b"false", Kind::False)?,
-            _ => return Err(self.not_json()),
         };
         Ok(Value {
             start,
@@ -166,14 +207,19 @@ impl Walker<'_> {
         })
     }
 
-    /// Steps over an opening bracket, unless it would be the ninth.
-    fn open(&mut self, depth: usize) -> Result<(), Fault> {
-        if depth == MAX_DEPTH {
+    /// Counts the value that begins here and shows its first byte: unless none
+    /// begins, or a ninth bracket does, or it is one too many, in this order.
+    fn begin(&mut self, depth: usize) -> Result<u8, Fault> {
+        let first = self.peek().filter(|byte| FIRST_BYTES.contains(byte));
+        let first = first.ok_or(self.not_json())?;
+        if depth == MAX_DEPTH && matches!(first, b'{' | b'[') {
             return Err(Fault::TooDeep(self.at));
         }
-        self.at += 1;
-        self.skip_space();
-        Ok(())
+        if self.begun == self.ceiling {
+            return Err(Fault::TooMany(self.at));
+        }
+        self.begun += 1;
+        Ok(first)
     }
 
     /// An object's members or an array's elements, from bracket to bracket.
@@ -184,7 +230,8 @@ impl Walker<'_> {
         item: fn(&mut Self, usize) -> Result<T, Fault>,
     ) -> Result<Vec<T>, Fault> {
         let mut items = Vec::new();
-        self.open(depth)?;
+        self.at += 1;
+        self.skip_space();
         if self.take(close) {
             return Ok(items);
         }
@@ -289,8 +336,18 @@ impl Walker<'_> {
 
 #[cfg(test)]
 mod tests {
-    use super::Fault::{NotJson, TooDeep};
+    use super::Fault::{NotJson, TooDeep, TooMany};
     use super::*;
+
+    /// The outermost value where no ceiling is in the way.
+    fn parse(bytes: &[u8]) -> Result<Value, Fault> {
+        super::parse(bytes, u32::MAX).map(|text| text.outermost)
+    }
+
+    /// The count under a ceiling.
+    fn count(text: &[u8], ceiling: u32) -> Result<u32, Fault> {
+        super::parse(text, ceiling).map(|text| text.count)
+    }
 
     fn fault(text: &str) -> Option<Fault> {
         parse(text.as_bytes()).err()
@@ -463,6 +520,116 @@ mod tests {
                 if place < text.len() {
                     assert!(!prefixes.contains(&text[..=place]), "{text:?}");
                 }
+            }
+        }
+    }
+
+    #[test]
+    fn names_are_not_counted() {
+        for (text, wanted) in [
+            ("1", 1),
+            (" \"[1,2]\" ", 1),
+            ("[]", 1),
+            ("{}", 1),
+            ("[1]", 2),
+            ("[1,2]", 3),
+            ("{\"a\":1}", 2),
+            ("{\"a\":1,\"a\":{}}", 3),
+            ("[[],[[]],{\"a\":[null]}]", 7),
+            ("[[[[[[[[]]]]]]]]", 8),
+        ] {
+            assert_eq!(count(text.as_bytes(), u32::MAX), Ok(wanted), "{text}");
+            assert_eq!(count(text.as_bytes(), wanted), Ok(wanted), "{text}");
+        }
+    }
+
+    #[test]
+    fn values_under_a_ceiling() {
+        for (text, ceiling, wanted) in [
+            ("1", 0, Err(TooMany(0))),
+            (" []", 0, Err(TooMany(1))),
+            (" ", 0, Err(NotJson(1))),
+            ("", 0, Err(NotJson(0))),
+            ("x", 0, Err(NotJson(0))),
+            ("]", 0, Err(NotJson(0))),
+            ("[]", 1, Ok(1)),
+            ("[]x", 1, Err(NotJson(2))),
+            ("[1,2]", 3, Ok(3)),
+            ("[1,2]", 2, Err(TooMany(3))),
+            ("[1,2]", 1, Err(TooMany(1))),
+            ("[1 1]", 1, Err(TooMany(1))),
+            ("[1 1]", 2, Err(NotJson(3))),
+            ("[1,]", 2, Err(NotJson(3))),
+            ("[1,", 2, Err(NotJson(3))),
+            ("[ \t-", 1, Err(TooMany(3))),
+            ("{\"a\":1}", 2, Ok(2)),
+            ("{\"a\":1}", 1, Err(TooMany(5))),
+            ("{\"a\"1}", 1, Err(NotJson(4))),
+            ("{1", 1, Err(NotJson(1))),
+            ("{\"a", 1, Err(NotJson(3))),
+            // What begins as a value need not be one.
+            ("[tx", 1, Err(TooMany(1))),
+            ("[tx", 2, Err(NotJson(2))),
+            ("\"\u{1}", 0, Err(TooMany(0))),
+        ] {
+            let text_count = count(text.as_bytes(), ceiling);
+            assert_eq!(text_count, wanted, "{text} at {ceiling}");
+        }
+    }
+
+    #[test]
+    fn a_ninth_bracket_comes_before_one_value_too_many() {
+        for text in ["[[[[[[[[[", "[[[[[[[[{"] {
+            for (ceiling, wanted) in [(7, TooMany(7)), (8, TooDeep(8)), (9, TooDeep(8))] {
+                assert_eq!(count(text.as_bytes(), ceiling), Err(wanted), "{text}");
+            }
+        }
+        assert_eq!(count(b"[[[[[[[[1", 8), Err(TooMany(8)));
+        assert_eq!(count(b"[[[[[[[[1,[", 9), Err(TooDeep(10)));
+    }
+
+    /// Twice the count is the bytes plus one: no text has more values (02 §9).
+    #[test]
+    fn as_many_values_as_the_bytes_allow() {
+        let open = format!("[{}1", "1,".repeat(16_383));
+        assert_eq!(open.len(), 32_768);
+        assert_eq!(count(open.as_bytes(), 16_384), Err(TooMany(32_767)));
+        assert_eq!(count(open.as_bytes(), 16_385), Err(NotJson(32_768)));
+        let closed = format!("[{}1]", "1,".repeat(16_382));
+        assert_eq!(closed.len(), 32_767);
+        assert_eq!(count(closed.as_bytes(), 16_383), Err(TooMany(32_765)));
+        assert_eq!(count(closed.as_bytes(), 16_384), Ok(16_384));
+    }
+
+    /// The values of a tree, one by one.
+    fn values(value: &Value) -> u32 {
+        let inner: u32 = match &value.kind {
+            Kind::Array(elements) => elements.iter().map(values).sum(),
+            Kind::Object(members) => members.iter().map(|member| values(&member.value)).sum(),
+            _ => 0,
+        };
+        1 + inner
+    }
+
+    /// 11 by its own words, on all short texts: as many values as the ceiling
+    /// have begun before the place, and one more begins there. Where no value
+    /// is too many the ceiling changes nothing.
+    #[test]
+    fn ceilings_mean_what_the_paper_says() {
+        for text in all_texts(b"[]{}\":,0t", 5) {
+            let all = begun(&text);
+            for ceiling in 0..all {
+                let Err(TooMany(place)) = count(&text, ceiling) else {
+                    panic!("{text:?} at {ceiling}");
+                };
+                assert_eq!(begun(&text[..place]), ceiling, "{text:?}");
+                assert_eq!(begun(&text[..=place]), ceiling + 1, "{text:?}");
+            }
+            let free = super::parse(&text, u32::MAX);
+            assert_eq!(super::parse(&text, all), free, "{text:?}");
+            if let Ok(read) = free {
+                assert_eq!(read.count, values(&read.outermost));
+                assert!(2 * read.count as usize <= text.len() + 1);
             }
         }
     }

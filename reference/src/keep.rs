@@ -3,7 +3,7 @@
 
 use crate::keeper;
 use crate::lines::Answerer;
-use crate::message::MAX_LENGTH;
+use crate::message::{CEILING, MAX_LENGTH};
 use crate::rules;
 use crate::table;
 
@@ -29,7 +29,7 @@ impl Keep {
         }
         let answer = match event.strip_prefix(b"tick ") {
             Some(call_id) => keeper::tick_on_good_table(&mut self.image, now, call_id),
-            None => keeper::message_on_good_table(&mut self.image, now, event),
+            None => keeper::message_on_good_table(&mut self.image, CEILING, now, event),
         };
         match answer {
             Ok(accepted) => format!("{} {}", accepted.word.name(), accepted.state),
@@ -160,6 +160,18 @@ mod tests {
             answers(format!("{untimed}\n5 []").as_bytes()),
             "bad\n5 refused 6\n"
         );
+    }
+
+    #[test]
+    fn values_at_and_over_the_ceiling() {
+        for (text, number) in [
+            (format!("[{}1", "1,".repeat(16_383)), 11),
+            (format!("[{}1", "1,".repeat(16_382)), 4),
+            (format!("[{}1]", "1,".repeat(16_382)), 6),
+        ] {
+            let answer = answers(format!("5 {text}\n").as_bytes());
+            assert_eq!(answer, format!("5 refused {number}\n"));
+        }
     }
 
     #[test]

@@ -28,12 +28,12 @@ const TORN: Refused = Refused {
     reply: 0,
 };
 
-/// A message on any bytes at all.
-pub fn message(image: &mut [u8], now: u64, bytes: &[u8]) -> Answer {
+/// A message, read under a ceiling of values, on any bytes at all.
+pub fn message(image: &mut [u8], ceiling: u32, now: u64, bytes: &[u8]) -> Answer {
     if !table::well_formed(image) {
         return Err(TORN);
     }
-    message_on_good_table(image, now, bytes)
+    message_on_good_table(image, ceiling, now, bytes)
 }
 
 /// A tick on any bytes at all.
@@ -45,8 +45,8 @@ pub fn tick(image: &mut [u8], now: u64, call_id: &[u8]) -> Answer {
 }
 
 /// A message where the table is known to be well-formed; it stays so.
-pub fn message_on_good_table(image: &mut [u8], now: u64, bytes: &[u8]) -> Answer {
-    let message = message::read(bytes).map_err(unread)?;
+pub fn message_on_good_table(image: &mut [u8], ceiling: u32, now: u64, bytes: &[u8]) -> Answer {
+    let message = message::read(bytes, ceiling).answer.map_err(unread)?;
     let (exchange, event) = match &message {
         Message::Request(exchange) => (exchange, Event::Request(exchange)),
         Message::Response(exchange, status) => (exchange, Event::Response(exchange, *status)),
@@ -136,8 +136,13 @@ fn reply(number: u8, event: Event) -> u16 {
 #[cfg(test)]
 mod tests {
     use super::*;
+    use crate::message::CEILING;
     use crate::samples::{Sample, CALLEE, CALLER};
     use crate::table::{Record, State};
+
+    fn message(image: &mut [u8], now: u64, bytes: &[u8]) -> Answer {
+        super::message(image, CEILING, now, bytes)
+    }
 
     /// A call entered at 1000, last heard of at 2000; INVITE 3, caller's
     /// highest 5 (MESSAGE), callee's 7 (MESSAGE).
@@ -514,6 +519,30 @@ mod tests {
         // Reading comes first.
         let bad = Sample::ping().with("Date", "1");
         assert!(matches!(send(&talking, 0, &bad).0, Err(no) if no.number == 9 && no.place > 0));
+    }
+
+    #[test]
+    fn too_many_values_are_11_before_all_but_1() {
+        let talking = image_of(&record(State::Talking));
+        let mut image = talking.clone();
+        let bye = Sample::request("6 BYE");
+        let second = Refused {
+            number: 11,
+            place: 1,
+            reply: 0,
+        };
+        for (now, bytes) in [
+            (2000, bye.bytes()),
+            (0, bye.of_call("B2").bytes()),
+            (0, Sample::ping().bytes()),
+        ] {
+            assert_eq!(super::message(&mut image, 1, now, &bytes), Err(second));
+        }
+        assert_eq!(image, talking);
+        assert_eq!(super::message(&mut [], 0, 0, b"1"), no(1, 0));
+        // A tick reads no values.
+        let waiting = tick(&mut image, 2000, b"A1.nx");
+        assert_eq!(waiting, yes(Word::None, 4));
     }
 
     #[test]

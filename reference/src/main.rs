@@ -38,6 +38,7 @@ const USAGE: &str = "usage: reference keep | probe | json | rules | count
        reference gen probe SEED COUNT
        reference gen photos SEED COUNT
        reference gen utf8 SEED COUNT
+       reference gen ceilings SEED COUNT (two lines each)
        reference gen json SEED COUNT
        reference gen rules SEED COUNT";
 
@@ -63,6 +64,7 @@ fn main() -> ExitCode {
             ("probe", Ok(seed), Ok(count)) => gen::probe_lines(seed, count, output),
             ("photos", Ok(seed), Ok(count)) => gen::photo_lines(seed, count, output),
             ("utf8", Ok(seed), Ok(count)) => gen::utf8_lines(seed, count, output),
+            ("ceilings", Ok(seed), Ok(count)) => gen::ceiling_lines(seed, count, output),
             ("json", Ok(seed), Ok(count)) => gen::json_lines(seed, count, output),
             ("rules", Ok(seed), Ok(count)) => gen::rule_lines(seed, count, output),
             _ => return usage(),

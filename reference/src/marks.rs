@@ -4,7 +4,7 @@ use crate::call::Word;
 use crate::keep::Keep;
 use crate::keeper::{self, Accepted};
 use crate::lines;
-use crate::message;
+use crate::message::{self, CEILING};
 use crate::rules;
 use crate::samples::Sample;
 use crate::table::{self, Record, State};
@@ -38,7 +38,7 @@ fn both_sides_of_the_mark_in_reading() {
     assert!(rules::parse_cseq(b"01 BYE").is_none());
     assert!(rules::is_date(b"2000-02-29T00:00:00+0000"));
     assert!(!rules::is_date(b"1900-02-29T00:00:00+0000"));
-    let refusal = message::read(b"[01]").unwrap_err();
+    let refusal = message::read(b"[01]", CEILING).answer.unwrap_err();
     assert_eq!((refusal.number, refusal.place), (4, 2));
 }
 
@@ -76,8 +76,11 @@ fn both_sides_of_the_mark_in_time() {
         state: 5,
     };
     let mut ended = image(State::Ended, 0);
-    assert_eq!(keeper::message(&mut ended, 3_600_000, &callback), Ok(pass));
-    let late = keeper::message(&mut ended, 3_600_001, &callback).unwrap_err();
+    assert_eq!(
+        keeper::message(&mut ended, CEILING, 3_600_000, &callback),
+        Ok(pass)
+    );
+    let late = keeper::message(&mut ended, CEILING, 3_600_001, &callback).unwrap_err();
     assert_eq!((late.number, late.place, late.reply), (26, 0, 404));
 }
 
@@ -86,8 +89,8 @@ fn a_100_does_not_stop_the_15_seconds() {
     let mut image = table::blank_of(1);
     let invite = Sample::request("1 INVITE").bytes();
     let trying = Sample::response("1 INVITE", "100 Trying").bytes();
-    assert!(keeper::message(&mut image, 1000, &invite).is_ok());
-    assert!(keeper::message(&mut image, 15_000, &trying).is_ok());
+    assert!(keeper::message(&mut image, CEILING, 1000, &invite).is_ok());
+    assert!(keeper::message(&mut image, CEILING, 15_000, &trying).is_ok());
     let timeout = Accepted {
         word: Word::Timeout,
         state: 5,

@@ -1,8 +1,8 @@
 //! Reading: from bytes to a message, or to the first refusal of rows 2 to 10
-//! of 01 Reading with its place.
+//! of 01 Reading and 02 §9's 11 with its place, and how many values were read.
 
 use crate::fields::{self, *};
-use crate::json::{self, Kind, Member, Value};
+use crate::json::{self, Kind, Member, Text, Value};
 use crate::rules::{self, Address, ContentType, Method};
 use crate::utf8;
 
@@ -10,8 +10,18 @@ use crate::utf8;
 pub const MAX_LENGTH: usize = 32_768;
 /// The most objects in a Via (house).
 pub const MAX_VIA: usize = 16;
+/// The program's ceiling of values, and always the writers' (02 §9).
+pub const CEILING: u32 = 16_384;
 
-/// A number of 01 Reading's table, and its place.
+/// What comes of reading.
+#[derive(Debug)]
+pub struct Reading<'a> {
+    pub answer: Result<Message<'a>, Refusal>,
+    /// The text's values; 0 where there is no text: 2 to 5, and 11 (02 §9).
+    pub count: u32,
+}
+
+/// A number of 01 Reading's table or 02 §9's 11, and its place.
 #[derive(Debug, Clone, Copy, PartialEq, Eq)]
 pub struct Refusal {
     pub number: u8,
@@ -73,8 +83,22 @@ pub struct Hop<'a> {
     pub destination: &'a [u8],
 }
 
-/// The checks of 01 Reading, in its order.
-pub fn read(bytes: &[u8]) -> Result<Message<'_>, Refusal> {
+/// The checks of 01 Reading, in its order, under a ceiling of values.
+pub fn read(bytes: &[u8], ceiling: u32) -> Reading<'_> {
+    match text(bytes, ceiling) {
+        Ok(text) => Reading {
+            answer: message(bytes, &text.outermost),
+            count: text.count,
+        },
+        Err(refusal) => Reading {
+            answer: Err(refusal),
+            count: 0,
+        },
+    }
+}
+
+/// Rows 2 to 5, and 11 in one walk with 4 and 5.
+fn text(bytes: &[u8], ceiling: u32) -> Result<Text, Refusal> {
     let refuse = |number, place| Err(Refusal { number, place });
     if bytes.is_empty() || bytes.len() > MAX_LENGTH {
         return refuse(2, 0);
@@ -82,16 +106,19 @@ pub fn read(bytes: &[u8]) -> Result<Message<'_>, Refusal> {
     if let Some(place) = utf8::first_bad(bytes) {
         return refuse(3, place);
     }
-    let text = match json::parse(bytes) {
-        Ok(value) => value,
-        Err(fault) => {
-            let (number, place) = fault.row();
-            return refuse(number, place);
-        }
+    json::parse(bytes, ceiling).or_else(|fault| {
+        let (number, place) = fault.row();
+        refuse(number, place)
+    })
+}
+
+/// Rows 6 to 10.
+fn message<'a>(bytes: &'a [u8], outermost: &Value) -> Result<Message<'a>, Refusal> {
+    let no_envelope = Refusal {
+        number: 6,
+        place: 0,
     };
-    let Some((tag, members)) = envelope(bytes, &text) else {
-        return refuse(6, 0);
-    };
+    let (tag, members) = envelope(bytes, outermost).ok_or(no_envelope)?;
     let draft = Draft::collect(bytes, tag, members)?;
     draft.check_present(tag.required())?;
     draft.check_rules(tag.required())?;
@@ -107,8 +134,8 @@ pub fn read(bytes: &[u8]) -> Result<Message<'_>, Refusal> {
 }
 
 /// Row 6: an array of two, a tag and an object.
-fn envelope<'v>(bytes: &[u8], text: &'v Value) -> Option<(Tag, &'v [Member])> {
-    let [first, second] = text.array()? else {
+fn envelope<'v>(bytes: &[u8], outermost: &'v Value) -> Option<(Tag, &'v [Member])> {
+    let [first, second] = outermost.array()? else {
         return None;
     };
     let tag = Tag::of_name(first.string(bytes)?)?;
@@ -366,7 +393,12 @@ mod tests {
     use crate::samples::{Sample, CALLEE, CALLER};
 
     fn verdict(bytes: &[u8]) -> Option<(u8, usize)> {
-        read(bytes).err().map(|no| (no.number, no.place))
+        verdict_under(CEILING, bytes)
+    }
+
+    fn verdict_under(ceiling: u32, bytes: &[u8]) -> Option<(u8, usize)> {
+        let refusal = read(bytes, ceiling).answer.err();
+        refusal.map(|no| (no.number, no.place))
     }
 
     fn of(sample: Sample) -> Option<(u8, usize)> {
@@ -440,6 +472,77 @@ mod tests {
         assert_eq!(of(deep(6)), None);
         let place = value_place(&deep(7), "x") + 6;
         assert_eq!(of(deep(7)), Some((5, place)));
+    }
+
+    #[test]
+    fn number_11_is_in_the_same_walk() {
+        for (text, ceiling, wanted) in [
+            ("[01]", 1, (11, 1)),
+            ("[01]", 2, (4, 2)),
+            ("[[[[[[[[[01", 7, (11, 7)),
+            ("[[[[[[[[[01", 8, (5, 8)),
+            ("[tx", 1, (11, 1)),
+            ("[tx", 2, (4, 2)),
+            (" ", 0, (4, 1)),
+            ("1", 0, (11, 0)),
+            ("1", 1, (6, 0)),
+            // 2 and 3 come before.
+            ("", 0, (2, 0)),
+        ] {
+            let verdict = verdict_under(ceiling, text.as_bytes());
+            assert_eq!(verdict, Some(wanted), "{text} at {ceiling}");
+        }
+        assert_eq!(verdict_under(0, b"1\xff"), Some((3, 1)));
+        assert_eq!(verdict_under(0, &[b'['; 32_769]), Some((2, 0)));
+    }
+
+    /// 16,384 is passed by no JSON text that a message may be (02 §9), but by
+    /// what only begins one.
+    #[test]
+    fn the_programs_ceiling() {
+        let open = format!("[{}1", "1,".repeat(16_383));
+        assert_eq!(open.len(), MAX_LENGTH);
+        assert_eq!(verdict(open.as_bytes()), Some((11, MAX_LENGTH - 1)));
+        let ping = Sample::ping().with("x", "[1]");
+        let ones = (MAX_LENGTH - ping.text().len()) / 2;
+        let crowded = ping.with("x", &format!("[{}1]", "1,".repeat(ones)));
+        assert!(crowded.text().len() > MAX_LENGTH - 2);
+        assert_eq!(of(crowded), None);
+    }
+
+    #[test]
+    fn counts_of_texts() {
+        let count = |sample: &Sample, ceiling: u32| read(&sample.bytes(), ceiling).count;
+        // The array, its tag and its object, two fields, and a Via of one
+        // object with three texts.
+        let ping = Sample::ping();
+        for (sample, number, counted) in [
+            (ping.clone(), None, 10),
+            (ping.clone().with_via(2, &[]), None, 14),
+            (ping.clone().with("x", "[{\"y\":1}]"), None, 13),
+            (ping.clone().and("Date", "1"), Some(7), 11),
+            (ping.clone().without("Date"), Some(8), 9),
+            (ping.clone().with("Date", "[[]]"), Some(9), 11),
+            (Sample::request("2 CALLBACK"), Some(10), 13),
+        ] {
+            let refused = of(sample.clone()).map(|(number, _)| number);
+            assert_eq!(refused, number, "{}", sample.text());
+            assert_eq!(count(&sample, counted), counted, "{}", sample.text());
+            // One value too many is no text, and counts nothing.
+            let bytes = sample.bytes();
+            let verdict = verdict_under(counted - 1, &bytes);
+            assert!(matches!(verdict, Some((11, _))), "{}", sample.text());
+            assert_eq!(count(&sample, counted - 1), 0);
+        }
+        for (text, counted) in [
+            (&b"[1,{}]"[..], 3),
+            (b"[1,2", 0),
+            (b"[[[[[[[[[", 0),
+            (b"\"\xff\"", 0),
+            (b"", 0),
+        ] {
+            assert_eq!(read(text, CEILING).count, counted);
+        }
     }
 
     #[test]
@@ -963,7 +1066,7 @@ mod tests {
     #[test]
     fn what_is_read() {
         let bytes = Sample::request("7 BYE").sent_by_callee().bytes();
-        let Ok(Message::Request(exchange)) = read(&bytes) else {
+        let Ok(Message::Request(exchange)) = read(&bytes, CEILING).answer else {
             panic!("a request");
         };
         assert_eq!((exchange.number, exchange.method), (7, Method::Bye));

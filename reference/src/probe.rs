@@ -9,7 +9,7 @@
 use crate::hex;
 use crate::keeper;
 use crate::lines::Answerer;
-use crate::message;
+use crate::message::{self, CEILING};
 use crate::rules;
 use crate::table;
 use crate::writing::{self, OwnPath};
@@ -23,25 +23,35 @@ pub const MAX_SMALL: u64 = 65_535;
 /// What an output room is filled with before each call.
 const FILL: u8 = 0x5a;
 
-/// The held table.
+/// The held table, and the ceiling that `read` and `msg` read under (02 §9).
 pub struct Probe {
     pub image: Vec<u8>,
+    pub ceiling: u32,
 }
 
 impl Probe {
     pub fn new() -> Self {
         Probe {
             image: table::blank_of(table::MAX_RECORDS),
+            ceiling: CEILING,
         }
     }
 
     /// Puts the answer to a command at the end of `out`.
     fn obey(&mut self, command: Command, out: &mut Vec<u8>) {
         match command {
-            Command::Read(bytes) => match message::read(&bytes) {
-                Ok(_) => put(out, "ok"),
-                Err(no) => put(out, &format!("no {} {}", no.number, no.place)),
-            },
+            Command::Ceiling(ceiling) => {
+                self.ceiling = ceiling;
+                put(out, "ok");
+            }
+            Command::Read(bytes) => {
+                let reading = message::read(&bytes, self.ceiling);
+                let verdict = match reading.answer {
+                    Ok(_) => "ok".into(),
+                    Err(no) => format!("no {} {}", no.number, no.place),
+                };
+                put(out, &format!("{verdict} {}", reading.count));
+            }
             Command::Blank(count, length) => match table::blank(count, length) {
                 Some(image) => {
                     self.image = image;
@@ -56,7 +66,8 @@ impl Probe {
             }
             Command::Dump => hex::encode(&self.image, out),
             Command::Message(now, bytes) => {
-                put_event(out, keeper::message(&mut self.image, now, &bytes));
+                let answer = keeper::message(&mut self.image, self.ceiling, now, &bytes);
+                put_event(out, answer);
             }
             Command::Tick(now, call_id) => {
                 put_event(out, keeper::tick(&mut self.image, now, &call_id));
@@ -115,6 +126,7 @@ fn put_written(out: &mut Vec<u8>, result: Result<usize, u8>, room: &[u8]) {
 }
 
 enum Command {
+    Ceiling(u32),
     Read(Vec<u8>),
     Blank(usize, usize),
     Table(Vec<u8>),
@@ -130,6 +142,7 @@ impl Command {
     fn parse(line: &[u8]) -> Option<Command> {
         let words: Vec<&[u8]> = line.split(|byte| *byte == b' ').collect();
         let command = match words[..] {
+            [b"ceiling", ceiling] => Command::Ceiling(ceiling_of(ceiling)?),
             [b"read", bytes] => Command::Read(bytes_of(bytes)?),
             [b"blank", count, length] => Command::Blank(
                 number_to(count, MAX_SMALL)? as usize,
@@ -168,6 +181,11 @@ impl Command {
 /// A number of at most `most`.
 fn number_to(word: &[u8], most: u64) -> Option<u64> {
     rules::parse_decimal(word).filter(|number| *number <= most)
+}
+
+/// A ceiling of values, below 2^32.
+pub fn ceiling_of(word: &[u8]) -> Option<u32> {
+    rules::parse_decimal(word)?.try_into().ok()
 }
 
 fn room_of(word: &[u8]) -> Option<usize> {
@@ -215,13 +233,77 @@ mod tests {
 
     #[test]
     fn reading() {
-        assert_eq!(answer("read -"), "no 2 0");
-        assert_eq!(answer("read 5b30315d"), "no 4 2");
+        assert_eq!(answer("read -"), "no 2 0 0");
+        assert_eq!(answer("read 5b30315d"), "no 4 2 0");
         assert_eq!(
             answer(&format!("read {}", hexed(&Sample::ping().bytes()))),
-            "ok"
+            "ok 10"
         );
-        assert_eq!(answer("read 5b225d"), "no 4 3");
+        assert_eq!(answer("read 5b225d"), "no 4 3 0");
+        assert_eq!(answer("read 5b7b7d5d"), "no 6 0 2");
+    }
+
+    #[test]
+    fn readings_under_a_ceiling() {
+        let ping = Sample::ping().text();
+        let last = ping.rfind("\"nx\"").unwrap();
+        let open = format!("[{}1", "1,".repeat(16_383));
+        for (ceiling, text, wanted) in [
+            (0, "[]", "no 11 0 0"),
+            (1, "[tx", "no 11 1 0"),
+            (2, "[tx", "no 4 2 0"),
+            (9, &ping, &format!("no 11 {last} 0")),
+            (10, &ping, "ok 10"),
+            (CEILING, &open, "no 11 32767 0"),
+            (u32::MAX, &open, "no 4 32768 0"),
+        ] {
+            let text = hexed(text.as_bytes());
+            let script = format!("ceiling {ceiling}\nread {text}");
+            assert_eq!(answers(&script), ["ok", wanted]);
+        }
+        let open = hexed(open.as_bytes());
+        assert_eq!(answer(&format!("read {open}")), "no 11 32767 0");
+    }
+
+    #[test]
+    fn the_held_ceiling() {
+        let (lines, wanted): (Vec<&str>, Vec<&str>) = [
+            ("read 5b315d", "no 6 0 2"),
+            ("ceiling 1", "ok"),
+            ("blank 1 176", "ok"),
+            ("read 5b315d", "no 11 1 0"),
+            ("msg 1 5b315d", "no 11 1 0"),
+            ("tick 1 4131", "no 20 0 0"),
+            ("ceiling 4294967296", "?"),
+            ("ceiling x", "?"),
+            ("read 5b315d", "no 11 1 0"),
+            ("ceiling 002", "ok"),
+            ("read 5b315d", "no 6 0 2"),
+            ("msg 1 5b315d", "no 6 0 0"),
+            ("ceiling 0", "ok"),
+            ("read 5b315d", "no 11 0 0"),
+            ("table 00", "no 1"),
+            ("msg 1 5b315d", "no 1 0 0"),
+        ]
+        .into_iter()
+        .unzip();
+        assert_eq!(answers(&lines.join("\n")), wanted);
+    }
+
+    /// Writing always reads at 16,384 (02 §9).
+    #[test]
+    fn writers_have_their_own_ceiling() {
+        let request = hexed(&Sample::request("7 BYE").bytes());
+        let response = hexed(&Sample::response("7 BYE", "200 OK").bytes());
+        let date = hexed(b"2024-03-01T00:00:00+0900");
+        for line in [
+            format!("reply 200 {date} 400 {request}"),
+            format!("add 61 61 6161 400 {request}"),
+            format!("remove 61 61 6161 0 {response}"),
+        ] {
+            let script = format!("ceiling 0\n{line}");
+            assert_eq!(answers(&script)[1], answer(&line));
+        }
     }
 
     #[test]
@@ -238,6 +320,14 @@ mod tests {
             " read 5b",
             "read 5b\r",
             "READ 5b",
+            "ceiling",
+            "ceiling ",
+            "ceiling -1",
+            "ceiling 1 ",
+            "ceiling 1 2",
+            "ceiling 4294967296",
+            "ceiling 18446744073709551616",
+            "Ceiling 1",
             "dump ",
             "blank 1",
             "blank 65536 176",
@@ -256,13 +346,13 @@ mod tests {
         }
         assert!(answers("").is_empty());
         assert_eq!(answers("\n\n"), ["?", "?"]);
-        assert_eq!(answers("read -"), ["no 2 0"]);
+        assert_eq!(answers("read -"), ["no 2 0 0"]);
     }
 
     #[test]
     fn limits_of_size() {
         let line = |length: usize| format!("read {}", "0".repeat(length - 5));
-        assert_eq!(answer(&format!("read {}", "5b".repeat(40_000))), "no 2 0");
+        assert_eq!(answer(&format!("read {}", "5b".repeat(40_000))), "no 2 0 0");
         assert_eq!(answer(&format!("read {}", "5b".repeat(40_001))), "?");
         assert_eq!(
             answer(&format!("tick 1 {}", "41".repeat(40_000))),
@@ -273,7 +363,7 @@ mod tests {
         assert_eq!(answer(&format!("table {}", "00".repeat(65_537))), "?");
         assert_eq!(answer(&line(170_000)), "?");
         let script = format!("{}\nread -\n", line(170_001));
-        assert_eq!(answers(&script), ["?", "no 2 0"]);
+        assert_eq!(answers(&script), ["?", "no 2 0 0"]);
         assert_eq!(answer("blank 65535 65536"), "no 1");
         assert_eq!(answer("reply 65535 - 2 -"), "no 30 5a5a");
         assert_eq!(answer("reply 200 - 40000 -").len(), "no 30 ".len() + 80_000);

@@ -2,7 +2,7 @@
 //! Each writer answers the result's length and leaves the bytes past it alone,
 //! or answers a number from 30 to 39 and leaves the whole output alone.
 
-use crate::message::{self, Exchange, Hop, Message, MAX_LENGTH, MAX_VIA};
+use crate::message::{self, Exchange, Hop, Message, CEILING, MAX_LENGTH, MAX_VIA};
 use crate::rules::{self, Method};
 
 /// The status texts, by code.
@@ -129,7 +129,7 @@ pub fn remove<'m>(response: &'m [u8], path: Path, out: &mut [u8]) -> Result<(usi
     if !path.meets_rules() {
         return Err(38);
     }
-    let Ok(Message::Response(exchange, _)) = message::read(response) else {
+    let Ok(Message::Response(exchange, _)) = message::read(response, CEILING).answer else {
         return Err(30);
     };
     let [.., next, last] = &exchange.via[..] else {
@@ -144,7 +144,7 @@ pub fn remove<'m>(response: &'m [u8], path: Path, out: &mut [u8]) -> Result<(usi
 }
 
 fn accepted_request(bytes: &[u8]) -> Result<Exchange<'_>, u8> {
-    match message::read(bytes) {
+    match message::read(bytes, CEILING).answer {
         Ok(Message::Request(exchange)) => Ok(exchange),
         _ => Err(30),
     }
@@ -230,7 +230,7 @@ mod tests {
             let text = reply_to(&refer, code, DATE).unwrap();
             let start = format!("[\"response\",{{\"Status\":\"{code} {phrase}\",\"CSeq\":");
             assert!(text.starts_with(start.as_bytes()));
-            assert!(message::read(&text).is_ok());
+            assert!(message::read(&text, CEILING).answer.is_ok());
         }
     }
 

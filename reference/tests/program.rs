@@ -41,15 +41,18 @@ fn keep_answers_a_log() {
 
 #[test]
 fn probe_answers_a_script() {
-    let answer = output(&["probe"], b"read 5b30315d\nblank 1 176\nwhat\ntick 1 41");
-    assert_eq!(answer, b"no 4 2\nok\n?\nno 9 0 0\n");
+    let answer = output(
+        &["probe"],
+        b"read 5b30315d\nblank 1 176\nwhat\ntick 1 41\nceiling 1\nread 5b30315d",
+    );
+    assert_eq!(answer, b"no 4 2 0\nok\n?\nno 9 0 0\nok\nno 11 1 0\n");
     assert_eq!(output(&["probe"], b""), b"");
 }
 
 #[test]
 fn json_answers_texts() {
-    let answer = output(&["json"], b"5b30315d\n\nwhat\n-\n5b5d");
-    assert_eq!(answer, b"no 4 2\nno 4 0\n?\nno 4 0\nok\n");
+    let answer = output(&["json"], b"2 5b30315d\n1 5b30315d\n0 \nwhat\n0 -\n1 5b5d");
+    assert_eq!(answer, b"no 4 2\nno 11 1\nno 4 0\n?\nno 4 0\nok 1\n");
     assert_eq!(output(&["json"], b""), b"");
 }
 
@@ -62,8 +65,10 @@ fn rules_answers_questions() {
 
 /// A program's answers to 400 lines of a kind that is made for it.
 fn answers_to_made(kind: &str, program: &str) -> Vec<u8> {
-    let cases = output(&["gen", kind, "4", "400"], b"");
-    assert_eq!(cases, output(&["gen", kind, "4", "400"], b""));
+    // A ceiling stands before each text on a line of its own.
+    let count = if kind == "ceilings" { "200" } else { "400" };
+    let cases = output(&["gen", kind, "4", count], b"");
+    assert_eq!(cases, output(&["gen", kind, "4", count], b""));
     assert_eq!(cases.iter().filter(|byte| **byte == b'\n').count(), 400);
     let answers = output(&[program], &cases);
     assert_eq!(answers.iter().filter(|byte| **byte == b'\n').count(), 400);
@@ -84,6 +89,7 @@ fn gen_feeds_the_programs_and_count_counts() {
         ("probe", "probe"),
         ("photos", "probe"),
         ("utf8", "probe"),
+        ("ceilings", "probe"),
     ] {
         let answers = answers_to_made(kind, program);
         let counts = String::from_utf8(output(&["count"], &answers)).unwrap();
@@ -104,6 +110,7 @@ fn wrong_arguments_give_usage_and_2() {
         &["json", "x"],
         &["rule"],
         &["photos"],
+        &["ceilings"],
         &["gen"],
         &["gen", "keep", "1"],
         &["gen", "keep", "x", "1"],

@@ -7,6 +7,13 @@ pub struct ReadAnswer {
 }
 
 #[repr(C)]
+pub struct CountAnswer {
+    pub number: u8,
+    pub place: usize,
+    pub count: usize,
+}
+
+#[repr(C)]
 pub struct EventAnswer {
     pub number: u8,
     pub word: u8,
@@ -31,6 +38,11 @@ pub struct RemoveAnswer {
 
 extern "C" {
     pub fn net119_read(message: *const u8, message_length: usize) -> ReadAnswer;
+    pub fn net119_read_within(
+        message: *const u8,
+        message_length: usize,
+        ceiling: u32,
+    ) -> CountAnswer;
     pub fn net119_blank(table: *mut u8, table_length: usize, count: usize) -> u8;
     pub fn net119_well_formed(table: *const u8, table_length: usize) -> bool;
     pub fn net119_message(
@@ -39,6 +51,14 @@ extern "C" {
         time: u64,
         message: *const u8,
         message_length: usize,
+    ) -> EventAnswer;
+    pub fn net119_message_within(
+        table: *mut u8,
+        table_length: usize,
+        time: u64,
+        message: *const u8,
+        message_length: usize,
+        ceiling: u32,
     ) -> EventAnswer;
     pub fn net119_tick(
         table: *mut u8,

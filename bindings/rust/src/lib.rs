@@ -30,6 +30,9 @@ mod ffi;
 /// The longest message, read or written.
 pub const LONGEST: usize = 32_768;
 
+/// The ceiling of JSON values at which every function reads that is not handed one: no JSON text of `LONGEST` bytes passes it.
+pub const CEILING: u32 = 16_384;
+
 /// The length of a table of so many records, 1 to 255.
 pub const fn table_length(count: usize) -> usize {
     16 + 160 * count
@@ -65,14 +68,21 @@ pub struct Accepted {
     pub state: Option<State>,
 }
 
-/// A message that is not accepted: a number from 2 to 10, and its place.
+/// A message that is not accepted: a number from 2 to 11, and its place.
 #[derive(Debug, Clone, Copy, PartialEq, Eq, Hash)]
 pub struct Unread {
     pub number: u8,
     pub place: usize,
 }
 
-/// A refused event: a number from 1 to 10 or 20 to 28, its place, and the status code that the sender is due.
+/// What was read under a ceiling: whether it is accepted, and how many JSON values it has, 0 where refused by 2 to 5 or 11.
+#[derive(Debug, Clone, Copy, PartialEq, Eq, Hash)]
+pub struct Counted {
+    pub read: Result<(), Unread>,
+    pub count: usize,
+}
+
+/// A refused event: a number from 1 to 11 or 20 to 28, its place, and the status code that the sender is due.
 #[derive(Debug, Clone, Copy, PartialEq, Eq, Hash)]
 pub struct Refused {
     pub number: u8,
@@ -107,15 +117,19 @@ pub struct Removed<'m> {
 
 // Each call below hands over slices, which are valid for their lengths, and exclusive ones for what is written: all that the header asks.
 
-/// Reads a message: whether it is accepted.
+/// Reads a message, at `CEILING`: whether it is accepted.
 pub fn read(message: &[u8]) -> Result<(), Unread> {
     let answer = unsafe { ffi::net119_read(message.as_ptr(), message.len()) };
-    match answer.number {
-        0 => Ok(()),
-        number => Err(Unread {
-            number,
-            place: answer.place,
-        }),
+    unread(answer.number, answer.place)
+}
+
+/// Reads a message under a ceiling of JSON values, and counts them: the outermost, every element and every member's value, names not. The count
+/// is at most the ceiling.
+pub fn read_within(message: &[u8], ceiling: u32) -> Counted {
+    let answer = unsafe { ffi::net119_read_within(message.as_ptr(), message.len(), ceiling) };
+    Counted {
+        read: unread(answer.number, answer.place),
+        count: answer.count,
     }
 }
 
@@ -132,7 +146,7 @@ pub fn well_formed(table: &[u8]) -> bool {
     unsafe { ffi::net119_well_formed(table.as_ptr(), table.len()) }
 }
 
-/// A message that came at a time, in milliseconds.
+/// A message that came at a time, in milliseconds; it is read at `CEILING`.
 pub fn message(table: &mut [u8], time: u64, message: &[u8]) -> Result<Accepted, Refused> {
     event(unsafe {
         ffi::net119_message(
@@ -141,6 +155,26 @@ pub fn message(table: &mut [u8], time: u64, message: &[u8]) -> Result<Accepted, 
             time,
             message.as_ptr(),
             message.len(),
+        )
+    })
+}
+
+/// The same under a ceiling of JSON values. Give every message on one table the same: only then is it proved that the order of two events of
+/// different calls does not matter.
+pub fn message_within(
+    table: &mut [u8],
+    time: u64,
+    message: &[u8],
+    ceiling: u32,
+) -> Result<Accepted, Refused> {
+    event(unsafe {
+        ffi::net119_message_within(
+            table.as_mut_ptr(),
+            table.len(),
+            time,
+            message.as_ptr(),
+            message.len(),
+            ceiling,
         )
     })
 }
@@ -222,6 +256,13 @@ pub fn remove<'m>(
             next_host: &message[answer.host_start..answer.host_end],
         }),
         number => Err(Unwritten { number }),
+    }
+}
+
+fn unread(number: u8, place: usize) -> Result<(), Unread> {
+    match number {
+        0 => Ok(()),
+        number => Err(Unread { number, place }),
     }
 }
 

@@ -1,7 +1,8 @@
 //! Events on a table of one record: word and state of what is accepted; number, place and reply of what is refused.
 
 use net119::{
-    blank, message, table_length, tick, well_formed, Accepted, Refused, State, Word, WrongSize,
+    blank, message, message_within, read_within, table_length, tick, well_formed, Accepted,
+    Counted, Refused, State, Unread, Word, WrongSize, CEILING,
 };
 
 const INVITE: &str = r#","Session-ID":"S1.nx","Call-Mode":"emergency","Call-Test":0,"Secure-Call":true,"Rescuee":"caller","Request-Service":"ambulance","Language":"ja","Locations":[],"User-Agent":"","Caller":{}"#;
@@ -120,4 +121,29 @@ fn refusals_say_where_and_what_is_due_and_leave_the_table() {
     assert_eq!(message(&mut [], 2000, &invite), refused(1, 0, None));
     assert_eq!(blank(&mut table, 2), Err(WrongSize));
     assert_eq!(table, before);
+}
+
+#[test]
+fn a_budget_of_values() {
+    let mut table = blank_table();
+    let invite = made("request", "A1.nx", "1 INVITE", INVITE);
+    let Counted { read, count } = read_within(&invite, CEILING);
+    assert_eq!((read, count), (Ok(()), 23));
+    let enough = u32::try_from(count).unwrap();
+    assert_eq!(read_within(&invite, enough).read, Ok(()));
+    // The last value is Caller's, an object.
+    let place = invite.len() - 4;
+    let less = Counted {
+        read: Err(Unread { number: 11, place }),
+        count: 0,
+    };
+    assert_eq!(read_within(&invite, enough - 1), less);
+    let before = table;
+    assert_eq!(
+        message_within(&mut table, 1000, &invite, enough - 1),
+        refused(11, place, None)
+    );
+    assert_eq!(table, before);
+    let calling = accepted(Word::Pass, Some(State::Calling));
+    assert_eq!(message_within(&mut table, 1000, &invite, enough), calling);
 }

@@ -71,7 +71,7 @@ waitingReply Nobody r = 0
 waitingReply Requester r = reasonReply 481 r
 waitingReply CallbackRequester r = reasonReply 404 r
 
--- a refusal's number, place and reply; the place is 0 but for 2 to 10
+-- a refusal's number, place and reply; the place is 0 but for 2 to 11
 abbrev pub refusalNumber : Refusal → ℕ
 refusalNumber Table = 1
 refusalNumber (Reading n p) = n

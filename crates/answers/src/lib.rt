@@ -57,7 +57,7 @@ pub enum Waiting {
 pub enum Refusal {
     // 1: the table is not well-formed.
     Table,
-    // 2 to 10: the number that the reading gave, and its place.
+    // 2 to 11: the number that the reading gave, and its place.
     Reading(u8, usize),
     // 28: a ping or a pong.
     PingPong,
@@ -146,7 +146,7 @@ pub fn number(f: Refusal) -> u8
     }
 }
 
-// A refusal's place: 0 but for 2 to 10.
+// A refusal's place: 0 but for 2 to 11.
 pub fn place(f: Refusal) -> usize
     ensures { λ r. ⌜ r ≡ refusalPlace f ⌝ }
 {

@@ -1,7 +1,7 @@
 -- The rule of one call (01 Events): its record or none, an event and the time, to an answer and what becomes of the record.
 -- The checks in the order of the paper's table, of which the first that fails answers, and what says each:
 --
---   1, 2 to 10, 28   the table, the reading, a ping or pong   the keeper, before this rule (`onMessage`, `onTick`)
+--   1, 2 to 11, 28   the table, the reading, a ping or pong   the keeper, before this rule (`onMessage`, `onTick`)
 --   20               no such call (an INVITE request aside)   `decided`, where there is no record: `decidedUnheld`, `requestUnheld`
 --   21               user or a Fire-ID differs                `firstChecks`
 --   22               time below the last time                 `firstChecks`; then what Requests, Responses or Ticks say of the event:

@@ -41,117 +41,118 @@ use mathlib.Core.Option.{none, some}
 use mathlib.Core.Path.{_≡_, refl}
 
 -- the same place, and the same record, by either search
-module _ (id t : List ℕ) where
-  place-at : (k : ℕ) → placeNamed id t ≡ At k → lifted.place ours id t ≡ k
+module _ (c : ℕ) (id t : List ℕ) where
+  place-at : (k : ℕ) → placeNamed id t ≡ At k → lifted.place (ours c) id t ≡ k
   place-at k e = first-is (λ j. isNamed id (recordAt t j)) (recordCount t) k (found id t k e)
 
-  look-at : (k : ℕ) → placeNamed id t ≡ At k → lifted.look ours id t ≡ some (recordAt t k)
+  look-at : (k : ℕ) → placeNamed id t ≡ At k → lifted.look (ours c) id t ≡ some (recordAt t k)
   look-at k e = rw (place-at k e, lt-ltb k (recordCount t) (found id t k e .inside))
 
-  look-none : placeNamed id t ≡ Nothing → lifted.look ours id t ≡ none
+  look-none : placeNamed id t ≡ Nothing → lifted.look (ours c) id t ≡ none
   look-none e = rw (le-ltb (first (λ j. isNamed id (recordAt t j)) (recordCount t)) (recordCount t)
       (first-none (λ j. isNamed id (recordAt t j)) (recordCount t) (not-found id t e)))
 
-  pub look-is : lifted.look ours id t ≡ recordNamed id t
+  pub look-is : lifted.look (ours c) id t ≡ recordNamed id t
   unfolding recordNamed
   look-is = go (placeNamed id t) refl
     where
-      go : (f : Found) → placeNamed id t ≡ f → lifted.look ours id t ≡ recordIn t f
+      go : (f : Found) → placeNamed id t ≡ f → lifted.look (ours c) id t ≡ recordIn t f
       go (At k) e = look-at k e
       go Nothing e = look-none e
 
 -- the answer and the table, of `lifting` and of the keeper
-pub record Agrees (t : List ℕ) (e : Event) (s : Step) : Type 0 where
-  pub answers : lifted.answer ours t e ≡ s .answer
-  pub tables : lifted.next ours t e ≡ s .table
+pub record Agrees (c : ℕ) (t : List ℕ) (e : Event) (s : Step) : Type 0 where
+  pub answers : lifted.answer (ours c) t e ≡ s .answer
+  pub tables : lifted.next (ours c) t e ≡ s .table
 
-module _ (t : List ℕ) (e : Event) (id : List ℕ) (by : nameOf e ≡ some id) where
+module _ (c : ℕ) (t : List ℕ) (e : Event) (id : List ℕ) (by : nameOf c e ≡ some id) where
   -- on the call's record
-  store-kept : (k h : ℕ) (b : Bool) → k < recordCount t → (after : After) → lifted.store ours t k h (some (recordAt t k)) (altered (recordAt t k) after) b ≡ tableAfter t k after
+  store-kept : (k h : ℕ) (b : Bool) → k < recordCount t → (after : After)
+      → lifted.store (ours c) t k h (some (recordAt t k)) (altered (recordAt t k) after) b ≡ tableAfter t k after
   store-kept k h b i Same = with-itself t k i
-  store-kept k h b i (Set c) = refl
+  store-kept k h b i (Set d) = refl
   store-kept k h b i Free = refl
 
-  on-old : (k : ℕ) (o : Outcome) → placeNamed id t ≡ At k → rule e (some (recordAt t k)) ≡ toOld (recordAt t k) o
-      → Agrees t e (record { answer = o .answer; table = tableAfter t k (o .after) })
+  on-old : (k : ℕ) (o : Outcome) → placeNamed id t ≡ At k → rule c e (some (recordAt t k)) ≡ toOld (recordAt t k) o
+      → Agrees c t e (record { answer = o .answer; table = tableAfter t k (o .after) })
   unfolding lifted.answer lifted.next lifted.answerTo lifted.nextTo
   on-old k o p r =
       record {
-        answers = rw (by, look-at id t k p, r);
-        tables = rw (by, look-at id t k p, place-at id t k p, r) (store-kept k (lifted.hole ours t) (isAt (freePlace t)) (found id t k p .inside) (o .after));
+        answers = rw (by, look-at c id t k p, r);
+        tables = rw (by, look-at c id t k p, place-at c id t k p, r) (store-kept k (lifted.hole (ours c) t) (isAt (freePlace t)) (found id t k p .inside) (o .after));
       }
 
   -- on none, where none is opened
-  on-none : (a : Answer) → placeNamed id t ≡ Nothing → rule e none ≡ (a, none) → Agrees t e (record { answer = a; table = t })
+  on-none : (a : Answer) → placeNamed id t ≡ Nothing → rule c e none ≡ (a, none) → Agrees c t e (record { answer = a; table = t })
   unfolding lifted.answer lifted.next lifted.answerTo lifted.nextTo
-  on-none a p r = record { answers = rw (by, look-none id t p, r); tables = rw (by, look-none id t p, r) }
+  on-none a p r = record { answers = rw (by, look-none c id t p, r); tables = rw (by, look-none c id t p, r) }
 
   -- on none, where one is opened: at the lowest free record, or turned away
-  on-room : (a : Answer) (x : List ℕ) (k : ℕ) → placeNamed id t ≡ Nothing → rule e none ≡ (a, some x) → freePlace t ≡ At k
-      → Agrees t e (record { answer = a; table = withRecord t k x })
+  on-room : (a : Answer) (x : List ℕ) (k : ℕ) → placeNamed id t ≡ Nothing → rule c e none ≡ (a, some x) → freePlace t ≡ At k
+      → Agrees c t e (record { answer = a; table = withRecord t k x })
   unfolding lifted.answer lifted.next lifted.answerTo lifted.nextTo
   on-room a x k p r f =
-      let h : lifted.hole ours t ≡ k = first-is (λ j. isFree (recordAt t j)) (recordCount t) k (free-found t k f) in
-      record { answers = rw (by, look-none id t p, r, f); tables = rw (by, look-none id t p, r, f, h) }
+      let h : lifted.hole (ours c) t ≡ k = first-is (λ j. isFree (recordAt t j)) (recordCount t) k (free-found t k f) in
+      record { answers = rw (by, look-none c id t p, r, f); tables = rw (by, look-none c id t p, r, f, h) }
 
-  on-full : (a : Answer) (x : List ℕ) → placeNamed id t ≡ Nothing → rule e none ≡ (a, some x) → freePlace t ≡ Nothing
-      → Agrees t e (record { answer = Refused (Ruled NoRoom Requester); table = t })
+  on-full : (a : Answer) (x : List ℕ) → placeNamed id t ≡ Nothing → rule c e none ≡ (a, some x) → freePlace t ≡ Nothing
+      → Agrees c t e (record { answer = Refused (Ruled NoRoom Requester); table = t })
   unfolding lifted.answer lifted.next lifted.answerTo lifted.nextTo
-  on-full a x p r f = record { answers = rw (by, look-none id t p, r, f); tables = rw (by, look-none id t p, r, f) }
+  on-full a x p r f = record { answers = rw (by, look-none c id t p, r, f); tables = rw (by, look-none c id t p, r, f) }
 
 -- an event that names no call
-on-mute : (t : List ℕ) (e : Event) (a : Answer) → nameOf e ≡ none → ours .mute e ≡ a → Agrees t e (record { answer = a; table = t })
+on-mute : (c : ℕ) (t : List ℕ) (e : Event) (a : Answer) → nameOf c e ≡ none → ours c .mute e ≡ a → Agrees c t e (record { answer = a; table = t })
 unfolding lifted.answer lifted.next
-on-mute t e a by m = record { answers = rw by m; tables = rw by }
+on-mute c t e a by m = record { answers = rw by m; tables = rw by }
 
-module _ (t : List ℕ) (now : Time) (s : List ℕ) (m : Message) (is : reading s ≡ readings.Read m) where
+module _ (c : ℕ) (t : List ℕ) (now : Time) (s : List ℕ) (m : Message) (is : reading c s ≡ readings.Read m) where
   abbrev event : Event
   event = message now s
 
   abbrev outcome : Outcome
   outcome = decided Unheld (eventOf m false) (now .milliseconds)
 
-  on-asked : nameOf event ≡ some (callIdOf s m) → (f : Found) → placeNamed (callIdOf s m) t ≡ f → Agrees t event (askedAt t (now .milliseconds) s m f)
+  on-asked : nameOf c event ≡ some (callIdOf s m) → (f : Found) → placeNamed (callIdOf s m) t ≡ f → Agrees c t event (askedAt t (now .milliseconds) s m f)
   on-asked by (At k) p =
-      on-old t event (callIdOf s m) by k (decided (Is (callAt t k)) (eventOf m (agreesAt t s m k)) (now .milliseconds)) p (rw is)
+      on-old c t event (callIdOf s m) by k (decided (Is (callAt t k)) (eventOf m (agreesAt t s m k)) (now .milliseconds)) p (rw is)
   on-asked by Nothing p = go (outcome .answer) (outcome .after) (rw is)
     where
-      room : (a : Answer) (c : Call) → rule event none ≡ (a, some (recordFor s m c)) → (f : Found) → freePlace t ≡ f → Agrees t event (takenAt t s m a c f)
-      room a c r (At k) q = on-room t event (callIdOf s m) by a (recordFor s m c) k p r q
-      room a c r Nothing q = on-full t event (callIdOf s m) by a (recordFor s m c) p r q
+      room : (a : Answer) (d : Call) → rule c event none ≡ (a, some (recordFor s m d)) → (f : Found) → freePlace t ≡ f → Agrees c t event (takenAt t s m a d f)
+      room a d r (At k) q = on-room c t event (callIdOf s m) by a (recordFor s m d) k p r q
+      room a d r Nothing q = on-full c t event (callIdOf s m) by a (recordFor s m d) p r q
 
-      go : (a : Answer) (after : After) → rule event none ≡ (a, opened s m after) → Agrees t event (taken t s m a after)
-      go a Same r = on-none t event (callIdOf s m) by a p r
-      go a (Set c) r = room a c r (freePlace t) refl
-      go a Free r = on-none t event (callIdOf s m) by a p r
+      go : (a : Answer) (after : After) → rule c event none ≡ (a, opened s m after) → Agrees c t event (taken t s m a after)
+      go a Same r = on-none c t event (callIdOf s m) by a p r
+      go a (Set d) r = room a d r (freePlace t) refl
+      go a Free r = on-none c t event (callIdOf s m) by a p r
 
-on-read : (t : List ℕ) (now : Time) (s : List ℕ) (r : Reading) → reading s ≡ r → Agrees t (message now s) (onReading t (now .milliseconds) s r)
+on-read : (c : ℕ) (t : List ℕ) (now : Time) (s : List ℕ) (r : Reading) → reading c s ≡ r → Agrees c t (message now s) (onReading t (now .milliseconds) s r)
 unfolding nameOf
-on-read t now s (readings.Refused n p) e = on-mute t (message now s) _ (rw e) (rw e)
-on-read t now s (readings.Read m) e = go (ltb 2 (m .tag)) refl
+on-read c t now s (readings.Refused n p) e = on-mute c t (message now s) _ (rw e) (rw e)
+on-read c t now s (readings.Read m) e = go (ltb 2 (m .tag)) refl
   where
-    go : (b : Bool) → ltb 2 (m .tag) ≡ b → Agrees t (message now s) (onReading t (now .milliseconds) s (readings.Read m))
-    go true w = rw w (on-mute t (message now s) _ (rw (e, w)) (rw e))
-    go false w = rw w (on-asked t now s m e (rw (e, w)) (placeNamed (callIdOf s m) t) refl)
+    go : (b : Bool) → ltb 2 (m .tag) ≡ b → Agrees c t (message now s) (onReading t (now .milliseconds) s (readings.Read m))
+    go true w = rw w (on-mute c t (message now s) _ (rw (e, w)) (rw e))
+    go false w = rw w (on-asked c t now s m e (rw (e, w)) (placeNamed (callIdOf s m) t) refl)
 
-on-ticked : (t : List ℕ) (now : Time) (id : List ℕ) → callIdRule id ≡ true → (f : Found) → placeNamed id t ≡ f → Agrees t (tick now id) (tickedAt t (now .milliseconds) f)
+on-ticked : (c : ℕ) (t : List ℕ) (now : Time) (id : List ℕ) → callIdRule id ≡ true → (f : Found) → placeNamed id t ≡ f → Agrees c t (tick now id) (tickedAt t (now .milliseconds) f)
 unfolding nameOf
-on-ticked t now id b (At k) p = on-old t (tick now id) id (rw b) k (decided (Is (callAt t k)) Tick (now .milliseconds)) p refl
-on-ticked t now id b Nothing p = on-none t (tick now id) id (rw b) (decided Unheld Tick (now .milliseconds) .answer) p refl
+on-ticked c t now id b (At k) p = on-old c t (tick now id) id (rw b) k (decided (Is (callAt t k)) Tick (now .milliseconds)) p refl
+on-ticked c t now id b Nothing p = on-none c t (tick now id) id (rw b) (decided Unheld Tick (now .milliseconds) .answer) p refl
 
-on-message : (t : List ℕ) (now : Time) (s : List ℕ) → wellFormed t ≡ true → Agrees t (message now s) (onMessage t (now .milliseconds) s)
+on-message : (c : ℕ) (t : List ℕ) (now : Time) (s : List ℕ) → wellFormed t ≡ true → Agrees c t (message now s) (onMessage c t (now .milliseconds) s)
 unfolding onMessage
-on-message t now s w = rw w (on-read t now s (reading s) refl)
+on-message c t now s w = rw w (on-read c t now s (reading c s) refl)
 
-on-tick : (t : List ℕ) (now : Time) (id : List ℕ) → wellFormed t ≡ true → Agrees t (tick now id) (onTick t (now .milliseconds) id)
+on-tick : (c : ℕ) (t : List ℕ) (now : Time) (id : List ℕ) → wellFormed t ≡ true → Agrees c t (tick now id) (onTick t (now .milliseconds) id)
 unfolding nameOf onTick
-on-tick t now id w = go (callIdRule id) refl
+on-tick c t now id w = go (callIdRule id) refl
   where
-    go : (b : Bool) → callIdRule id ≡ b → Agrees t (tick now id) (onTick t (now .milliseconds) id)
-    go true e = rw (w, e) (on-ticked t now id e (placeNamed id t) refl)
-    go false e = rw (w, e) (on-mute t (tick now id) _ (rw e) refl)
+    go : (b : Bool) → callIdRule id ≡ b → Agrees c t (tick now id) (onTick t (now .milliseconds) id)
+    go true e = rw (w, e) (on-ticked c t now id e (placeNamed id t) refl)
+    go false e = rw (w, e) (on-mute c t (tick now id) _ (rw e) refl)
 
 -- on a well-formed table both say the same
-pub agrees : (t : List ℕ) (e : Event) → wellFormed t ≡ true → Agrees t e (eventStep t e)
-agrees t (message now s) w = on-message t now s w
-agrees t (tick now id) w = on-tick t now id w
+pub agrees : (c : ℕ) (t : List ℕ) (e : Event) → wellFormed t ≡ true → Agrees c t e (eventStep c t e)
+agrees c t (message now s) w = on-message c t now s w
+agrees c t (tick now id) w = on-tick c t now id w

@@ -1,10 +1,13 @@
--- Both sides of the mark (01), proved together. Assumes nothing.
+-- Both sides of the mark (01), proved together; the reading's at the program's ceiling, as the list has it. Assumes nothing.
 use Rattle.call.specs.Rule.{decidedHeld}
 use Rattle.call.specs.Requests.{request}
 use Rattle.exchange.specs.Marks.{Every, marks}
+use Rattle.json.specs.inner.Begun as json
+use Rattle.json.specs.inner.Begun.{begun}
 use Rattle.json.specs.inner.Machine.{from, walk, step, begin, opens, point, expo, ends}
+use Rattle.json.specs.inner.Tour.{tour}
 use Rattle.json.specs.Places.{isWs}
-use Rattle.message.specs.Reading.{reading}
+use Rattle.message.specs.Reading.{ample, reading, reporting}
 use Rattle.message.specs.declared.reading.Reading.the-variants.{Refused}
 use Rattle.octets.specs.Ascii.{ascii}
 use Rattle.octets.specs.Class.{among}
@@ -12,8 +15,8 @@ use Rattle.rules.proofs.Marks.{call-ids, sequences, dates}
 use Rattle.utf8.specs.Rfc3629.{octets, charAt, begins, goesOn}
 use mathlib.Core.Path.{_≡_, refl}
 
-number : reading (ascii "[01]") ≡ Refused 4 2
-unfolding reading octets charAt begins among goesOn from walk step isWs begin opens point expo ends
+number : reading ample (ascii "[01]") ≡ Refused 4 2
+unfolding reading reporting octets charAt begins among goesOn tour begun json.begins from walk step isWs begin opens point expo ends
 number = refl
 
 pub both-sides : Every marks

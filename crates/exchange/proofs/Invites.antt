@@ -1,6 +1,10 @@
--- Two INVITEs that differ in their Call-ID alone, and what is read of them, by computation. Assumes nothing.
-use Prim.Native.Nat.{ℕ}
+-- Two INVITEs that differ in their Call-ID alone, and what is read of them, by computation: under every ceiling that has room for their 23 JSON
+-- values, and so at the program's 16,384. Assumes nothing.
+use Prim.Native.Nat.{ℕ, zero, suc, _-_, _≤_}
+use Rattle.json.specs.inner.Begun as json
+use Rattle.json.specs.inner.Begun.{begun}
 use Rattle.json.specs.inner.Machine.{opens, begin, due, ends, step, stops, walk, from, point, expo}
+use Rattle.json.specs.inner.Tour.{tour}
 use Rattle.json.specs.Places.{part, spaces, past, isOpen, isShut, isMark, left, unmarked, size, behind, closing, raw, next, isWs, lastOf, prevOf}
 use Rattle.json.specs.Places.{valueOf, follows, more, memberAt, membersFrom, members, elementsFrom, elements}
 use Rattle.message.specs.Checks.{lacks, breaks, lowest, checked}
@@ -8,7 +12,7 @@ use Rattle.fields.specs.Field.{oneOf, addressRule, keeps}
 use Rattle.fields.specs.Known.{numberAt, has, note, noted, repeated}
 use Rattle.message.specs.Message.{numberOf, methodOf, fromCaller, toCaller, contentAt, codeOf, secureOf, settingOf, messageOf}
 use Rattle.message.specs.Message.{sameSide, wrongSide, wrongNumber, sidesDisagree, callbackTraining, requestDisagrees, disagrees, callerPlace, calleePlace}
-use Rattle.message.specs.Reading.{agreed, settled, judged, known, shaped, reading}
+use Rattle.message.specs.Reading.{agreed, settled, judged, known, shaped, reading, reporting}
 use Rattle.fields.specs.Trail.{trailOf, trailIn, moved}
 use Rattle.message.specs.Shape.{tagAt, tagOf, objectOf}
 use Rattle.fields.specs.Spans.{textAt, spanIn, textSpan}
@@ -31,7 +35,8 @@ use Rattle.rules.specs.Texts.{callIdRule, hostRule, destinationRule, organizati
 use Rattle.utf8.specs.Rfc3629.{begins, goesOn, charAt, octets}
 use mathlib.Core.Bool.{true, false}
 use mathlib.Core.List.{List, _++_}
-use mathlib.Core.Path.{_≡_, refl}
+use mathlib.Core.Path.{_≡_, refl, subst}
+use native.Mathlib.Omega.{arith}
 
 -- an INVITE of this Call-ID
 abbrev pub inviteOf : List ℕ → List ℕ
@@ -64,13 +69,25 @@ invite =
       trail = record { count = 1; last = 152; end = 216; seam = 151; host = record { start = 151; end = 151 } };
     }
 
-pub invites-read : (reading (inviteOf (ascii "A1.nx")) ≡ Read invite) × (reading (inviteOf (ascii "B2.nx")) ≡ Read invite)
+-- what is read of the two under a ceiling of c values
+abbrev pub BothRead : ℕ → Type 0
+BothRead c = (reading c (inviteOf (ascii "A1.nx")) ≡ Read invite) × (reading c (inviteOf (ascii "B2.nx")) ≡ Read invite)
+
+-- n more than c, one by one, so that it computes
+abbrev and-more : ℕ → ℕ → ℕ
+and-more zero c = c
+and-more (suc n) c = suc (and-more n c)
+
+read-above : (c : ℕ) → BothRead (and-more 23 c)
 unfolding among isDigit isLower isUpper isLetter isAlnum all same standsAt begins goesOn charAt octets isWs opens begin due ends step stops walk from point expo
-    part spaces past isOpen isShut isMark left unmarked size behind closing raw next valueOf follows more memberAt membersFrom members elementsFrom elements
+    tour begun json.begins part spaces past isOpen isShut isMark left unmarked size behind closing raw next valueOf follows more memberAt membersFrom members elementsFrom elements
     sequenceRule numberEnd sequenceOf runLength digits decimalAt wordNumberFrom within reads leap daysIn dateRule callerRule calleeRule userEnd callerEnd calleeEnd addressOf
     callIdRule hostRule destinationRule organizationRule languageRule noBackslash holds isIn tagAsks methodAsks textAt spanIn textSpan numberOf methodOf
     fromCaller toCaller contentAt codeOf secureOf settingOf sameSide wrongSide wrongNumber sidesDisagree callbackTraining requestDisagrees disagrees callerPlace
-    calleePlace messageOf agreed settled judged known shaped reading lacks breaks lowest checked isString isArray isObject textOf freely ruled tagAt tagOf objectOf
+    calleePlace messageOf agreed settled judged known shaped reading reporting lacks breaks lowest checked isString isArray isObject textOf freely ruled tagAt tagOf objectOf
     oneOf addressRule keeps hopPlaces hopRule hopKeeps isHop viaRule numberAt has note noted repeated pieces.pieceEnd
     pieces.hasPiece sequence.cseqNumber sequence.cseqMethod lastOf prevOf trailOf trailIn moved
-invites-read = (refl, refl)
+read-above c = (refl, refl)
+
+pub invites-read : (c : ℕ) → 23 ≤ c → BothRead c
+invites-read c room = let e : and-more 23 (c - 23) ≡ c = omega arith in subst BothRead e (read-above (c - 23))

@@ -1,4 +1,4 @@
--- The keeper's table and rule, put in for the parameters of `lifting`. Assumes nothing.
+-- The keeper's table and rule under a ceiling of c JSON values, put in for the parameters of `lifting`. Assumes nothing.
 use Prim.Native.Nat.{ℕ}
 use Rattle.call.specs.Rule.{decided}
 use Rattle.answers.specs.declared.Answer.the-variants.{Refused}
@@ -38,9 +38,9 @@ abbrev muteRead : Reading → Answer
 muteRead (readings.Refused n p) = Refused (Unread n p)
 muteRead (readings.Read m) = Refused PingPong
 
-abbrev pub mute : Event → Answer
-mute (message now s) = muteRead (reading s)
-mute (tick now id) = Refused (Unread 9 0)
+abbrev pub mute : ℕ → Event → Answer
+mute c (message now s) = muteRead (reading c s)
+mute c (tick now id) = Refused (Unread 9 0)
 
 -- the record of a call that is new, or that had the record r
 abbrev pub opened : List ℕ → Message → After → Option (List ℕ)
@@ -70,9 +70,9 @@ abbrev pub ruleTick : ℕ → Option (List ℕ) → Answer × Option (List ℕ)
 ruleTick now none = (decided Unheld Tick now .answer, none)
 ruleTick now (some r) = toOld r (decided (Is (callOf (recordFields r))) Tick now)
 
-abbrev pub rule : Event → Option (List ℕ) → Answer × Option (List ℕ)
-rule (message now s) r = ruleRead (now .milliseconds) s (reading s) r
-rule (tick now id) r = ruleTick (now .milliseconds) r
+abbrev pub rule : ℕ → Event → Option (List ℕ) → Answer × Option (List ℕ)
+rule c (message now s) r = ruleRead (now .milliseconds) s (reading c s) r
+rule c (tick now id) r = ruleTick (now .milliseconds) r
 
 -- a new call is admitted where some record is free
 abbrev pub isAt : Found → Bool
@@ -85,8 +85,8 @@ pub record Fit (r : List ℕ) : Type 0 where
   pub sound : recordSound r ≡ true
   pub fitting : Fitting (recordFields r)
 
-abbrev pub ours : Keeper
-ours =
+abbrev pub ours : ℕ → Keeper
+ours c =
     record {
       Tab = List ℕ;
       Rec = List ℕ;
@@ -99,9 +99,9 @@ ours =
       free = isFree;
       named = isNamed;
       blank = freeRecord;
-      names = nameOf;
-      mute = mute;
-      rule = rule;
+      names = nameOf c;
+      mute = mute c;
+      rule = rule c;
       admits = λ t e. isAt (freePlace t);
       turned = λ e. Refused (Ruled NoRoom Requester);
       Fit = Fit;

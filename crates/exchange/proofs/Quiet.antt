@@ -45,7 +45,7 @@ either : (t : List ℕ) (b : Bool) (x y : Step) → (b ≡ true → Quiet t x) �
 either t true x y p q = p refl
 either t false x y p q = q refl
 
-module _ (t : List ℕ) (g : lifted.Good ours t) where
+module _ (c : ℕ) (t : List ℕ) (g : lifted.Good (ours c) t) where
   sound-at : (id : List ℕ) (k : ℕ) → placeNamed id t ≡ At k → Sound (callAt t k)
   sound-at id k p = let f = found id t k p in old-sound id (recordAt t k) (g .fit k (f .inside)) (f .passes)
 
@@ -54,26 +54,26 @@ module _ (t : List ℕ) (g : lifted.Good ours t) where
 
   taken-quiet : (s : List ℕ) (m : Message) (a : Answer) (after : After) → (isQuiet a ≡ true → after ≡ Same) → Quiet t (taken t s m a after)
   taken-quiet s m a Same f = record { stays = λ e. refl }
-  taken-quiet s m a (Set c) f = room (freePlace t)
+  taken-quiet s m a (Set d) f = room (freePlace t)
     where
-      room : (p : Found) → Quiet t (takenAt t s m a c p)
+      room : (p : Found) → Quiet t (takenAt t s m a d p)
       room (At k) = record { stays = λ e. absurd (let z : _≡_ {A = ℕ} 0 1 = (let q = f e in cc) in omega arith) }
       room Nothing = record { stays = λ e. refl }
   taken-quiet s m a Free f = record { stays = λ e. refl }
 
-  asked-quiet : (now : Time) (s : List ℕ) (m : Message) → reading s ≡ readings.Read m → ltb 2 (m .tag) ≡ false
+  asked-quiet : (now : Time) (s : List ℕ) (m : Message) → reading c s ≡ readings.Read m → ltb 2 (m .tag) ≡ false
       → (p : Found) → placeNamed (callIdOf s m) t ≡ p → Quiet t (askedAt t (now .milliseconds) s m p)
   asked-quiet now s m e l (At k) p =
-      let n = read-named s m e (ltb-false _ _ l) in
+      let n = read-named c s m e (ltb-false _ _ l) in
       let b = agreesAt t s m k in
       kept-quiet k (decided (Is (callAt t k)) (eventOf m b) (now .milliseconds))
       (decided-still (Is (callAt t k)) (eventOf m b) (now .milliseconds) (sound-at (callIdOf s m) k p) (numbered m b (n .number-low) (n .number-high)) (now .fits))
   asked-quiet now s m e l Nothing p =
-      let n = read-named s m e (ltb-false _ _ l) in
+      let n = read-named c s m e (ltb-false _ _ l) in
       taken-quiet s m (decided Unheld (eventOf m false) (now .milliseconds) .answer) (decided Unheld (eventOf m false) (now .milliseconds) .after)
       (decided-still Unheld (eventOf m false) (now .milliseconds) tt (numbered m false (n .number-low) (n .number-high)) (now .fits))
 
-  read-quiet : (now : Time) (s : List ℕ) (r : Reading) → reading s ≡ r → Quiet t (onReading t (now .milliseconds) s r)
+  read-quiet : (now : Time) (s : List ℕ) (r : Reading) → reading c s ≡ r → Quiet t (onReading t (now .milliseconds) s r)
   read-quiet now s (readings.Refused n p) e = record { stays = λ w. refl }
   read-quiet now s (readings.Read m) e =
       either t (ltb 2 (m .tag)) _ _ (λ w. record { stays = λ v. refl }) (λ w. asked-quiet now s m e w (placeNamed (callIdOf s m) t) refl)
@@ -83,9 +83,9 @@ module _ (t : List ℕ) (g : lifted.Good ours t) where
       kept-quiet k (decided (Is (callAt t k)) Tick (now .milliseconds)) (decided-still (Is (callAt t k)) Tick (now .milliseconds) (sound-at id k p) tt (now .fits))
   ticked-quiet now id Nothing p = record { stays = λ e. refl }
 
-  pub message-quiet : (now : Time) (s : List ℕ) → Quiet t (onMessage t (now .milliseconds) s)
+  pub message-quiet : (now : Time) (s : List ℕ) → Quiet t (onMessage c t (now .milliseconds) s)
   unfolding onMessage
-  message-quiet now s = either t (wellFormed t) _ _ (λ w. read-quiet now s (reading s) refl) (λ w. record { stays = λ v. refl })
+  message-quiet now s = either t (wellFormed t) _ _ (λ w. read-quiet now s (reading c s) refl) (λ w. record { stays = λ v. refl })
 
   pub tick-quiet : (now : Time) (id : List ℕ) → Quiet t (onTick t (now .milliseconds) id)
   unfolding onTick

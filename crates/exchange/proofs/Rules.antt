@@ -167,44 +167,44 @@ module _ (i r : List ℕ) (fit : Fit r) (own : isNamed i r ≡ true) where
   altered-own Free sound x e = none-some e
 
 -- a message that names a call
-pub record Says (s i : List ℕ) : Type 0 where
+pub record Says (c : ℕ) (s i : List ℕ) : Type 0 where
   pub said : Message
-  pub read : reading s ≡ readings.Read said
+  pub read : reading c s ≡ readings.Read said
   pub low : said .tag ≤ 2
   pub is : callIdOf s said ≡ i
 
-pub says : (s i : List ℕ) → nameRead s (reading s) ≡ some i → Says s i
-says s i = go (reading s) refl
+pub says : (c : ℕ) (s i : List ℕ) → nameRead s (reading c s) ≡ some i → Says c s i
+says c s i = go (reading c s) refl
   where
-    go : (r : Reading) → reading s ≡ r → nameRead s r ≡ some i → Says s i
+    go : (r : Reading) → reading c s ≡ r → nameRead s r ≡ some i → Says c s i
     go (readings.Refused n p) e w = none-some w
     go (readings.Read m) e w = by (ltb 2 (m .tag)) refl w
       where
-        by : (b : Bool) → ltb 2 (m .tag) ≡ b → cond b none (some (callIdOf s m)) ≡ some i → Says s i
+        by : (b : Bool) → ltb 2 (m .tag) ≡ b → cond b none (some (callIdOf s m)) ≡ some i → Says c s i
         by true q v = none-some v
         by false q v = record { said = m; read = e; low = ltb-false _ _ q; is = some-is v }
 
-new-own : (e : Event) (i x : List ℕ) → nameOf e ≡ some i → rule e none .1 ≡ some x → Fit x × (isNamed i x ≡ true)
+new-own : (c : ℕ) (e : Event) (i x : List ℕ) → nameOf c e ≡ some i → rule c e none .1 ≡ some x → Fit x × (isNamed i x ≡ true)
 unfolding nameOf
-new-own (message now s) i x w r =
-    let y = says s i w in
+new-own c (message now s) i x w r =
+    let y = says c s i w in
     let m = y .said in
-    let n = read-named s m (y .read) (y .low) in
+    let n = read-named c s m (y .read) (y .low) in
     rw (sym (y .is)) (opened-own s m n (decided Unheld (eventOf m false) (now .milliseconds) .after)
     (decided-sound Unheld (eventOf m false) (now .milliseconds) tt (numbered m false (n .number-low) (n .number-high)) (now .fits)) x (rw (y .read) at r))
-new-own (tick now id) i x w r = none-some r
+new-own c (tick now id) i x w r = none-some r
 
-keep-own : (e : Event) (i r x : List ℕ) → nameOf e ≡ some i → Fit r → isNamed i r ≡ true → rule e (some r) .1 ≡ some x → Fit x × (isNamed i x ≡ true)
+keep-own : (c : ℕ) (e : Event) (i r x : List ℕ) → nameOf c e ≡ some i → Fit r → isNamed i r ≡ true → rule c e (some r) .1 ≡ some x → Fit x × (isNamed i x ≡ true)
 unfolding nameOf
-keep-own (message now s) i r x w fit own q =
-    let y = says s i w in
+keep-own c (message now s) i r x w fit own q =
+    let y = says c s i w in
     let m = y .said in
-    let n = read-named s m (y .read) (y .low) in
+    let n = read-named c s m (y .read) (y .low) in
     let b = sameParties (userOf s m) (callerFireOf s m) (calleeFireOf s m) r in
     altered-own i r fit own (decided (Is (callOf (recordFields r))) (eventOf m b) (now .milliseconds) .after)
     (decided-sound (Is (callOf (recordFields r))) (eventOf m b) (now .milliseconds) (old-sound i r fit own) (numbered m b (n .number-low) (n .number-high)) (now .fits)) x
     (rw (y .read) at q)
-keep-own (tick now id) i r x w fit own q =
+keep-own c (tick now id) i r x w fit own q =
     altered-own i r fit own (decided (Is (callOf (recordFields r))) Tick (now .milliseconds) .after)
     (decided-sound (Is (callOf (recordFields r))) Tick (now .milliseconds) (old-sound i r fit own) tt (now .fits)) x q
 
@@ -256,11 +256,11 @@ admits-count t = go (searched (λ k. isFree (recordAt t k)) (recordCount t))
     go (at i q l) = rw (q, lt-ltb 0 _ (count-some (λ k. isFree (recordAt t k)) (recordCount t) i (l .inside) (l .passes)))
     go (nowhere q f) = rw (q, count-none (λ k. isFree (recordAt t k)) (recordCount t) f)
 
-admits-alike : (t u : List ℕ) (e : Event) → lifted.Good ours t → lifted.Good ours u → lifted.Alike ours t u → isAt (freePlace t) ≡ isAt (freePlace u)
-admits-alike t u e gt gu s = admits-count t ∙ ap (ltb 0) (s .tallies isFree) ∙ sym (admits-count u)
+admits-alike : (c : ℕ) (t u : List ℕ) (e : Event) → lifted.Good (ours c) t → lifted.Good (ours c) u → lifted.Alike (ours c) t u → isAt (freePlace t) ≡ isAt (freePlace u)
+admits-alike c t u e gt gu s = admits-count t ∙ ap (ltb 0) (s .tallies isFree) ∙ sym (admits-count u)
 
-pub laws : lifted.Laws ours
-laws =
+pub laws : (c : ℕ) → lifted.Laws (ours c)
+laws c =
     record {
       same-id = same-id;
       put-frame = frame-with;
@@ -272,8 +272,8 @@ laws =
       free-blank = free-blank;
       free-nameless = free-nameless;
       one-name = one-name;
-      new-own = new-own;
-      keep-own = keep-own;
+      new-own = new-own c;
+      keep-own = keep-own c;
       admits-room = admits-room;
-      admits-alike = admits-alike;
+      admits-alike = admits-alike c;
     }

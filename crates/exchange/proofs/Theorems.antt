@@ -1,5 +1,6 @@
 -- Demand 3 and its kin, over the keeper's public contracts: an event leaves a well-formed table well-formed, every other call's record as it
--- was and where it was, and the header; two neighbours that do not name the same Call-ID may change places. By `lifting`. Assumes nothing.
+-- was and where it was, and the header; two neighbours that do not name the same Call-ID may change places. For every ceiling c of
+-- JSON values, the same for every event of a run (02 §9). By `lifting`. Assumes nothing.
 use Rattle.octets.proofs.TestLaws.{and-both, and-parts, clash}
 use Prim.Native.Nat.{ℕ, _+_, _-_, _*_, _≤_, _<_}
 use Rattle.answers.specs.Answer.{isQuiet}
@@ -60,8 +61,8 @@ module _ (t : List ℕ) (bytes : AllBytes t) (k : ℕ) (h : k < recordCount t) w
   unfolding recordFields capacity
   fitting = record { caller = below 120 4 (omega arith); callee = below 124 4 (omega arith); last = below 128 8 (omega arith) }
 
-well-good : (t : List ℕ) → AllBytes t → wellFormed t ≡ true → lifted.Good ours t
-well-good t b w =
+well-good : (c : ℕ) (t : List ℕ) → AllBytes t → wellFormed t ≡ true → lifted.Good (ours c) t
+well-good c t b w =
     record {
       frame = frame-of t w;
       fit = λ k h. record { long = length-record t k h; sound = record-of t w k h; fitting = fitting t b k h };
@@ -80,9 +81,9 @@ apart-of r s f = go (isFree r) (isFree s) (same (recordCallId r) (recordCallId s
     go false false true p q e =
         absurd (f (recordCallId s) (rw (p, e)) (rw q (same-self (recordCallId s))))
 
-good-well : (t : List ℕ) → lifted.Good ours t → wellFormed t ≡ true
+good-well : (c : ℕ) (t : List ℕ) → lifted.Good (ours c) t → wellFormed t ≡ true
 unfolding wellFormed recordsSound distinct apartBefore
-good-well t g =
+good-well c t g =
     and-both (g .frame)
     (and-both (all-every (λ k. recordSound (recordAt t k)) (recordCount t) (λ k h. g .fit k h .sound))
     (all-every (apartBefore t) (recordCount t) (λ k h. all-every (λ l. apart (recordAt t k) (recordAt t l)) k
@@ -90,69 +91,69 @@ good-well t g =
 
 -- One event.
 
-step-good : (t : List ℕ) (e : Event) → lifted.Good ours t → lifted.Good ours (eventTable t e)
-step-good t e g = rw (sym (agrees t e (good-well t g) .tables)) (steps.step ours laws t e g .good)
+step-good : (c : ℕ) (t : List ℕ) (e : Event) → lifted.Good (ours c) t → lifted.Good (ours c) (eventTable c t e)
+step-good c t e g = rw (sym (agrees c t e (good-well c t g) .tables)) (steps.step (ours c) (laws c) t e g .good)
 
 -- an event leaves a well-formed table well-formed
-pub stays-well-formed : (t : List ℕ) (e : Event) → AllBytes t → wellFormed t ≡ true → wellFormed (eventTable t e) ≡ true
-stays-well-formed t e b w = good-well (eventTable t e) (step-good t e (well-good t b w))
+pub stays-well-formed : (c : ℕ) (t : List ℕ) (e : Event) → AllBytes t → wellFormed t ≡ true → wellFormed (eventTable c t e) ≡ true
+stays-well-formed c t e b w = good-well c (eventTable c t e) (step-good c t e (well-good c t b w))
 
-ill-message : (t : List ℕ) (now : ℕ) (s : List ℕ) → wellFormed t ≡ false → (paperOf (onMessage t now s .answer) ≡ refused 1 0 0) × (onMessage t now s .table ≡ t)
+ill-message : (c : ℕ) (t : List ℕ) (now : ℕ) (s : List ℕ) → wellFormed t ≡ false → (paperOf (onMessage c t now s .answer) ≡ refused 1 0 0) × (onMessage c t now s .table ≡ t)
 unfolding onMessage
-ill-message t now s w = rw w (refl, refl)
+ill-message c t now s w = rw w (refl, refl)
 
 ill-tick : (t : List ℕ) (now : ℕ) (id : List ℕ) → wellFormed t ≡ false → (paperOf (onTick t now id .answer) ≡ refused 1 0 0) × (onTick t now id .table ≡ t)
 unfolding onTick
 ill-tick t now id w = rw w (refl, refl)
 
 -- an image that is not well-formed is answered 1, and is left as it was
-pub ill-formed : (t : List ℕ) (e : Event) → wellFormed t ≡ false → (paperOf (eventAnswer t e) ≡ refused 1 0 0) × (eventTable t e ≡ t)
-ill-formed t (message now s) w = ill-message t (now .milliseconds) s w
-ill-formed t (tick now id) w = ill-tick t (now .milliseconds) id w
+pub ill-formed : (c : ℕ) (t : List ℕ) (e : Event) → wellFormed t ≡ false → (paperOf (eventAnswer c t e) ≡ refused 1 0 0) × (eventTable c t e ≡ t)
+ill-formed c t (message now s) w = ill-message c t (now .milliseconds) s w
+ill-formed c t (tick now id) w = ill-tick t (now .milliseconds) id w
 
 -- a refusal, a repeat and a none leave the table byte for byte as it was, whatever it was
-well-quiet : (t : List ℕ) (e : Event) → lifted.Good ours t → Quiet t (eventStep t e)
-well-quiet t (message now s) g = message-quiet t g now s
-well-quiet t (tick now id) g = tick-quiet t g now id
+well-quiet : (c : ℕ) (t : List ℕ) (e : Event) → lifted.Good (ours c) t → Quiet t (eventStep c t e)
+well-quiet c t (message now s) g = message-quiet c t g now s
+well-quiet c t (tick now id) g = tick-quiet c t g now id
 
-pub changes-nothing : (t : List ℕ) (e : Event) → AllBytes t → isQuiet (eventAnswer t e) ≡ true → eventTable t e ≡ t
-changes-nothing t e b q = go (wellFormed t) refl
+pub changes-nothing : (c : ℕ) (t : List ℕ) (e : Event) → AllBytes t → isQuiet (eventAnswer c t e) ≡ true → eventTable c t e ≡ t
+changes-nothing c t e b q = go (wellFormed t) refl
   where
-    go : (v : Bool) → wellFormed t ≡ v → eventTable t e ≡ t
-    go true w = well-quiet t e (well-good t b w) .stays q
-    go false w = ill-formed t e w .1
+    go : (v : Bool) → wellFormed t ≡ v → eventTable c t e ≡ t
+    go true w = well-quiet c t e (well-good c t b w) .stays q
+    go false w = ill-formed c t e w .1
 
 -- Sequences.
 
-runs : (t : List ℕ) (es : List Event) → lifted.Good ours t → lifted.afterAll ours t es ≡ afterAll t es
+runs : (c : ℕ) (t : List ℕ) (es : List Event) → lifted.Good (ours c) t → lifted.afterAll (ours c) t es ≡ afterAll c t es
 unfolding lifted.afterAll afterAll
-runs t [] g = refl
-runs t (e ∷ es) g = ap (λ (u : List ℕ). lifted.afterAll ours u es) (agrees t e (good-well t g) .tables) ∙ runs (eventTable t e) es (step-good t e g)
+runs c t [] g = refl
+runs c t (e ∷ es) g = ap (λ (u : List ℕ). lifted.afterAll (ours c) u es) (agrees c t e (good-well c t g) .tables) ∙ runs c (eventTable c t e) es (step-good c t e g)
 
-answered : (t : List ℕ) (es : List Event) → lifted.Good ours t → lifted.answers ours t es ≡ answers t es
+answered : (c : ℕ) (t : List ℕ) (es : List Event) → lifted.Good (ours c) t → lifted.answers (ours c) t es ≡ answers c t es
 unfolding lifted.answers answers
-answered t [] g = refl
-answered t (e ∷ es) g =
-    let a = agrees t e (good-well t g) in
-    rw (a .answers, a .tables, answered (eventTable t e) es (step-good t e g))
+answered c t [] g = refl
+answered c t (e ∷ es) g =
+    let a = agrees c t e (good-well c t g) in
+    rw (a .answers, a .tables, answered c (eventTable c t e) es (step-good c t e g))
 
-run-good : (t : List ℕ) (es : List Event) → lifted.Good ours t → lifted.Good ours (afterAll t es)
+run-good : (c : ℕ) (t : List ℕ) (es : List Event) → lifted.Good (ours c) t → lifted.Good (ours c) (afterAll c t es)
 unfolding afterAll
-run-good t [] g = g
-run-good t (e ∷ es) g = run-good (eventTable t e) es (step-good t e g)
+run-good c t [] g = g
+run-good c t (e ∷ es) g = run-good c (eventTable c t e) es (step-good c t e g)
 
 -- any sequence leaves a well-formed table well-formed
-pub run-well-formed : (t : List ℕ) (es : List Event) → AllBytes t → wellFormed t ≡ true → wellFormed (afterAll t es) ≡ true
-run-well-formed t es b w = good-well (afterAll t es) (run-good t es (well-good t b w))
+pub run-well-formed : (c : ℕ) (t : List ℕ) (es : List Event) → AllBytes t → wellFormed t ≡ true → wellFormed (afterAll c t es) ≡ true
+run-well-formed c t es b w = good-well c (afterAll c t es) (run-good c t es (well-good c t b w))
 
 -- In a sequence no event alters a byte of another call's record, which stays in its place.
-untouched-by : (t : List ℕ) (e : Event) → lifted.Good ours t → (k : ℕ) → k < recordCount t → (id : List ℕ) → isNamed id (recordAt t k) ≡ true
-    → (nameOf e ≡ some id → ⊥) → recordAt (eventTable t e) k ≡ recordAt t k
-untouched-by t e g k h id n ne = rw (sym (agrees t e (good-well t g) .tables)) (steps.step ours laws t e g .bytes k h id ne n)
+untouched-by : (c : ℕ) (t : List ℕ) (e : Event) → lifted.Good (ours c) t → (k : ℕ) → k < recordCount t → (id : List ℕ) → isNamed id (recordAt t k) ≡ true
+    → (nameOf c e ≡ some id → ⊥) → recordAt (eventTable c t e) k ≡ recordAt t k
+untouched-by c t e g k h id n ne = rw (sym (agrees c t e (good-well c t g) .tables)) (steps.step (ours c) (laws c) t e g .bytes k h id ne n)
 
-pub untouched : (t : List ℕ) (xs : List Event) (e : Event) → AllBytes t → wellFormed t ≡ true → (k : ℕ) → k < recordCount (afterAll t xs) → (id : List ℕ)
-    → isNamed id (recordAt (afterAll t xs) k) ≡ true → (nameOf e ≡ some id → ⊥) → recordAt (eventTable (afterAll t xs) e) k ≡ recordAt (afterAll t xs) k
-untouched t xs e b w k h id n ne = untouched-by (afterAll t xs) e (run-good t xs (well-good t b w)) k h id n ne
+pub untouched : (c : ℕ) (t : List ℕ) (xs : List Event) (e : Event) → AllBytes t → wellFormed t ≡ true → (k : ℕ) → k < recordCount (afterAll c t xs) → (id : List ℕ)
+    → isNamed id (recordAt (afterAll c t xs) k) ≡ true → (nameOf c e ≡ some id → ⊥) → recordAt (eventTable c (afterAll c t xs) e) k ≡ recordAt (afterAll c t xs) k
+untouched c t xs e b w k h id n ne = untouched-by c (afterAll c t xs) e (run-good c t xs (well-good c t b w)) k h id n ne
 
 header-of : (t : List ℕ) → frameSound t ≡ true → (take headerSize t ≡ headerOf (recordCount t)) × (length t ≡ headerSize + recordSize * recordCount t)
 unfolding frameSound
@@ -161,56 +162,57 @@ header-of t f =
     let b = and-parts (among 1 255 (recordCount t)) (same (take headerSize t) (headerOf (recordCount t))) (a .1) in
     (same-eq (take headerSize t) (headerOf (recordCount t)) (b .1), eqb-true (length t) (headerSize + recordSize * recordCount t) (a .0))
 
-size-run : (t : List ℕ) (es : List Event) → lifted.Good ours t → recordCount (afterAll t es) ≡ recordCount t
+size-run : (c : ℕ) (t : List ℕ) (es : List Event) → lifted.Good (ours c) t → recordCount (afterAll c t es) ≡ recordCount t
 unfolding afterAll
-size-run t [] g = refl
-size-run t (e ∷ es) g =
-    let s : recordCount (eventTable t e) ≡ recordCount t = rw (sym (agrees t e (good-well t g) .tables)) (steps.step ours laws t e g .size-kept) in
-    size-run (eventTable t e) es (step-good t e g) ∙ s
+size-run c t [] g = refl
+size-run c t (e ∷ es) g =
+    let s : recordCount (eventTable c t e) ≡ recordCount t = rw (sym (agrees c t e (good-well c t g) .tables)) (steps.step (ours c) (laws c) t e g .size-kept) in
+    size-run c (eventTable c t e) es (step-good c t e g) ∙ s
 
 -- nor does a sequence alter the header, or the table's length
-pub header-kept : (t : List ℕ) (es : List Event) → AllBytes t → wellFormed t ≡ true → (take headerSize (afterAll t es) ≡ take headerSize t) × (length (afterAll t es) ≡ length t)
-header-kept t es b w =
-    let g = well-good t b w in
-    let s = size-run t es g in
+pub header-kept : (c : ℕ) (t : List ℕ) (es : List Event) → AllBytes t → wellFormed t ≡ true
+    → (take headerSize (afterAll c t es) ≡ take headerSize t) × (length (afterAll c t es) ≡ length t)
+header-kept c t es b w =
+    let g = well-good c t b w in
+    let s = size-run c t es g in
     let p = header-of t (g .frame) in
-    let q = header-of (afterAll t es) (run-good t es g .frame) in
+    let q = header-of (afterAll c t es) (run-good c t es g .frame) in
     (q .0 ∙ ap headerOf s ∙ sym (p .0), q .1 ∙ ap (λ n. headerSize + recordSize * n) s ∙ sym (p .1))
 
 -- an event that is turned away is answered 'no room'
-away-no-room : (t : List ℕ) (e : Event) → lifted.Good ours t → lifted.Away ours t e → isNoRoom (eventAnswer t e) ≡ true
+away-no-room : (c : ℕ) (t : List ℕ) (e : Event) → lifted.Good (ours c) t → lifted.Away (ours c) t e → isNoRoom (eventAnswer c t e) ≡ true
 unfolding lifted.answer lifted.answerTo
-away-no-room t e g a =
-    let r : lifted.answer ours t e ≡ ours .turned e = rw (a .by-name, a .unheld, a .opens, a .full) in
-    ap isNoRoom (sym (agrees t e (good-well t g) .answers) ∙ r)
+away-no-room c t e g a =
+    let r : lifted.answer (ours c) t e ≡ ours c .turned e = rw (a .by-name, a .unheld, a .opens, a .full) in
+    ap isNoRoom (sym (agrees c t e (good-well c t g) .answers) ∙ r)
 
-module _ (t : List ℕ) (a b : Event) (g : lifted.Good ours t) (r : Roomy t a b) where
-  roomy : lifted.Roomy ours t a b
+module _ (c : ℕ) (t : List ℕ) (a b : Event) (g : lifted.Good (ours c) t) (r : Roomy c t a b) where
+  roomy : lifted.Roomy (ours c) t a b
   roomy =
       record {
-        first-a = λ w. clash (away-no-room t a g w) (r .first-a);
-        then-b = λ w. clash (away-no-room (eventTable t a) b (step-good t a g) (rw (agrees t a (good-well t g) .tables) at w)) (r .then-b);
-        first-b = λ w. clash (away-no-room t b g w) (r .first-b);
-        then-a = λ w. clash (away-no-room (eventTable t b) a (step-good t b g) (rw (agrees t b (good-well t g) .tables) at w)) (r .then-a);
+        first-a = λ w. clash (away-no-room c t a g w) (r .first-a);
+        then-b = λ w. clash (away-no-room c (eventTable c t a) b (step-good c t a g) (rw (agrees c t a (good-well c t g) .tables) at w)) (r .then-b);
+        first-b = λ w. clash (away-no-room c t b g w) (r .first-b);
+        then-a = λ w. clash (away-no-room c (eventTable c t b) a (step-good c t b g) (rw (agrees c t b (good-well c t g) .tables) at w)) (r .then-a);
       }
 
 -- DEMAND 3: on a well-formed table, two neighbours that do not name the same Call-ID, neither of which is answered 'no room' in either
 -- order, may change places: every answer of the whole sequence and each call's final record stay
-pub exchange : (t : List ℕ) (xs : List Event) (a b : Event) (ys : List Event) → AllBytes t → wellFormed t ≡ true → Apart a b
-    → Roomy (afterAll t xs) a b → Exchanged t xs a b ys
-exchange t xs a b ys bytes w apart r =
-    let g = well-good t bytes w in
-    let h : lifted.Roomy ours (lifted.afterAll ours t xs) a b = rw (runs t xs g) (roomy (afterAll t xs) a b (run-good t xs g) r) in
-    let x = exchanges.exchange ours laws t xs a b ys g apart h in
+pub exchange : (c : ℕ) (t : List ℕ) (xs : List Event) (a b : Event) (ys : List Event) → AllBytes t → wellFormed t ≡ true → Apart c a b
+    → Roomy c (afterAll c t xs) a b → Exchanged c t xs a b ys
+exchange c t xs a b ys bytes w apart r =
+    let g = well-good c t bytes w in
+    let h : lifted.Roomy (ours c) (lifted.afterAll (ours c) t xs) a b = rw (runs c t xs g) (roomy c (afterAll c t xs) a b (run-good c t xs g) r) in
+    let x = exchanges.exchange (ours c) (laws c) t xs a b ys g apart h in
     record {
       before = x .before;
       to-a = x .to-a;
       to-b = x .to-b;
       behind = x .behind;
-      answers-ab = sym (answered t (xs ++ a ∷ b ∷ ys) g) ∙ x .answers-ab;
-      answers-ba = sym (answered t (xs ++ b ∷ a ∷ ys) g) ∙ x .answers-ba;
+      answers-ab = sym (answered c t (xs ++ a ∷ b ∷ ys) g) ∙ x .answers-ab;
+      answers-ba = sym (answered c t (xs ++ b ∷ a ∷ ys) g) ∙ x .answers-ba;
       as-many = x .as-many;
       records = λ id.
-          sym (look-is id (afterAll t (xs ++ a ∷ b ∷ ys))) ∙ ap (lifted.look ours id) (sym (runs t (xs ++ a ∷ b ∷ ys) g)) ∙ x .records id
-          ∙ ap (lifted.look ours id) (runs t (xs ++ b ∷ a ∷ ys) g) ∙ look-is id (afterAll t (xs ++ b ∷ a ∷ ys));
+          sym (look-is c id (afterAll c t (xs ++ a ∷ b ∷ ys))) ∙ ap (lifted.look (ours c) id) (sym (runs c t (xs ++ a ∷ b ∷ ys) g)) ∙ x .records id
+          ∙ ap (lifted.look (ours c) id) (runs c t (xs ++ b ∷ a ∷ ys) g) ∙ look-is c id (afterAll c t (xs ++ b ∷ a ∷ ys));
     }

@@ -1,7 +1,9 @@
 -- Keepers that the contract of `message` shuts out (01 What contracts say): one that refuses everything, one that always answers pass, one that
 -- never alters the table, and one that acts on the first event and only answers later. Shown on a blank table of two records: an INVITE is
--- passed and takes the first, one of another Call-ID is passed and takes the second, and a message of no bytes is refused. Assumes nothing.
-use Prim.Native.Nat.{ℕ, _<_}
+-- passed and takes the first, one of another Call-ID is passed and takes the second, and a message of no bytes is refused. The second is shut
+-- out under every ceiling of JSON values (02 §9), the others under every ceiling with room for the INVITE's 23, so at the program's 16,384 (a
+-- ceiling of 0 refuses every message). Assumes nothing.
+use Prim.Native.Nat.{ℕ, _≤_, _<_}
 use Rattle.call.specs.Rule.{decidedUnheld}
 use Rattle.answers.specs.declared.Answer.the-variants.{Accepted}
 use Rattle.answers.specs.declared.Answer.{Answer}
@@ -19,7 +21,7 @@ use Rattle.keeper.specs.Facts.{methodOfCode, eventOf, fieldsFrom}
 use Rattle.keeper.specs.Keeping.{Step, recordFor, onMessage}
 use Rattle.fields.specs.Spans.{cut}
 use Rattle.message.specs.Parties.{callIdOf, userOf, callerFireOf, calleeFireOf}
-use Rattle.message.specs.Reading.{reading}
+use Rattle.message.specs.Reading.{reading, reporting}
 use Rattle.message.specs.declared.reading.Reading.the-variants.{Read}
 use Rattle.octets.specs.Ascii.{ascii}
 use Rattle.octets.specs.Class.{all}
@@ -50,20 +52,20 @@ use native.Mathlib.Omega.{arith}
 abbrev state : List ℕ → ℕ → ℕ
 state t k = recordFields (recordAt t k) .state
 
-module _ (t s : List ℕ) (k : ℕ) (w : wellFormed t ≡ true) (read : reading s ≡ Read invite) (nobody : placeNamed (callIdOf s invite) t ≡ Nothing)
+module _ (c : ℕ) (t s : List ℕ) (k : ℕ) (w : wellFormed t ≡ true) (read : reading c s ≡ Read invite) (nobody : placeNamed (callIdOf s invite) t ≡ Nothing)
     (free : freePlace t ≡ At k) where
   abbrev r : List ℕ
   r = recordFor s invite calling
 
   ruled : Ruled (callIdOf s invite) (userOf s invite) (callerFireOf s invite) (calleeFireOf s invite)
   ruled =
-      let n = read-named s invite read (omega arith) in
+      let n = read-named c s invite read (omega arith) in
       record { call-id = n .call-id; user = n .user; caller-fire = n .caller-fire; callee-fire = n .callee-fire }
 
   inside : k < recordCount t
   inside = free-found t k free .inside
 
-  passed : onMessage t 1000 s ≡ record { answer = Accepted Pass (In Calling); table = withRecord t k r }
+  passed : onMessage c t 1000 s ≡ record { answer = Accepted Pass (In Calling); table = withRecord t k r }
   unfolding onMessage eventOf methodOfCode decidedUnheld
   passed = rw (w, read, nobody, free)
 
@@ -121,7 +123,7 @@ unfolding placeNamed freePlace lowestFound isNamed same blankOf headerOf bytesOf
 searched = ((refl, refl), (refl, refl))
 
 w1 : wellFormed t1 ≡ true
-w1 = well t0 s1 0 w0 (invites-read .0) (searched .0 .0) (searched .0 .1)
+w1 = well 23 t0 s1 0 w0 (invites-read 23 (omega arith) .0) (searched .0 .0) (searched .0 .1)
 
 handed : Handed t0 1000 [] × (Handed t0 1000 s1 × Handed t1 1000 s2)
 unfolding all blankOf headerOf bytesOf splice recordFor newRecord recordOf fieldsFrom slotOf countsOf timesOf callIdOf userOf callerFireOf calleeFireOf cut
@@ -134,35 +136,35 @@ handed = (
   ),
 )
 
-first : onMessage t0 1000 s1 ≡ record { answer = Accepted Pass (In Calling); table = t1 }
-first = passed t0 s1 0 w0 (invites-read .0) (searched .0 .0) (searched .0 .1)
+first : (c : ℕ) → 23 ≤ c → onMessage c t0 1000 s1 ≡ record { answer = Accepted Pass (In Calling); table = t1 }
+first c room = passed c t0 s1 0 w0 (invites-read c room .0) (searched .0 .0) (searched .0 .1)
 
-second : onMessage t1 1000 s2 ≡ record { answer = Accepted Pass (In Calling); table = t2 }
-second = passed t1 s2 1 w1 (invites-read .1) (searched .1 .0) (searched .1 .1)
+second : (c : ℕ) → 23 ≤ c → onMessage c t1 1000 s2 ≡ record { answer = Accepted Pass (In Calling); table = t2 }
+second c room = passed c t1 s2 1 w1 (invites-read c room .1) (searched .1 .0) (searched .1 .1)
 
 -- a message of no bytes is answered 2
-empty : paperOf (onMessage t0 1000 [] .answer) ≡ refused 2 0 0
-unfolding onMessage reading
-empty = rw w0 refl
+empty : (c : ℕ) → paperOf (onMessage c t0 1000 [] .answer) ≡ refused 2 0 0
+unfolding onMessage reading reporting
+empty c = rw w0 refl
 
-module _ (f : Keeper) (meets : Meets onMessage f) where
-  leaves : f t0 1000 s1 .table ≡ t1
-  leaves = meets t0 1000 s1 (handed .1 .0) .1 ∙ ap (λ (x : Step). x .table) first
+module _ (c : ℕ) (f : Keeper) (meets : Meets (onMessage c) f) where
+  leaves : 23 ≤ c → f t0 1000 s1 .table ≡ t1
+  leaves room = meets t0 1000 s1 (handed .1 .0) .1 ∙ ap (λ (x : Step). x .table) (first c room)
 
-  pub refuses-not-all : RefusesAll f → ⊥
-  refuses-not-all h =
-      clash (h t0 1000 s1 (handed .1 .0)) (ap (λ (a : Answer). isRefused (paperOf a)) (meets t0 1000 s1 (handed .1 .0) .0 ∙ ap (λ (x : Step). x .answer) first))
+  pub refuses-not-all : 23 ≤ c → RefusesAll f → ⊥
+  refuses-not-all room h =
+      clash (h t0 1000 s1 (handed .1 .0)) (ap (λ (a : Answer). isRefused (paperOf a)) (meets t0 1000 s1 (handed .1 .0) .0 ∙ ap (λ (x : Step). x .answer) (first c room)))
 
   pub passes-not-all : PassesAll f → ⊥
-  passes-not-all h = clash (h t0 1000 [] (handed .0)) (ap (λ (a : Answer). isPass (paperOf a)) (meets t0 1000 [] (handed .0) .0) ∙ ap isPass empty)
+  passes-not-all h = clash (h t0 1000 [] (handed .0)) (ap (λ (a : Answer). isPass (paperOf a)) (meets t0 1000 [] (handed .0) .0) ∙ ap isPass (empty c))
 
-  pub alters-some : AltersNone f → ⊥
-  alters-some h = altered t0 s1 0 w0 (invites-read .0) (searched .0 .0) (searched .0 .1) (sym leaves ∙ h t0 1000 s1 (handed .1 .0))
+  pub alters-some : 23 ≤ c → AltersNone f → ⊥
+  alters-some room h = altered c t0 s1 0 w0 (invites-read c room .0) (searched .0 .0) (searched .0 .1) (sym (leaves room) ∙ h t0 1000 s1 (handed .1 .0))
 
   -- it acts on later messages too
-  pub acts-later : ((t : List ℕ) (now : ℕ) (s : List ℕ) → Handed t now s → (later : ℕ) (z : List ℕ) → Handed (f t now s .table) later z
+  pub acts-later : 23 ≤ c → ((t : List ℕ) (now : ℕ) (s : List ℕ) → Handed t now s → (later : ℕ) (z : List ℕ) → Handed (f t now s .table) later z
       → f (f t now s .table) later z .table ≡ f t now s .table) → ⊥
-  acts-later h =
-      let q : f t1 1000 s2 .table ≡ t1 = rw leaves at (h t0 1000 s1 (handed .1 .0) 1000 s2 (rw leaves (handed .1 .1))) in
-      let e : f t1 1000 s2 .table ≡ t2 = meets t1 1000 s2 (handed .1 .1) .1 ∙ ap (λ (x : Step). x .table) second in
-      altered t1 s2 1 w1 (invites-read .1) (searched .1 .0) (searched .1 .1) (sym e ∙ q)
+  acts-later room h =
+      let q : f t1 1000 s2 .table ≡ t1 = rw (leaves room) at (h t0 1000 s1 (handed .1 .0) 1000 s2 (rw (leaves room) (handed .1 .1))) in
+      let e : f t1 1000 s2 .table ≡ t2 = meets t1 1000 s2 (handed .1 .1) .1 ∙ ap (λ (x : Step). x .table) (second c room) in
+      altered c t1 s2 1 w1 (invites-read c room .1) (searched .1 .0) (searched .1 .1) (sym e ∙ q)

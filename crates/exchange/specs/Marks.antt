@@ -12,7 +12,7 @@ use Rattle.call.specs.declared.events.Side.the-variants.{Callee}
 use Rattle.call.specs.declared.records.Call.{Call}
 use Rattle.call.specs.declared.records.Held.the-variants.{Is}
 use Rattle.exchange.specs.Paper.{Paper, accepted, refused, paperOf}
-use Rattle.message.specs.Reading.{reading}
+use Rattle.message.specs.Reading.{ample, reading}
 use Rattle.message.specs.declared.reading.Reading.the-variants as readings
 use Rattle.message.specs.declared.reading.Reading.{Reading}
 use Rattle.octets.specs.Ascii.{ascii}
@@ -56,7 +56,7 @@ callIn s at =
 abbrev pub callback : Event
 callback = Asks (record { method = Callback; number = 1; from = Callee; secure = false }) true
 
--- the paper's list, in its order
+-- the paper's list, in its order; read at the program's ceiling (02 §9)
 abbrev pub marks : List Mark
 marks =
     judges (callIdRule (ascii "A1")) true
@@ -66,7 +66,7 @@ marks =
     ∷ judges (sequenceRule (ascii "01 BYE")) false
     ∷ judges (dateRule (ascii "2000-02-29T12:00:00+0900")) true
     ∷ judges (dateRule (ascii "1900-02-29T12:00:00+0900")) false
-    ∷ reads (reading (ascii "[01]")) 4 2
+    ∷ reads (reading ample (ascii "[01]")) 4 2
     ∷ answers-to (decided (Is (callIn Calling 1000)) Tick 15999 .answer) (accepted (ascii "none") 1)
     ∷ answers-to (decided (Is (callIn Calling 1000)) Tick 16000 .answer) (accepted (ascii "timeout") 5)
     ∷ answers-to (decided (Is (callIn Ended 0)) callback 3600000 .answer) (accepted (ascii "pass") 5)

@@ -9,7 +9,11 @@ pub mod Sound
 pub mod Raise
 pub mod Agreement
 pub mod Depth
+pub mod AnswerLaws
+pub mod Bound
+pub mod TourLaws
 pub mod VerdictLaws
+pub mod ReadLaws
 pub mod PlainLaws
 pub mod PlaceLaws
 pub mod TurnLaws

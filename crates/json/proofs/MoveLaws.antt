@@ -11,8 +11,8 @@ use denote.Enum.Declared.{tagOf}
 use types.Run.{OneOf}
 use lib.ListN.{length, getD, drop}
 use lib.Seq.{drop-cons, drop-length}
-use Rattle.json.specs.inner.Machine.{Stack, alone, text, arr, obj, Role, Mode, value, after, Next, live, dead, deep, done, ends, step, over, ended, stops}
-use Rattle.json.specs.inner.Machine.{takes, walk, from, one, onward, place, Leaf, Nest}
+use Rattle.json.specs.inner.Machine.{Stack, alone, text, arr, obj, Role, Mode, after, Next, live, dead, deep, done, ends, step, over, ended, stops}
+use Rattle.json.specs.inner.Machine.{takes, walk, from, onward, place, Leaf}
 use Rattle.json.specs.Places.{isWs}
 use Rattle.json.specs.declared.Walked.{Walked}
 use Rattle.json.specs.declared.Walked.the-variants.{End, Bad, Deep}
@@ -45,6 +45,18 @@ moves s i m k n h e = rw (drop-cons s i 0) (walks (getD s i 0) (drop (suc i) s) 
 pub halts : (s : List ℕ) (i : ℕ) (m : Mode) (k : Stack) → i ≡ length s → from s i m k ≡ stops m k i
 unfolding from walk
 halts s i m k e = rw e (rw drop-length)
+
+-- where the bytes stop is where they end
+ended-place : (x : Bool) (i : ℕ) → place (ended x i) ≡ i
+ended-place true i = refl
+ended-place false i = refl
+
+pub stops-place : (m : Mode) (s : Stack) (i : ℕ) → place (stops m s i) ≡ i
+unfolding stops
+stops-place m (alone d) i = ended-place (over m) i
+stops-place m (text d) i = ended-place (over m) i
+stops-place m (arr s) i = refl
+stops-place m (obj s) i = refl
 
 -- The bytes stop where more are due.
 pub stops-short : (m : Mode) (k : Stack) (i : ℕ) → over m ≡ false → stops m k i ≡ Bad i
@@ -93,9 +105,6 @@ module _ (s : List ℕ) (i : ℕ) (m : Mode) (k : Stack) (l : i ≤ length s) (u
 pub leaf-is : {s : List ℕ} {a : ℕ} {m m′ : Role → Mode} {r r′ : Walked} → Leaf s a m m′ r → r ≡ r′ → Leaf s a m m′ r′
 leaf-is {s} {a} {m} {m′} l e = subst (λ (x : Walked). Leaf s a m m′ x) e l
 
-pub nest-is : {s : List ℕ} {a left : ℕ} {m : Mode} {f : Stack → Stack} {r r′ : Walked} → Nest s a left m f r → r ≡ r′ → Nest s a left m f r′
-nest-is {s} {a} {left} {m} {f} l e = subst (λ (y : Walked). Nest s a left m f y) e l
-
 -- After the text's value.
 stops-whole : (i : ℕ) → stops after (text 8) i ≡ End i
 unfolding stops
@@ -113,7 +122,7 @@ stops-alone : (d i : ℕ) → stops after (alone d) i ≡ End i
 unfolding stops
 stops-alone d i = refl
 
-done-alone : (d b : ℕ) → step after (alone d) b ≡ done
+pub done-alone : (d b : ℕ) → step after (alone d) b ≡ done
 unfolding step ends
 done-alone d b = refl
 
@@ -125,9 +134,6 @@ pub onward-alone : (s : List ℕ) (d : ℕ) (r : Walked) → place r ≤ length 
 onward-alone s d (End e) l = from-alone s e d l
 onward-alone s d (Bad p) l = refl
 onward-alone s d (Deep p) l = refl
-
-pub lone : {s : List ℕ} {a left : ℕ} {r : Walked} → Nest s a left value (λ k. k) r → r ≡ one left s a
-lone {s} {a} {left} {r} l = sym (l .same (alone left) refl ∙ onward-alone s left r (l .high))
 
 -- an answer that is no End stays the answer, wherever the machine stands (a match tells such answers by their variants' numbers)
 pub stands : (r : Walked) (s : List ℕ) (m : Mode) (k : Stack) → OneOf (1 ∷ 2 ∷ []) (tagOf the-type r) → onward s m k r ≡ r

@@ -11,7 +11,7 @@ use lib.Seq.{drop-append-seam}
 use Rattle.json.specs.Places.{past, isShut, isMark, bytes, members, elements, spell, isWs}
 use Rattle.json.specs.Rfc7159.{Rule, bytes as it, _⨾_, both, absent, present, Star, none, more, value-separator, member, object, array, value, JSON-text}
 use Rattle.json.specs.Verdict.{Verdict}
-use Rattle.json.specs.declared.Walked.the-variants.{End}
+use Rattle.json.specs.declared.Visited.the-variants.{Text}
 use Rattle.json.specs.inner.Derived.{valuesIn, elementsIn, memberIn, pairsIn, membersIn, bare, bared}
 use Rattle.json.proofs.Listing.{Blank, Sized, Label, Field, entry, body, Fine, Fines, Item, item, items, Good, Goods, readAll, values, past-is, past-at}
 use Rattle.json.proofs.Listing.{array-read, array-none, object-read, object-none, starts-ink, ws-91, ws-123}
@@ -250,5 +250,5 @@ text-tie d s (both {s = w} h (both {s = v} {t = t} x g)) = record {
 }
 
 -- THE THEOREM for a text that is accepted, in the words of the public reader's contract
-pub accepted-tie : (s : List ℕ) (e : ℕ) → Verdict s (End e) → TextTie 8 s
-accepted-tie s e v = text-tie 8 s (v .0)
+pub accepted-tie : (c : ℕ) (s : List ℕ) (n : ℕ) → Verdict c s (Text n) → TextTie 8 s
+accepted-tie c s n v = text-tie 8 s (v .0)

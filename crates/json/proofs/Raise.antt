@@ -49,7 +49,7 @@ module _ (e : ℕ) where
   raise-shut (obj k) = refl
 
   -- what a byte does, and what it does with more levels
-  data Up (j : Stack) : Next → Next → Type 0 where
+  pub data Up (j : Stack) : Next → Next → Type 0 where
     lives : {m : Mode} {k k′ : Stack} → raise k ≡ k′ → Up j (live m k) (live m k′)
     dies : Up j dead dead
     ended-up : Up j done done
@@ -91,7 +91,7 @@ module _ (e : ℕ) where
       (up (eqb b 116) (lives refl) (up (eqb b 102) (lives refl)
       (up (eqb b 110) (lives refl) (up (eqb b 45) (lives refl) (up (eqb b 48) (lives refl) (up (isDigit b) (lives refl) dies))))))))
 
-  up-step : (m : Mode) (k : Stack) (b : ℕ) → Up k (step m k b) (step m (raise k) b)
+  pub up-step : (m : Mode) (k : Stack) (b : ℕ) → Up k (step m k b) (step m (raise k) b)
   unfolding step
   up-step value k b = up (isWs b) (lives refl) (up-begin k b)
   up-step first k b = up (isWs b) (lives refl) (up (eqb b 93) (lives (raise-shut k)) (up-begin k b))

@@ -1,4 +1,5 @@
 pub mod Rfc7159
+pub mod Values
 pub mod Verdict
 pub mod Places
 pub mod inner

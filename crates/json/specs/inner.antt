@@ -1,4 +1,6 @@
 pub mod Machine
+pub mod Begun
+pub mod Tour
 pub mod Runs
 pub mod Landing
 pub mod Derived

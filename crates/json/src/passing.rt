@@ -1,4 +1,5 @@
 // Readers for a caller that walks an array or an object himself: a string, and a member, judged and passed in one walk over its bytes.
+use crate::Toured;
 use crate::Walked;
 use crate::places::Member;
 use crate::spaces::skip;
@@ -9,12 +10,12 @@ use octets::or;
 ghost use mathlib.Core.Path.{_≡_};
 ghost use Prim.Native.Nat.{_<_};
 ghost use lib.ListN.{getD, length};
-ghost use Rattle.json.specs.inner.Passing.{isNext, noMember, passed, passedMember};
+ghost use Rattle.json.specs.inner.Passing.{isNext, noVisit, passed, passedMember};
 
 // The place behind the string that opens at q; 0 where none does.
 pub fn pass_string(s: &[u8], q: usize) -> usize
     requires { ⌜ (q < length (now s)) × (getD (now s) q 0 ≡ 34) ⌝ }
-    ensures { λ r. ⌜ r ≡ passed 0 (now (s .entry)) q ⌝ }
+    ensures { λ r. ⌜ r ≡ passed (now (s .entry)) q ⌝ }
 {
     let r = string(s, q + 1);
     let Walked::End(place) = r else {
@@ -23,14 +24,23 @@ pub fn pass_string(s: &[u8], q: usize) -> usize
     place
 }
 
-fn nothing() -> Member
-    ensures { λ r. ⌜ r ≡ noMember ⌝ }
+// A member judged and passed: where it stands, all 0 where none does; and how many values there is room for behind it.
+pub struct Visit {
+    pub member: Member,
+    pub room: usize,
+}
+
+fn nothing() -> Visit
+    ensures { λ r. ⌜ r ≡ noVisit ⌝ }
 {
-    Member {
-        name: 0,
-        value: 0,
-        end: 0,
-        then: 0,
+    Visit {
+        member: Member {
+            name: 0,
+            value: 0,
+            end: 0,
+            then: 0,
+        },
+        room: 0,
     }
 }
 
@@ -41,10 +51,11 @@ fn is_next(b: u8) -> bool
     or(b == b',', b == b'}')
 }
 
-// The member whose name opens at q, with `left` levels left in its object, if it is followed as a member is; else 0 for each place.
-pub fn pass_member(s: &[u8], q: usize, left: usize) -> Member
+// The member whose name opens at q, with `left` levels left in its object and room for so many values, if it is followed as a member is;
+// else 0 for each place.
+pub fn pass_member(s: &[u8], q: usize, left: usize, room: usize) -> Visit
     requires { ⌜ (q < length (now s)) × (getD (now s) q 0 ≡ 34) ⌝ }
-    ensures { λ r. ⌜ r ≡ passedMember left (now (s .entry)) q ⌝ }
+    ensures { λ r. ⌜ r ≡ passedMember left room (now (s .entry)) q ⌝ }
 {
     let n = string(s, q + 1);
     let Walked::End(e) = n else {
@@ -55,17 +66,20 @@ pub fn pass_member(s: &[u8], q: usize, left: usize) -> Member
         return nothing();
     }
     let v = skip(s, c + 1);
-    let r = value(s, v, left);
-    let Walked::End(w) = r else {
+    let r = value(s, v, left, room);
+    let Toured::End(w, more) = r else {
         return nothing();
     };
     let t = skip(s, w);
     if is_next(byte(s, t)) {
-        return Member {
-            name: e,
-            value: v,
-            end: w,
-            then: t,
+        return Visit {
+            member: Member {
+                name: e,
+                value: v,
+                end: w,
+                then: t,
+            },
+            room: more,
         };
     }
     nothing()

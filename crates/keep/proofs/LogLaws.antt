@@ -4,6 +4,7 @@ use Rattle.answers.specs.declared.Answer.the-variants.{Refused}
 use Rattle.answers.specs.declared.Answer.{Answer}
 use Rattle.answers.specs.declared.Refusal.the-variants.{Reading}
 use Rattle.keeper.specs.Keeping.{onMessage, onTick}
+use Rattle.message.specs.Reading.{ample}
 use Rattle.keep.specs.Log.{lineDone}
 use Rattle.lines.proofs.Cutting.{short}
 use Rattle.lines.proofs.LineLaws.{Places, of-long, of-message, of-tick, places}
@@ -57,13 +58,13 @@ module _ (o : List ℕ) (at : ℕ) (w : List ℕ) (room : at + length w ≤ leng
 -- What a line does, where its answer's line was written as the last two equations say.
 module _ (t l o : List ℕ) (at : ℕ) {o′ : List ℕ} {r : ℕ} where
   pub bad-done : lineOf l ≡ Bad → (r ≡ at + length badLine) × (o′ ≡ splice o at badLine)
-      → (r ≡ at + length (lineDone t l .text)) × (o′ ≡ splice o at (lineDone t l .text)) × (t ≡ lineDone t l .table)
+      → (r ≡ at + length (lineDone t l .text)) × (o′ ≡ splice o at (lineDone t l .text)) × (t ≡ lineDone t l .held)
   unfolding lineDone said saidBy
   bad-done e w = rw e (w .0, w .1, refl)
 
   pub long-done : (n : ℕ) → lineOf l ≡ Long n
       → (r ≡ at + length (answerLine (take (n - 0) l) (Refused (Reading 2 0)))) × (o′ ≡ splice o at (answerLine (take (n - 0) l) (Refused (Reading 2 0))))
-      → (r ≡ at + length (lineDone t l .text)) × (o′ ≡ splice o at (lineDone t l .text)) × (t ≡ lineDone t l .table)
+      → (r ≡ at + length (lineDone t l .text)) × (o′ ≡ splice o at (lineDone t l .text)) × (t ≡ lineDone t l .held)
   unfolding lineDone said saidBy
   long-done n e w =
       let z : n - 0 ≡ n = omega arith in
@@ -73,7 +74,7 @@ module _ (t l o : List ℕ) (at : ℕ) {o′ : List ℕ} {r : ℕ} where
   pub tick-done : (n v : ℕ) {a : Answer} {t′ : List ℕ} → lineOf l ≡ Tick n v → (a ≡ onTick t v (take (length l - (n + 6)) (drop (n + 6) l)) .answer)
       → (t′ ≡ onTick t v (take (length l - (n + 6)) (drop (n + 6) l)) .table)
       → (r ≡ at + length (answerLine (take (n - 0) l) a)) × (o′ ≡ splice o at (answerLine (take (n - 0) l) a))
-      → (r ≡ at + length (lineDone t l .text)) × (o′ ≡ splice o at (lineDone t l .text)) × (t′ ≡ lineDone t l .table)
+      → (r ≡ at + length (lineDone t l .text)) × (o′ ≡ splice o at (lineDone t l .text)) × (t′ ≡ lineDone t l .held)
   unfolding lineDone said saidBy
   tick-done n v e ans tab w =
       let z : n - 0 ≡ n = omega arith in
@@ -81,10 +82,10 @@ module _ (t l o : List ℕ) (at : ℕ) {o′ : List ℕ} {r : ℕ} where
       let u = rw (z, ans, d) at w in
       rw e (u .0, u .1, rw d at tab)
 
-  pub message-done : (n v : ℕ) {a : Answer} {t′ : List ℕ} → lineOf l ≡ Message n v → (a ≡ onMessage t v (take (length l - (n + 1)) (drop (n + 1) l)) .answer)
-      → (t′ ≡ onMessage t v (take (length l - (n + 1)) (drop (n + 1) l)) .table)
+  pub message-done : (n v : ℕ) {a : Answer} {t′ : List ℕ} → lineOf l ≡ Message n v → (a ≡ onMessage ample t v (take (length l - (n + 1)) (drop (n + 1) l)) .answer)
+      → (t′ ≡ onMessage ample t v (take (length l - (n + 1)) (drop (n + 1) l)) .table)
       → (r ≡ at + length (answerLine (take (n - 0) l) a)) × (o′ ≡ splice o at (answerLine (take (n - 0) l) a))
-      → (r ≡ at + length (lineDone t l .text)) × (o′ ≡ splice o at (lineDone t l .text)) × (t′ ≡ lineDone t l .table)
+      → (r ≡ at + length (lineDone t l .text)) × (o′ ≡ splice o at (lineDone t l .text)) × (t′ ≡ lineDone t l .held)
   unfolding lineDone said saidBy
   message-done n v e ans tab w =
       let z : n - 0 ≡ n = omega arith in

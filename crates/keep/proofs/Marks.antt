@@ -13,7 +13,7 @@ use mathlib.Core.Path.{_≡_, refl}
 
 module _ (t : List ℕ) where
   -- over 32,768 bytes after the time's space: refused 2, and the table as it was
-  pub over-long : lineDone t (ascii "007 " ++ replicate 32769 120) ≡ record { text = ascii "007 refused 2\n"; table = t }
+  pub over-long : lineDone t (ascii "007 " ++ replicate 32769 120) ≡ record { text = ascii "007 refused 2\n"; held = t }
   unfolding lineDone said saidBy lineOf timed before same decimalIn isDecimal tens all isDigit among answerLine answerText shown shownIn
   over-long = refl
 
@@ -23,6 +23,6 @@ module _ (t : List ℕ) where
   a-tick = refl
 
   -- no time: `bad`
-  pub no-time : lineDone t (ascii "tick A1.nx") ≡ record { text = ascii "bad\n"; table = t }
+  pub no-time : lineDone t (ascii "tick A1.nx") ≡ record { text = ascii "bad\n"; held = t }
   unfolding lineDone said saidBy lineOf timed before decimalIn isDecimal tens all isDigit among badLine
   no-time = refl

@@ -30,12 +30,12 @@ module _ (cap : ℕ) (t₀ k₀ s₀ t o : List ℕ) (size : length o ≡ cap) (
   gone {t′} {k′} {s′} {w} g rr oo tt = rw (tt, rr, oo, take-splice out at w within) (then-goes lineDone cap so (in-cap g))
 
   pub here-goes : (e : ℕ) {r : ℕ} {out′ t′ : List ℕ} → nextLine o len s from ≡ Here e → r ≡ at + length (lineDone t (take (e - from) (drop from s)) .text)
-      → out′ ≡ splice out at (lineDone t (take (e - from) (drop from s)) .text) → t′ ≡ lineDone t (take (e - from) (drop from s)) .table
+      → out′ ≡ splice out at (lineDone t (take (e - from) (drop from s)) .text) → t′ ≡ lineDone t (take (e - from) (drop from s)) .held
       → Works lineDone cap t₀ k₀ s₀ t′ [] (drop (e + 1) s) (take r out′)
   here-goes e q = gone (here-gone lineDone t o (line-kept (length o) room t) len s from e q)
 
   pub buffered-goes : (m e : ℕ) {r : ℕ} {out′ t′ : List ℕ} (o′ : List ℕ) → nextLine o len s from ≡ Buffered m e → o′ ≡ bufferAfter o len s from
-      → r ≡ at + length (lineDone t (take m o′) .text) → out′ ≡ splice out at (lineDone t (take m o′) .text) → t′ ≡ lineDone t (take m o′) .table
+      → r ≡ at + length (lineDone t (take m o′) .text) → out′ ≡ splice out at (lineDone t (take m o′) .text) → t′ ≡ lineDone t (take m o′) .held
       → Works lineDone cap t₀ k₀ s₀ t′ [] (drop e s) (take r out′)
   buffered-goes m e o′ q after = gone (buffered-gone lineDone t o (line-kept (length o) room t) len s from m e o′ q after)
 

@@ -3,6 +3,7 @@ use answers::Answer;
 use answers::Refusal;
 use lines::Line;
 use lines::Wrote;
+use message::AMPLE;
 ghost use mathlib.Core.Bool.{true};
 ghost use mathlib.Core.Path.{_≡_};
 ghost use Prim.Native.Nat.{_+_, _≤_};
@@ -39,7 +40,7 @@ pub fn answer(table: &mut [u8], l: &[u8], out: &mut [u8], at: usize) -> usize
     requires { ⌜ (wellFormed (now table) ≡ true) × (at + 64 ≤ length (now out)) ⌝ }
     ensures { λ r. ⌜ (r ≡ at + length (lineDone (now (table .entry)) (now (l .entry)) .text))
         × (now (out .exit) ≡ splice (now (out .entry)) at (lineDone (now (table .entry)) (now (l .entry)) .text))
-        × (now (table .exit) ≡ lineDone (now (table .entry)) (now (l .entry)) .table)
+        × (now (table .exit) ≡ lineDone (now (table .entry)) (now (l .entry)) .held)
         × (wellFormed (now (table .exit)) ≡ true)
         × (r ≤ at + 64) ⌝ }
 {
@@ -53,7 +54,7 @@ pub fn answer(table: &mut [u8], l: &[u8], out: &mut [u8], at: usize) -> usize
         }
         Line::Message(n, time) => {
             let text = n + 1;
-            let a = keeper::message_step(table, time, &l[text..]);
+            let a = keeper::message_step(table, time, &l[text..], AMPLE);
             put_answer(out, at, &l[0..n], a)
         }
     }

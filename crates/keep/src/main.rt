@@ -15,7 +15,7 @@ ghost use lib.Dec.{ltb};
 ghost use lib.ListN.{drop, take};
 ghost use Rattle.keep.specs.Log.{lineDone};
 ghost use Rattle.lines.specs.Input.{lastLine};
-ghost use Rattle.lines.specs.Log.{logTable, logText};
+ghost use Rattle.lines.specs.Log.{logHeld, logText};
 ghost use Rattle.lines.specs.inner.Running.{Works, Reached, Stepped};
 ghost use Rattle.table.specs.Blank.{blankOf};
 ghost use Rattle.table.specs.WellFormed.{wellFormed};
@@ -155,7 +155,7 @@ fn run(
 fn last(table: &mut [u8; 40816], line: &[u8; 32790], out: &mut [u8; 65536], s: State) -> usize
     requires { ⌜ (wellFormed (now table) ≡ true) × (s .len ≤ 32790) × (s .ended ≡ true) ⌝ }
     ensures { λ r. ⌜ (take r (now (out .exit)) ≡ logText lineDone (now (table .entry)) (lastLine (take (s .len) (now (line .entry)))))
-        × (now (table .exit) ≡ logTable lineDone (now (table .entry)) (lastLine (take (s .len) (now (line .entry))))) ⌝ }
+        × (now (table .exit) ≡ logHeld lineDone (now (table .entry)) (lastLine (take (s .len) (now (line .entry))))) ⌝ }
 {
     let len = s.len;
     if len == 0 {

@@ -22,7 +22,7 @@ pub fn answer_kept(table: &mut [u8], line: &[u8], n: usize, out: &mut [u8], at: 
     requires { ⌜ (wellFormed (now table) ≡ true) × (at + 64 ≤ length (now out)) × (n ≤ length (now line)) ⌝ }
     ensures { λ r. ⌜ (r ≡ at + length (lineDone (now (table .entry)) (take n (now (line .entry))) .text))
         × (now (out .exit) ≡ splice (now (out .entry)) at (lineDone (now (table .entry)) (take n (now (line .entry))) .text))
-        × (now (table .exit) ≡ lineDone (now (table .entry)) (take n (now (line .entry))) .table)
+        × (now (table .exit) ≡ lineDone (now (table .entry)) (take n (now (line .entry))) .held)
         × (wellFormed (now (table .exit)) ≡ true)
         × (r ≤ at + 64) ⌝ }
 {

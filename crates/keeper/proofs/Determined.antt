@@ -12,9 +12,9 @@ Allowed s a t = (a ≡ s .answer) × (t ≡ s .table)
 determined : (s : Step) {a b : Answer} {t u : List ℕ} → Allowed s a t → Allowed s b u → (a ≡ b) × (t ≡ u)
 determined s p q = (p .0 ∙ sym (q .0), p .1 ∙ sym (q .1))
 
-pub message-determined : (t : List ℕ) (now : ℕ) (s : List ℕ) {a b : Answer} {u v : List ℕ} → Allowed (onMessage t now s) a u → Allowed (onMessage t now s) b v
+pub message-determined : (c : ℕ) (t : List ℕ) (now : ℕ) (s : List ℕ) {a b : Answer} {u v : List ℕ} → Allowed (onMessage c t now s) a u → Allowed (onMessage c t now s) b v
     → (a ≡ b) × (u ≡ v)
-message-determined t now s p q = determined (onMessage t now s) p q
+message-determined c t now s p q = determined (onMessage c t now s) p q
 
 pub tick-determined : (t : List ℕ) (now : ℕ) (id : List ℕ) {a b : Answer} {u v : List ℕ} → Allowed (onTick t now id) a u → Allowed (onTick t now id) b v
     → (a ≡ b) × (u ≡ v)

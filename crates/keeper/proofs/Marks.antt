@@ -19,18 +19,18 @@ use mathlib.Core.Bool.{true}
 use mathlib.Core.List.{List}
 use mathlib.Core.Path.{_≡_, refl}
 
-module _ (t s : List ℕ) (now : ℕ) (sound : wellFormed t ≡ true) where
+module _ (c : ℕ) (t s : List ℕ) (now : ℕ) (sound : wellFormed t ≡ true) where
   -- 28: a ping, and a pong; the table as it was
-  pub ping-refused : reading s ≡ Read (probeOf 3) → onMessage t now s ≡ refusal t PingPong
+  pub ping-refused : reading c s ≡ Read (probeOf 3) → onMessage c t now s ≡ refusal t PingPong
   unfolding onMessage probeOf
   ping-refused read = rw (sound, read) refl
 
-  pub pong-refused : reading s ≡ Read (probeOf 4) → onMessage t now s ≡ refusal t PingPong
+  pub pong-refused : reading c s ≡ Read (probeOf 4) → onMessage c t now s ≡ refusal t PingPong
   unfolding onMessage probeOf
   pong-refused read = rw (sound, read) refl
 
   -- 27: an INVITE request that names no call on record, and no record free; the table as it was
-  pub full-refused : (m : Message) → reading s ≡ Read m → m .tag ≡ 1 → m .method ≡ 1 → placeNamed (callIdOf s m) t ≡ Nothing → freePlace t ≡ Nothing
-      → onMessage t now s ≡ refusal t (Call NoRoom Requester)
+  pub full-refused : (m : Message) → reading c s ≡ Read m → m .tag ≡ 1 → m .method ≡ 1 → placeNamed (callIdOf s m) t ≡ Nothing → freePlace t ≡ Nothing
+      → onMessage c t now s ≡ refusal t (Call NoRoom Requester)
   unfolding onMessage eventOf methodOfCode decidedUnheld
   full-refused m read tag method new full = rw (sound, read, new, tag, method, full) refl

@@ -1,5 +1,6 @@
--- What an event does to the table (01 Events): checks 1, then the reading's 2 to 10, then 28, then the rule of the call that is named, and 27.
--- The public contracts cite `onMessage` and `onTick`, those of `src/steps.rt` the definitions on the way there too. Assumes nothing.
+-- What an event does to the table (01 Events): checks 1, then the reading's 2 to 11 under a ceiling of JSON values (02 §9), then 28, then the rule of the
+-- call that is named, and 27. The public contracts cite `onMessage` and `onTick`, those of `src/steps.rt` the definitions on the way there too.
+-- Assumes nothing.
 use Prim.Native.Nat.{ℕ}
 use Rattle.call.specs.Rule.{decided}
 use Rattle.answers.specs.declared.Answer.the-variants.{Refused}
@@ -86,9 +87,9 @@ abbrev pub onReading : List ℕ → ℕ → List ℕ → Reading → Step
 onReading t now s (readings.Refused n p) = refusal t (Unread n p)
 onReading t now s (readings.Read m) = cond (ltb 2 (m .tag)) (refusal t PingPong) (askedAt t now s m (placeNamed (callIdOf s m) t))
 
--- a message: 1, table not well-formed; 2 to 10, as read; and on
-unfoldable pub onMessage : List ℕ → ℕ → List ℕ → Step
-onMessage t now s = cond (wellFormed t) (onReading t now s (reading s)) (refusal t Table)
+-- a message under a ceiling of c values: 1, table not well-formed; 2 to 11, as read; and on
+unfoldable pub onMessage : ℕ → List ℕ → ℕ → List ℕ → Step
+onMessage c t now s = cond (wellFormed t) (onReading t now s (reading c s)) (refusal t Table)
 
 -- a tick, by where its call's record is
 abbrev pub tickedAt : List ℕ → ℕ → Found → Step

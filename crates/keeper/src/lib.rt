@@ -11,14 +11,15 @@ pub use steps::tick_step;
 ghost use mathlib.Core.Path.{_≡_};
 ghost use Rattle.keeper.specs.Keeping.{onMessage, onTick};
 
-// A message of any bytes at any time, on any table image: 1 where that is not well-formed; else as document 01 rules.
-pub fn message(t: &mut [u8], time: u64, s: &[u8]) -> Answer
-    ensures { λ r. ⌜ (r ≡ onMessage (now (t .entry)) time (now (s .entry)) .answer) × (now (t .exit) ≡ onMessage (now (t .entry)) time (now (s .entry)) .table) ⌝ }
+// A message of any bytes at any time, on any table image, with room for so many JSON values (02 §9): 1 where the table is not
+// well-formed; else as document 01 rules.
+pub fn message(t: &mut [u8], time: u64, s: &[u8], ceiling: u32) -> Answer
+    ensures { λ r. ⌜ (r ≡ onMessage ceiling (now (t .entry)) time (now (s .entry)) .answer) × (now (t .exit) ≡ onMessage ceiling (now (t .entry)) time (now (s .entry)) .table) ⌝ }
 {
     if !table::well_formed(t) {
         return Answer::Refused(Refusal::Table);
     }
-    message_step(t, time, s)
+    message_step(t, time, s, ceiling)
 }
 
 // A tick for a Call-ID of any bytes at any time, on any table image.

@@ -11,7 +11,6 @@ use call::After;
 use call::Call;
 use call::Event;
 use call::Held;
-use call::Outcome;
 use message::Message;
 use message::Reading;
 use table::Found;
@@ -98,13 +97,13 @@ fn ask(t: &mut [u8], time: u64, s: &[u8], m: Message) -> Answer
 }
 
 // A message.
-pub fn message_step(t: &mut [u8], time: u64, s: &[u8]) -> Answer
+pub fn message_step(t: &mut [u8], time: u64, s: &[u8], ceiling: u32) -> Answer
     requires { ⌜ wellFormed (now t) ≡ true ⌝ }
-    ensures { λ r. ⌜ (r ≡ onMessage (now (t .entry)) time (now (s .entry)) .answer)
-        × (now (t .exit) ≡ onMessage (now (t .entry)) time (now (s .entry)) .table)
+    ensures { λ r. ⌜ (r ≡ onMessage ceiling (now (t .entry)) time (now (s .entry)) .answer)
+        × (now (t .exit) ≡ onMessage ceiling (now (t .entry)) time (now (s .entry)) .table)
         × (wellFormed (now (t .exit)) ≡ true) ⌝ }
 {
-    match message::read(s) {
+    match message::read(s, ceiling) {
         Reading::Refused(n, p) => Answer::Refused(Refusal::Reading(n, p)),
         Reading::Read(m) => {
             let tag = m.tag;

@@ -1,19 +1,19 @@
--- What a program that answers lines writes for them, whatever a line does to its table. Cited by the contracts and theorems of `keep` and `probe`.
--- Assumes nothing.
+-- What a program that answers lines writes for them, whatever it holds from line to line, and whatever a line does to that. Cited by the contracts and
+-- theorems of `keep`, which holds a table, and of `probe`. Assumes nothing.
 use Prim.Native.Nat.{ℕ}
 use mathlib.Core.List.{List, [], _∷_, _++_}
 
--- what is written for a line, and the table after it
-pub record Effect : Type 0 where
+-- what is written for a line, and what is held after it
+pub record Effect (S : Type 0) : Type 0 where
   pub text : List ℕ
-  pub table : List ℕ
+  pub held : S
 
--- what is written for lines, one after another, where `done` says what a line does to a table
-unfoldable pub logText : (List ℕ → List ℕ → Effect) → List ℕ → List (List ℕ) → List ℕ
+-- what is written for lines, one after another, where `done` says what a line does to what is held
+unfoldable pub logText : {S : Type 0} → (S → List ℕ → Effect S) → S → List (List ℕ) → List ℕ
 logText done t [] = []
-logText done t (l ∷ ls) = done t l .text ++ logText done (done t l .table) ls
+logText done t (l ∷ ls) = done t l .text ++ logText done (done t l .held) ls
 
--- the table after them
-unfoldable pub logTable : (List ℕ → List ℕ → Effect) → List ℕ → List (List ℕ) → List ℕ
-logTable done t [] = t
-logTable done t (l ∷ ls) = logTable done (done t l .table) ls
+-- what is held after them
+unfoldable pub logHeld : {S : Type 0} → (S → List ℕ → Effect S) → S → List (List ℕ) → S
+logHeld done t [] = t
+logHeld done t (l ∷ ls) = logHeld done (done t l .held) ls

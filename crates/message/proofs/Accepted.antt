@@ -201,12 +201,12 @@ one-or-two tag l h = by (ℕ-discrete tag 1)
     by (no e) = inr (omega arith)
 
 -- a request or a response that is read
-pub read-named : (s : List ℕ) (m : Message) → reading s ≡ Read m → m .tag ≤ 2 → Named s m
-read-named s m e h =
-    let a = read-taken s m e h in
+pub read-named : (c : ℕ) (s : List ℕ) (m : Message) → reading c s ≡ Read m → m .tag ≤ 2 → Named s m
+read-named c s m e h =
+    let a = read-taken c s m e h in
     let two = one-or-two (m .tag) (a .accepted .kind .0) h in
     subst (Named s) (a .is) (is-named s (m .tag) (a .t) two (a .accepted .fits) (apart s (m .tag) (a .t) two (a .accepted .fits) (a .accepted .agrees)))
 
 -- THE LAW: what is known of every message that is read
-pub facts : (s : List ℕ) (m : Message) → reading s ≡ Read m → Facts s m
-facts s m e = let k = read-tag s m e in record { tag-low = k .0; tag-high = k .1; named = read-named s m e }
+pub facts : (c : ℕ) (s : List ℕ) (m : Message) → reading c s ≡ Read m → Facts s m
+facts c s m e = let k = read-tag c s m e in record { tag-low = k .0; tag-high = k .1; named = read-named c s m e }

@@ -5,14 +5,18 @@ use Prim.Native.Nat.{ℕ, _≤_, _<_}
 use Rattle.json.specs.inner.Machine.{answer}
 use Rattle.json.specs.Places.{bytes, members}
 use Rattle.json.specs.declared.Walked.the-variants as walked
-use Rattle.json.specs.declared.Walked.{Walked}
+use Rattle.json.proofs.VerdictLaws.{text-ends, ends-within}
+use Rattle.json.specs.inner.Tour.{visited}
+use Rattle.json.specs.declared.Visited.the-variants as visits
+use Rattle.json.specs.declared.Visited.{Visited}
 use Rattle.message.proofs.CheckLaws.{lowest-none, none-lowest}
+use Rattle.message.proofs.ReadingLaws.{in-bounds}
 use Rattle.message.proofs.ShapeLaws.{tag-few}
 use Rattle.message.specs.Checks.{asks, lacks, breaks, missing, broken, brokenPlace, checked}
 use Rattle.fields.specs.Field.{keeps}
 use Rattle.fields.specs.Known.{empty, noted, repeated}
 use Rattle.message.specs.Message.{firstSetting, settingOf, disagrees, messageOf, probeOf}
-use Rattle.message.specs.Reading.{unless, agreed, settled, judged, known, shaped, onJson, onUtf8, reading}
+use Rattle.message.specs.Reading.{unless, agreed, ample, settled, judged, known, shaped, onJson, onUtf8, reading, reporting, uncounted}
 use Rattle.message.specs.Shape.{tagOf, objectOf}
 use Rattle.message.specs.declared.checking.Check.the-variants.{Good, Fault}
 use Rattle.message.specs.declared.checking.Check.{Check}
@@ -20,11 +24,12 @@ use Rattle.message.specs.declared.facts.Message.{Message}
 use Rattle.fields.specs.declared.judging.Setting.{Setting}
 use Rattle.message.specs.declared.reading.Reading.the-variants.{Refused, Read}
 use Rattle.message.specs.declared.reading.Reading.{Reading}
+use Rattle.message.specs.declared.reading.Report.{Report}
 use Rattle.rules.specs.Names.{fields}
 use Rattle.utf8.specs.Rfc3629.{verdict}
 use Rattle.utf8.specs.declared.Verdict.the-variants as verdicts
 use Rattle.utf8.specs.declared.Verdict.{Verdict}
-use borrow.Author.Tests.{eq-eqb, ne-eqb, lt-ltb, le-ltb, le-leb, leb-true, ltb-true, ltb-false, eqb-true, eqb-false}
+use borrow.Author.Tests.{eq-eqb, ne-eqb, lt-ltb, le-ltb, leb-true, ltb-true, ltb-false, eqb-true, eqb-false}
 use lib.Dec.{eqb, leb, ltb}
 use lib.ListN.{length, getD}
 use mathlib.Core.Bool.{Bool, true, false, not, _&&_, cond}
@@ -66,9 +71,13 @@ module _ {s : List ℕ} {tag : ℕ} {t : List ℕ} (a : Accepted s tag t) where
   unfolding shaped known
   shaped-is = rw (a .tagged, ne-eqb tag 0 (λ e. omega (arith, a .kind .0)), a .once, a .places) judged-is
 
-  pub accepted-read : reading s ≡ Read (messageOf s (settingOf s tag t) t)
+  -- under a ceiling that no JSON text passes
+  pub accepted-read : reading ample s ≡ Read (messageOf s (settingOf s tag t) t)
   unfolding reading
-  accepted-read = rw (le-leb 1 (length s) (a .some), le-leb (length s) 32768 (a .short), a .utf, a .json) shaped-is
+  accepted-read =
+      ap (λ (r : Report). r .reading)
+      (in-bounds ample s (λ e. omega (arith, a .some)) (a .short) ∙ ap (onUtf8 ample s) (a .utf) ∙ ap (onJson s) (ends-within ample s (a .json) (omega (arith, a .short)) .1))
+      ∙ shaped-is
 
 -- forth
 read-not : {A : Type 0} {n p : ℕ} {m : Message} → Refused n p ≡ Read m → A
@@ -86,14 +95,19 @@ by-unless : (c : Check) (x : Reading) (m : Message) → unless c x ≡ Read m �
 by-unless Good x m e = (refl, e)
 by-unless (Fault n p) x m e = read-not e
 
-by-utf : (s : List ℕ) (v : Verdict) (m : Message) → onUtf8 s v ≡ Read m → (v ≡ verdicts.Good) × (onJson s (answer s) ≡ Read m)
-by-utf s verdicts.Good m e = (refl, e)
-by-utf s (verdicts.Bad p) m e = read-not e
+by-length : (b : Bool) (x : Report) (m : Message) → cond b x (uncounted 2 0) .reading ≡ Read m → (b ≡ true) × (x .reading ≡ Read m)
+by-length true x m e = (refl, e)
+by-length false x m e = read-not e
 
-by-json : (s : List ℕ) (w : Walked) (m : Message) → onJson s w ≡ Read m → (e : ℕ) × ((w ≡ walked.End e) × (shaped s ≡ Read m))
-by-json s (walked.End e) m h = (e, (refl, h))
-by-json s (walked.Bad p) m h = read-not h
-by-json s (walked.Deep p) m h = read-not h
+by-utf : (c : ℕ) (s : List ℕ) (v : Verdict) (m : Message) → onUtf8 c s v .reading ≡ Read m → (v ≡ verdicts.Good) × (onJson s (visited c s) .reading ≡ Read m)
+by-utf c s verdicts.Good m e = (refl, e)
+by-utf c s (verdicts.Bad p) m e = read-not e
+
+by-json : (s : List ℕ) (w : Visited) (m : Message) → onJson s w .reading ≡ Read m → (n : ℕ) × ((w ≡ visits.Text n) × (shaped s ≡ Read m))
+by-json s (visits.Text n) m h = (n, (refl, h))
+by-json s (visits.Bad p) m h = read-not h
+by-json s (visits.Deep p) m h = read-not h
+by-json s (visits.Many p) m h = read-not h
 
 pub same-message : {a b : Message} → Read a ≡ Read b → a ≡ b
 same-message e = cc
@@ -180,32 +194,31 @@ record Gone (s : List ℕ) (m : Message) : Type 0 where
   some : 1 ≤ length s
   short : length s ≤ 32768
   utf : verdict s ≡ verdicts.Good
-  end : ℕ
-  json : answer s ≡ walked.End end
+  json : answer s ≡ walked.End (length s)
   shown : shaped s ≡ Read m
 
-gone-as : (s : List ℕ) (m : Message) → reading s ≡ Read m → Gone s m
-unfolding reading
-gone-as s m e =
-    let r = by-choose (leb 1 (length s) && leb (length s) 32768) (onUtf8 s (verdict s)) 2 0 m e in
+gone-as : (c : ℕ) (s : List ℕ) (m : Message) → reading c s ≡ Read m → Gone s m
+unfolding reading reporting
+gone-as c s m e =
+    let r = by-length (leb 1 (length s) && leb (length s) 32768) (onUtf8 c s (verdict s)) m e in
     let l = and-parts (leb 1 (length s)) (leb (length s) 32768) (r .0) in
-    let u = by-utf s (verdict s) m (r .1) in
-    let j = by-json s (answer s) m (u .1) in
-    record { some = leb-true 1 (length s) (l .0); short = leb-true (length s) 32768 (l .1); utf = u .0; end = j .0; json = j .1 .0; shown = j .1 .1 }
+    let u = by-utf c s (verdict s) m (r .1) in
+    let j = by-json s (visited c s) m (u .1) in
+    record { some = leb-true 1 (length s) (l .0); short = leb-true (length s) 32768 (l .1); utf = u .0; json = text-ends c s (j .1 .0); shown = j .1 .1 }
 
-pub read-short : (s : List ℕ) (m : Message) → reading s ≡ Read m → length s ≤ 32768
-read-short s m e = gone-as s m e .short
+pub read-short : (c : ℕ) (s : List ℕ) (m : Message) → reading c s ≡ Read m → length s ≤ 32768
+read-short c s m e = gone-as c s m e .short
 
 -- the tag of any message that is read
-pub read-tag : (s : List ℕ) (m : Message) → reading s ≡ Read m → (1 ≤ m .tag) × (m .tag ≤ 4)
-read-tag s m e =
-    let w = shown-as s m (gone-as s m e .shown) in
+pub read-tag : (c : ℕ) (s : List ℕ) (m : Message) → reading c s ≡ Read m → (1 ≤ m .tag) × (m .tag ≤ 4)
+read-tag c s m e =
+    let w = shown-as s m (gone-as c s m e .shown) in
     let q = judged-tag s (tagOf s) _ m (w .rows) in
     (omega (arith, q, w .shape), omega (arith, q, tag-few s))
 
-pub read-taken : (s : List ℕ) (m : Message) → reading s ≡ Read m → m .tag ≤ 2 → Taken s m
-read-taken s m e l =
-    let g = gone-as s m e in
+pub read-taken : (c : ℕ) (s : List ℕ) (m : Message) → reading c s ≡ Read m → m .tag ≤ 2 → Taken s m
+read-taken c s m e l =
+    let g = gone-as c s m e in
     let w = shown-as s m (g .shown) in
     let t = noted fields s empty (members s (objectOf s)) in
     let j = judged-as s (tagOf s) t m l (w .rows) in
@@ -216,7 +229,7 @@ read-taken s m e l =
         some = g .some;
         short = g .short;
         utf = g .utf;
-        end = g .end;
+        end = length s;
         json = g .json;
         tagged = q;
         kind = (omega (arith, w .shape, q), l);

@@ -42,9 +42,9 @@ via-place : (s : List ℕ) (tag : ℕ) (t : List ℕ) → messageOf s (settingOf
 unfolding messageOf
 via-place s tag t = refl
 
-pub via-kept : (s : List ℕ) (m : Message) → reading s ≡ Read m → m .tag ≤ 2 → viaRule (bytes s (m .via)) ≡ true
-via-kept s m e l =
-    let a = read-taken s m e l in
+pub via-kept : (c : ℕ) (s : List ℕ) (m : Message) → reading c s ≡ Read m → m .tag ≤ 2 → viaRule (bytes s (m .via)) ≡ true
+via-kept c s m e l =
+    let a = read-taken c s m e l in
     let t = a .t in
     let g = good-sound s true (firstSetting (m .tag)) t (a .accepted .fits) in
     let q = via-asked (m .tag) (a .accepted .kind .0) l in
@@ -63,9 +63,9 @@ starts-inside s v e h =
     let z : 0 < length (take (e - v) (drop v s)) = there (take (e - v) (drop v s)) 0 90 h in
     omega (arith, rw (length-take, length-drop) at z)
 
-pub via-inside : (s : List ℕ) (m : Message) → reading s ≡ Read m → m .tag ≤ 2 → m .via < length s
-via-inside s m e l = starts-inside s (m .via) (behind s (m .via)) (array-byte (bytes s (m .via)) (via-kept s m e l))
+pub via-inside : (c : ℕ) (s : List ℕ) (m : Message) → reading c s ≡ Read m → m .tag ≤ 2 → m .via < length s
+via-inside c s m e l = starts-inside s (m .via) (behind s (m .via)) (array-byte (bytes s (m .via)) (via-kept c s m e l))
 
 -- a value of what is read is no longer than a message may be
-pub value-short : (s : List ℕ) (m : Message) (v : ℕ) {x : List ℕ} → reading s ≡ Read m → x ≡ bytes s v → length x ≤ 32768
-value-short s m v {x} e f = omega (arith, ap length f, part-short s v (behind s v), read-short s m e)
+pub value-short : (c : ℕ) (s : List ℕ) (m : Message) (v : ℕ) {x : List ℕ} → reading c s ≡ Read m → x ≡ bytes s v → length x ≤ 32768
+value-short c s m v {x} e f = omega (arith, ap length f, part-short s v (behind s v), read-short c s m e)

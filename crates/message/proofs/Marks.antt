@@ -1,7 +1,9 @@
 -- Marks of the reading (01 Reading), each a whole message on one side of a row or on both, computed from the definitions. Assumes nothing.
-use Rattle.json.specs.inner.Machine.{begin, expo, from, opens, point, step, stops, walk}
+use Rattle.json.specs.inner.Begun as json
+use Rattle.json.specs.inner.Begun.{begun}
+use Rattle.json.specs.inner.Machine.{begin, ends, expo, from, opens, point, step, stops, walk}
+use Rattle.json.specs.inner.Tour.{tour}
 use Prim.Native.Nat.{ℕ, zero, suc}
-use Rattle.json.specs.inner.Machine.{ends}
 use Rattle.json.specs.Places.{behind, closing, elements, elementsFrom, follows, isMark, isOpen, isShut, left, memberAt, members, membersFrom, more, next, part, isWs}
 use Rattle.json.specs.Places.{past, raw, size, spaces, unmarked, valueOf}
 use Rattle.message.specs.Checks.{breaks, checked, lacks, lowest}
@@ -9,7 +11,7 @@ use Rattle.fields.specs.Field.{addressRule, bodyField, contentField, keeps, nam
 use Rattle.fields.specs.Known.{has, note, noted, numberAt, repeated}
 use Rattle.message.specs.Message.{contentAt, disagrees, fromCaller, methodOf, numberOf, requestDisagrees, sameSide, settingOf, sidesDisagree, toCaller}
 use Rattle.message.specs.Message.{wrongNumber, wrongSide}
-use Rattle.message.specs.Reading.{agreed, judged, known, reading, settled, shaped}
+use Rattle.message.specs.Reading.{agreed, ample, judged, known, reading, reporting, settled, shaped}
 use Rattle.message.specs.Shape.{objectOf, tagAt, tagOf}
 use Rattle.fields.specs.Spans.{textAt}
 use Rattle.fields.specs.Value.{freely, isArray, isString, ruled, textOf}
@@ -36,8 +38,8 @@ use mathlib.Core.List.{List, [], _++_}
 use mathlib.Core.Path.{_≡_, refl}
 
 -- row 2: no bytes, and over 32,768; as many as that go on to row 4
-pub lengths : (reading [] ≡ Refused 2 0) × (reading (replicate 32768 120) ≡ Refused 4 0) × (reading (replicate 32769 120) ≡ Refused 2 0)
-unfolding reading octets charAt begins goesOn among from walk step isWs begin isDigit
+pub lengths : (reading 0 [] ≡ Refused 2 0) × (reading 0 (replicate 32768 120) ≡ Refused 4 0) × (reading 0 (replicate 32769 120) ≡ Refused 2 0)
+unfolding reading reporting octets charAt begins goesOn among tour begun json.begins from walk step isWs begin isDigit
 lengths = (refl, refl, refl)
 
 -- a message that begins so, with its tag and fields that are not named here, of this method, from one address to another; its other fields keep their rules
@@ -75,27 +77,28 @@ isRead (Read m) = true
 
 pub rows :
     -- row 7: a known name twice, at the opening quote of the repeat; `date` is none
-    (reading (ascii "[\"ping\",{\"Date\":0,\"date\":0,\"Date\":0}]") ≡ Refused 7 27)
+    (reading ample (ascii "[\"ping\",{\"Date\":0,\"date\":0,\"Date\":0}]") ≡ Refused 7 27)
     -- row 8: 4 and 25 are missing
-    × (reading (ascii "[\"ping\",{\"Via\":0}]") ≡ Refused 8 4)
+    × (reading ample (ascii "[\"ping\",{\"Via\":0}]") ≡ Refused 8 4)
     -- row 9: none is missing, and all break their rules
-    × (reading (ascii "[\"ping\",{\"Via\":0,\"Date\":0,\"Destination\":0}]") ≡ Refused 9 24)
+    × (reading ample (ascii "[\"ping\",{\"Via\":0,\"Date\":0,\"Destination\":0}]") ≡ Refused 9 24)
     -- row 8 again, on the method's fields: a NOTIFY without 9 and 10
-    × (reading (told (ascii "[\"request\",{") (ascii "NOTIFY") caller callee) ≡ Refused 8 9)
+    × (reading ample (told (ascii "[\"request\",{") (ascii "NOTIFY") caller callee) ≡ Refused 8 9)
     -- row 10: From and To on the same side, in a request and in a response
-    × (reading (told (ascii "[\"request\",{") (ascii "BYE") caller (ascii "u2@kita.caller")) ≡ Refused 10 0)
-    × (reading (told (ascii "[\"response\",{\"Status\":\"200 OK\",") (ascii "BYE") callee (ascii "fire@nishi.callee")) ≡ Refused 10 0)
+    × (reading ample (told (ascii "[\"request\",{") (ascii "BYE") caller (ascii "u2@kita.caller")) ≡ Refused 10 0)
+    × (reading ample (told (ascii "[\"response\",{\"Status\":\"200 OK\",") (ascii "BYE") callee (ascii "fire@nishi.callee")) ≡ Refused 10 0)
     -- an image in a caller's MESSAGE, under either name; row 9 where its Body does not start `https://` or is no string
-    × (isRead (reading (sent (ascii "text/vnd.net119.uri.image") (ascii "\"https://x\"") (ascii "MESSAGE") caller callee)) ≡ true)
-    × (isRead (reading (image (ascii "\"https://x\"") (ascii "MESSAGE") caller callee)) ≡ true)
-    × (reading (image (ascii "\"http://x\"") (ascii "MESSAGE") caller callee) ≡ Refused 9 95)
-    × (reading (image (ascii "{}") (ascii "MESSAGE") caller callee) ≡ Refused 9 95)
+    × (isRead (reading ample (sent (ascii "text/vnd.net119.uri.image") (ascii "\"https://x\"") (ascii "MESSAGE") caller callee)) ≡ true)
+    × (isRead (reading ample (image (ascii "\"https://x\"") (ascii "MESSAGE") caller callee)) ≡ true)
+    × (reading ample (image (ascii "\"http://x\"") (ascii "MESSAGE") caller callee) ≡ Refused 9 95)
+    × (reading ample (image (ascii "{}") (ascii "MESSAGE") caller callee) ≡ Refused 9 95)
     -- row 10: a callee's; row 9 comes first
-    × (reading (image (ascii "\"https://x\"") (ascii "MESSAGE") callee caller) ≡ Refused 10 0)
-    × (reading (image (ascii "\"http://x\"") (ascii "MESSAGE") callee caller) ≡ Refused 9 95)
+    × (reading ample (image (ascii "\"https://x\"") (ascii "MESSAGE") callee caller) ≡ Refused 10 0)
+    × (reading ample (image (ascii "\"http://x\"") (ascii "MESSAGE") callee caller) ≡ Refused 9 95)
     -- row 9, at Content-Type: one under NOTIFY
-    × (reading (image (ascii "\"https://x\"") (ascii "NOTIFY") caller callee) ≡ Refused 9 57)
-unfolding reading octets charAt begins goesOn from walk step isWs begin opens point expo ends stops shaped tagOf tagAt objectOf elements elementsFrom more follows past spaces
+    × (reading ample (image (ascii "\"https://x\"") (ascii "NOTIFY") caller callee) ≡ Refused 9 57)
+unfolding reading reporting octets charAt begins goesOn tour begun json.begins from walk step isWs begin opens point expo ends stops shaped tagOf tagAt objectOf elements
+    elementsFrom more follows past spaces
     behind size left unmarked isMark isOpen isShut raw closing part wordNumberFrom same standsAt members membersFrom memberAt valueOf next known repeated has numberAt note noted
     judged checked lacks breaks lowest tagAsks methodAsks isIn keeps ruled freely isString isArray textOf textAt viaRule isHop hopPlaces hopRule hopKeeps
     addressRule statusField statusRule dateRule daysIn leap callerRule calleeRule sequenceRule callIdRule destinationRule hostRule organizationRule noBackslash reads runLength
@@ -104,6 +107,20 @@ unfolding reading octets charAt begins goesOn from walk step isWs begin opens po
     sequence.cseqNumber sequence.cseqMethod settled agreed disagrees sidesDisagree sameSide fromCaller toCaller addressOf userEnd callerEnd calleeEnd
     messageIdRule contentField oneOf bodyField namesImage imageRule wrongSide wrongNumber requestDisagrees
 rows = (refl, refl, refl, refl, refl, refl, refl, refl, refl, refl, refl, refl, refl)
+
+-- 02 §9: six values, an array, its tag, its object and the object's three; the count stands with an 8, and is 0 with an 11, at the first value too many
+abbrev six : List ℕ
+six = ascii "[\"ping\",{\"Via\":0,\"Date\":0,\"x\":[]}]"
+
+pub counts :
+    (reporting 6 six ≡ record { reading = Refused 8 25; count = 6 })
+    × (reporting 5 six ≡ record { reading = Refused 11 30; count = 0 })
+    × (reporting 2 six ≡ record { reading = Refused 11 8; count = 0 })
+unfolding reporting octets charAt begins goesOn tour begun json.begins from walk step isWs begin opens point expo ends stops shaped tagOf tagAt objectOf elements elementsFrom more
+    follows past spaces
+    behind size left unmarked isMark isOpen isShut raw closing part wordNumberFrom same standsAt members membersFrom memberAt valueOf next known repeated has numberAt note noted
+    judged checked lacks breaks lowest tagAsks methodAsks isIn keeps ruled freely isString isArray textOf textAt among
+counts = (refl, refl, refl)
 
 -- so many objects of Via, and a comma behind each
 abbrev hops : ℕ → List ℕ

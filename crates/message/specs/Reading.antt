@@ -1,14 +1,14 @@
--- 01 Reading, rows 2 to 10, tried in the paper's order: the contract of `read` cites `reading`. Rows 4 and 5 stand here as the answer of `json`'s
--- inner machine, which nobody has to believe: `by-the-grammar` in proofs/Theorems.antt says of any bytes, both ways and in the words of RFC 7159's
--- grammar (`json`'s specs/Verdict.antt), when 4 and 5 are answered and at which place, and when row 6 is reached; and every text has one such
--- verdict (`one-verdict` in `json`'s proofs/VerdictLaws.antt).
--- How to read it: from the last definition upwards, since each row names the next, which stands above it: `reading` (2), `onUtf8` (3), `onJson` (4, 5),
+-- 01 Reading, rows 2 to 10, and 02 §9's row 11, tried in the paper's order: the contract of `read_and_count` cites `reporting`, that of `read` `reading`. Rows 4, 5 and
+-- 11 stand here as the answer of `json`'s inner machine, which nobody has to believe: `by-the-grammar` in proofs/Theorems.antt says of any bytes and any
+-- ceiling, both ways and in the words of RFC 7159's grammar (`json`'s specs/Verdict.antt), when 4, 5 and 11 are answered and at which place, and when row 6 is
+-- reached, with which count; and every text has one such verdict (`one-verdict` in `json`'s proofs/VerdictLaws.antt).
+-- How to read it: from `reporting` upwards, since each row names the next, which stands above it: `reporting` (2), `onUtf8` (3), `onJson` (4, 5, 11),
 -- `shaped` (6), `known` (7), `judged` (8 and 9 on the tag's fields), `settled` (8 and 9 on the method's), `agreed` (10). Assumes nothing.
 use Prim.Native.Nat.{ℕ}
-use Rattle.json.specs.inner.Machine.{answer}
+use Rattle.json.specs.inner.Tour.{visited}
 use Rattle.json.specs.Places.{members}
-use Rattle.json.specs.declared.Walked.the-variants as walked
-use Rattle.json.specs.declared.Walked.{Walked}
+use Rattle.json.specs.declared.Visited.the-variants as visits
+use Rattle.json.specs.declared.Visited.{Visited}
 use Rattle.message.specs.Checks.{checked}
 use Rattle.fields.specs.Known.{empty, noted, repeated}
 use Rattle.message.specs.Message.{firstSetting, settingOf, disagrees, messageOf, probeOf}
@@ -18,6 +18,7 @@ use Rattle.message.specs.declared.checking.Check.{Check}
 use Rattle.fields.specs.declared.judging.Setting.{Setting}
 use Rattle.message.specs.declared.reading.Reading.the-variants.{Refused, Read}
 use Rattle.message.specs.declared.reading.Reading.{Reading}
+use Rattle.message.specs.declared.reading.Report.{Report}
 use Rattle.rules.specs.Names.{fields}
 use Rattle.rules.specs.Numbers.{tagRequest, tagResponse}
 use Rattle.utf8.specs.Rfc3629.{verdict}
@@ -54,17 +55,30 @@ known s tag qs = cond (ltb 0 (repeated fields s empty qs)) (Refused 7 (repeated 
 unfoldable pub shaped : List ℕ → Reading
 shaped s = cond (eqb (tagOf s) 0) (Refused 6 0) (known s (tagOf s) (members s (objectOf s)))
 
--- rows 4 and 5, and on
-abbrev pub onJson : List ℕ → Walked → Reading
-onJson s (walked.End e) = shaped s
-onJson s (walked.Bad p) = Refused 4 p
-onJson s (walked.Deep p) = Refused 5 p
+-- refused before row 6: nothing is counted (02 §9)
+abbrev pub uncounted : ℕ → ℕ → Report
+uncounted n p = record { reading = Refused n p; count = 0 }
 
--- row 3, and on
-abbrev pub onUtf8 : List ℕ → Verdict → Reading
-onUtf8 s verdicts.Good = onJson s (answer s)
-onUtf8 s (verdicts.Bad p) = Refused 3 p
+-- rows 4, 5 and 11, and on: the JSON values visited are counted
+abbrev pub onJson : List ℕ → Visited → Report
+onJson s (visits.Text n) = record { reading = shaped s; count = n }
+onJson s (visits.Bad p) = uncounted 4 p
+onJson s (visits.Deep p) = uncounted 5 p
+onJson s (visits.Many p) = uncounted 11 p
+
+-- row 3, and on, under a ceiling of c values
+abbrev pub onUtf8 : ℕ → List ℕ → Verdict → Report
+onUtf8 c s verdicts.Good = onJson s (visited c s)
+onUtf8 c s (verdicts.Bad p) = uncounted 3 p
 
 -- row 2: length 0 or over 32,768; and on
-unfoldable pub reading : List ℕ → Reading
-reading s = cond (leb 1 (length s) && leb (length s) 32768) (onUtf8 s (verdict s)) (Refused 2 0)
+unfoldable pub reporting : ℕ → List ℕ → Report
+reporting c s = cond (leb 1 (length s) && leb (length s) 32768) (onUtf8 c s (verdict s)) (uncounted 2 0)
+
+-- what is read, the count aside
+unfoldable pub reading : ℕ → List ℕ → Reading
+reading c s = reporting c s .reading
+
+-- the program's ceiling, at which the writers read always (02 §9): no JSON text of 32,768 bytes passes it (`never-eleven` in proofs/Theorems.antt)
+abbrev pub ample : ℕ
+ample = 16384

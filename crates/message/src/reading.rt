@@ -1,4 +1,4 @@
-// The reading of a message (01 Reading, rows 2 to 10), tried in the paper's order.
+// The reading of a message (01 Reading, rows 2 to 10; 02 §9, row 11), tried in the paper's order.
 use crate::checking::Check;
 use crate::checking::breaking;
 use crate::checking::lacking;
@@ -14,7 +14,7 @@ use crate::settings::setting_of;
 use crate::shapes::shape_of;
 use crate::walking::walk_text;
 use fields::Setting;
-use json::Walked;
+use json::Visited;
 use rules::REQUEST;
 use rules::RESPONSE;
 use utf8::Verdict;
@@ -22,16 +22,25 @@ ghost use Rattle.fields.specs.inner.Gathering.{Ended};
 ghost use mathlib.Core.Bool.{false, true};
 ghost use mathlib.Core.Path.{_≡_};
 ghost use Prim.Native.Nat.{_<_};
-ghost use Rattle.json.specs.inner.Machine.{answer};
+ghost use Rattle.json.specs.inner.Tour.{visited};
 ghost use Rattle.message.specs.Message.{probeOf, firstSetting};
-ghost use Rattle.message.specs.Reading.{agreed, judged, onJson, reading, settled, shaped, unless};
+ghost use Rattle.message.specs.Reading.{agreed, judged, onJson, reading, reporting, settled, shaped, uncounted, unless};
 ghost use Rattle.message.specs.inner.Facts.{FactsOf, nineFrom};
 ghost use Rattle.message.specs.declared.reading.Reading.the-variants.{Read};
+
+// A ceiling that no JSON text of 32,768 bytes passes (02 §9).
+pub const AMPLE: u32 = 16384;
 
 // What is read of any bytes: a refusal with its number and place, or the message.
 pub enum Reading {
     Refused(u8, usize),
     Read(Message),
+}
+
+// The same, and how many JSON values were visited (02 §9).
+pub struct Report {
+    pub reading: Reading,
+    pub count: usize,
 }
 
 // Row 10, and what is read.
@@ -126,36 +135,61 @@ fn shape(s: &[u8]) -> Reading
     judge(s, tag, &at, &end)
 }
 
-// Rows 4 to 10: in one walk where the text has the usual shape, else row by row.
-fn tell(s: &[u8]) -> Reading
-    ensures { λ r. ⌜ r ≡ onJson (now (s .entry)) (answer (now (s .entry))) ⌝ }
+// A refusal before row 6: nothing is counted.
+fn uncounted(number: u8, place: usize) -> Report
+    ensures { λ r. ⌜ r ≡ uncounted number place ⌝ }
 {
-    let w = walk_text(s);
-    let tag = w.tag;
-    let at = w.at;
-    let end = w.end;
-    if 0 < tag {
-        return judge(s, tag, &at, &end);
-    }
-    match json::read(s) {
-        Walked::Bad(p) => Reading::Refused(4, p),
-        Walked::Deep(p) => Reading::Refused(5, p),
-        Walked::End(_) => shape(s),
+    Report {
+        reading: Reading::Refused(number, place),
+        count: 0,
     }
 }
 
-// Reads any bytes as document 01 reads a message.
-pub fn read(s: &[u8]) -> Reading
-    ensures { λ r. ⌜ r ≡ reading (now (s .entry)) ⌝ }
+// Rows 4, 5 and 11, and on: in one walk where the text has the usual shape, else row by row.
+fn tell(s: &[u8], ceiling: usize) -> Report
+    ensures { λ r. ⌜ r ≡ onJson (now (s .entry)) (visited ceiling (now (s .entry))) ⌝ }
+{
+    let w = walk_text(s, ceiling);
+    let tag = w.tag;
+    let room = w.room;
+    let at = w.at;
+    let end = w.end;
+    if 0 < tag {
+        return Report {
+            reading: judge(s, tag, &at, &end),
+            count: ceiling - room,
+        };
+    }
+    match json::read(s, ceiling) {
+        Visited::Bad(p) => uncounted(4, p),
+        Visited::Deep(p) => uncounted(5, p),
+        Visited::Many(p) => uncounted(11, p),
+        Visited::Text(n) => Report {
+            reading: shape(s),
+            count: n,
+        },
+    }
+}
+
+// Reads any bytes as document 01 reads a message, with room for so many JSON values (02 §9), and tells how many it visited.
+pub fn read_and_count(s: &[u8], ceiling: u32) -> Report
+    ensures { λ r. ⌜ r ≡ reporting ceiling (now (s .entry)) ⌝ }
 {
     if s.len() == 0 {
-        return Reading::Refused(2, 0);
+        return uncounted(2, 0);
     }
     if 32768 < s.len() {
-        return Reading::Refused(2, 0);
+        return uncounted(2, 0);
     }
     match utf8::check(s) {
-        Verdict::Bad(p) => Reading::Refused(3, p),
-        Verdict::Good => tell(s),
+        Verdict::Bad(p) => uncounted(3, p),
+        Verdict::Good => tell(s, ceiling as usize),
     }
+}
+
+// The same without the count.
+pub fn read(s: &[u8], ceiling: u32) -> Reading
+    ensures { λ r. ⌜ r ≡ reading ceiling (now (s .entry)) ⌝ }
+{
+    read_and_count(s, ceiling).reading
 }

@@ -7,6 +7,8 @@ use Rattle.answers.specs.declared.Word.the-variants.{Pass, Repeat, Bye, Timeout
 use Rattle.answers.specs.declared.Word.{Word}
 use Rattle.message.specs.declared.reading.Reading.the-variants as readings
 use Rattle.message.specs.declared.reading.Reading.{Reading}
+use Rattle.message.specs.declared.reading.Report.{Report}
+use Rattle.net119.specs.declared.flat.CountAnswer.{CountAnswer}
 use Rattle.net119.specs.declared.flat.EventAnswer.{EventAnswer}
 use Rattle.net119.specs.declared.flat.ReadAnswer.{ReadAnswer}
 use Rattle.net119.specs.declared.flat.RemoveAnswer.{RemoveAnswer}
@@ -21,6 +23,10 @@ use Rattle.writing.specs.declared.answers.Written.{Written}
 abbrev pub flatReading : Reading → ReadAnswer
 flatReading (readings.Refused n p) = record { number = n; place = p }
 flatReading (readings.Read m) = record { number = 0; place = 0 }
+
+-- the same, and the count
+abbrev pub flatReport : Report → CountAnswer
+flatReport r = record { number = flatReading (r .reading) .number; place = flatReading (r .reading) .place; count = r .count }
 
 -- the words by number, in the order in which document 01 has them
 abbrev pub flatWord : Word → ℕ

@@ -2,16 +2,25 @@
 use answers::Answer;
 use answers::Word;
 use message::Reading;
+use message::Report;
 use writing::Removed;
 use writing::Written;
 ghost use mathlib.Core.Path.{_≡_};
-ghost use Rattle.net119.specs.Flat.{flatAnswer, flatReading, flatRemoved, flatWritten, flatWord};
+ghost use Rattle.net119.specs.Flat.{flatAnswer, flatReading, flatRemoved, flatReport, flatWritten, flatWord};
 
 // A reading: number 0, accepted; else the number and the place of the refusal.
 #[repr(C)]
 pub struct ReadAnswer {
     pub number: u8,
     pub place: usize,
+}
+
+// The same, and how many JSON values were visited: 0 where refused by 2 to 5 or 11.
+#[repr(C)]
+pub struct CountAnswer {
+    pub number: u8,
+    pub place: usize,
+    pub count: usize,
 }
 
 // An event's answer: number 0, accepted, with its word and the state shown; else the refusal's number, place and reply.
@@ -52,6 +61,18 @@ pub fn flat_reading(r: Reading) -> ReadAnswer
             number: 0,
             place: 0,
         },
+    }
+}
+
+pub fn flat_report(r: Report) -> CountAnswer
+    ensures { λ f. ⌜ f ≡ flatReport r ⌝ }
+{
+    let reading = r.reading;
+    let f = flat_reading(reading);
+    CountAnswer {
+        number: f.number,
+        place: f.place,
+        count: r.count,
     }
 }
 

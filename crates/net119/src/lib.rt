@@ -3,6 +3,7 @@
 // A caller may hand over any bytes; what it must hold to about its pointers is in the header.
 mod flat;
 
+use flat::CountAnswer;
 use flat::EventAnswer;
 use flat::ReadAnswer;
 use flat::RemoveAnswer;
@@ -10,12 +11,14 @@ use flat::WriteAnswer;
 use flat::flat_answer;
 use flat::flat_reading;
 use flat::flat_removed;
+use flat::flat_report;
 use flat::flat_written;
+use message::AMPLE;
 ghost use mathlib.Core.Path.{_≡_};
 ghost use lib.ListN.{length};
 ghost use Rattle.keeper.specs.Keeping.{onMessage, onTick};
-ghost use Rattle.message.specs.Reading.{reading};
-ghost use Rattle.net119.specs.Flat.{flatAnswer, flatReading, flatRemoved, flatWritten};
+ghost use Rattle.message.specs.Reading.{ample, reading, reporting};
+ghost use Rattle.net119.specs.Flat.{flatAnswer, flatReading, flatRemoved, flatReport, flatWritten};
 ghost use Rattle.table.specs.Blank.{blankAfter, blankAnswer, madeNumber};
 ghost use Rattle.table.specs.WellFormed.{wellFormed};
 ghost use Rattle.writing.specs.Adding.{adding};
@@ -23,12 +26,20 @@ ghost use Rattle.writing.specs.Outcome.{answered, outputLeft};
 ghost use Rattle.writing.specs.Removing.{hostIn, removing, hostShown};
 ghost use Rattle.writing.specs.Reply.{replying};
 
-// Reads a message.
+// Reads a message, at the program's ceiling.
 #[no_mangle]
 pub extern "C" fn net119_read(message: &[u8]) -> ReadAnswer
-    ensures { λ r. ⌜ r ≡ flatReading (reading (now (message .entry))) ⌝ }
+    ensures { λ r. ⌜ r ≡ flatReading (reading ample (now (message .entry))) ⌝ }
 {
-    flat_reading(message::read(message))
+    flat_reading(message::read(message, AMPLE))
+}
+
+// Reads a message under a ceiling, and tells how many JSON values were visited.
+#[no_mangle]
+pub extern "C" fn net119_read_within(message: &[u8], ceiling: u32) -> CountAnswer
+    ensures { λ r. ⌜ r ≡ flatReport (reporting ceiling (now (message .entry))) ⌝ }
+{
+    flat_report(message::read_and_count(message, ceiling))
 }
 
 // Makes a blank table of so many records: 0, or 1 where count or length is wrong.
@@ -47,13 +58,27 @@ pub extern "C" fn net119_well_formed(table: &[u8]) -> bool
     table::well_formed(table)
 }
 
-// A message at a time, on a table.
+// A message at a time, on a table, at the program's ceiling.
 #[no_mangle]
 pub extern "C" fn net119_message(table: &mut [u8], time: u64, message: &[u8]) -> EventAnswer
-    ensures { λ r. ⌜ (r ≡ flatAnswer (onMessage (now (table .entry)) time (now (message .entry)) .answer))
-        × (now (table .exit) ≡ onMessage (now (table .entry)) time (now (message .entry)) .table) ⌝ }
+    ensures { λ r. ⌜ (r ≡ flatAnswer (onMessage ample (now (table .entry)) time (now (message .entry)) .answer))
+        × (now (table .exit) ≡ onMessage ample (now (table .entry)) time (now (message .entry)) .table) ⌝ }
 {
-    flat_answer(keeper::message(table, time, message))
+    flat_answer(keeper::message(table, time, message, AMPLE))
+}
+
+// The same under a ceiling.
+#[no_mangle]
+pub extern "C" fn net119_message_within(
+    table: &mut [u8],
+    time: u64,
+    message: &[u8],
+    ceiling: u32,
+) -> EventAnswer
+    ensures { λ r. ⌜ (r ≡ flatAnswer (onMessage ceiling (now (table .entry)) time (now (message .entry)) .answer))
+        × (now (table .exit) ≡ onMessage ceiling (now (table .entry)) time (now (message .entry)) .table) ⌝ }
+{
+    flat_answer(keeper::message(table, time, message, ceiling))
 }
 
 // A tick for a Call-ID at a time, on a table.
@@ -103,7 +128,7 @@ pub extern "C" fn net119_remove(
     destination: &[u8],
     organization: &[u8],
 ) -> RemoveAnswer
-    ensures { λ r. ⌜ (r ≡ flatRemoved (hostShown (hostIn (reading (now (message .entry)))) (answered (length (now (out .entry))) (removing (now (message .entry)) (now (host .entry)) (now (destination .entry)) (now (organization .entry))))))
+    ensures { λ r. ⌜ (r ≡ flatRemoved (hostShown (hostIn (reading ample (now (message .entry)))) (answered (length (now (out .entry))) (removing (now (message .entry)) (now (host .entry)) (now (destination .entry)) (now (organization .entry))))))
         × (now (out .exit) ≡ outputLeft (now (out .entry)) (removing (now (message .entry)) (now (host .entry)) (now (destination .entry)) (now (organization .entry)))) ⌝ }
 {
     flat_removed(writing::remove(out, message, host, destination, organization))

@@ -66,13 +66,13 @@ came-back e h size p l w =
     let v = rw z at w in
     (v .0, take-at p (drop (size - 0) h) size l ∙ v .1)
 
-pub is-tick : (t : List ℕ) (tick : Bool) (time : ℕ) (s : List ℕ) → tick ≡ true → onTick t time s ≡ eventOn t tick time s
+pub is-tick : (c : ℕ) (t : List ℕ) (tick : Bool) (time : ℕ) (s : List ℕ) → tick ≡ true → onTick t time s ≡ eventOn c t tick time s
 unfolding eventOn
-is-tick t tick time s e = rw e
+is-tick c t tick time s e = rw e
 
-pub is-message : (t : List ℕ) (tick : Bool) (time : ℕ) (s : List ℕ) → tick ≡ false → onMessage t time s ≡ eventOn t tick time s
+pub is-message : (c : ℕ) (t : List ℕ) (tick : Bool) (time : ℕ) (s : List ℕ) → tick ≡ false → onMessage c t time s ≡ eventOn c t tick time s
 unfolding eventOn
-is-message t tick time s e = rw e
+is-message c t tick time s e = rw e
 
 pub happened : (e : Step) (o : List ℕ) (size : ℕ) (h′ : List ℕ) {a : Answer} {n : ℕ} {o′ : List ℕ} → (a ≡ e .answer) × (take size h′ ≡ e .table)
     → (n ≡ length (eventText a)) × (o′ ≡ written o (eventText a)) → size ≤ 65536 → Turned (stepDone e) o n o′ size h′
@@ -81,21 +81,21 @@ happened e o size h′ p w small =
     record { text = v; table = p .1; small = small }
 
 -- `msg` and `tick`, by their words.
-module _ (t : List ℕ) (tick : Bool) (words : List ℕ) where
-  pub no-event : hasSpace words ≡ false → eventDone t tick words ≡ shows t unknown
+module _ (c : ℕ) (t : List ℕ) (tick : Bool) (words : List ℕ) where
+  pub no-event : hasSpace words ≡ false → eventDone c t tick words ≡ shows t unknown
   unfolding eventDone
   no-event e = simp e
 
   module _ (e : hasSpace words ≡ true) where
-    pub no-bytes : isBytes (rest words) ≡ false → eventDone t tick words ≡ shows t unknown
+    pub no-bytes : isBytes (rest words) ≡ false → eventDone c t tick words ≡ shows t unknown
     unfolding eventDone
     no-bytes k = simp (e, k)
 
-    pub no-time : isBytes (rest words) ≡ true → numeral (firstWord words) ≡ Other → eventDone t tick words ≡ shows t unknown
+    pub no-time : isBytes (rest words) ≡ true → numeral (firstWord words) ≡ Other → eventDone c t tick words ≡ shows t unknown
     unfolding eventDone
     no-time k v = simp (e, k, v)
 
     pub an-event : (time : ℕ) → isBytes (rest words) ≡ true → numeral (firstWord words) ≡ Value time
-        → eventDone t tick words ≡ stepDone (eventOn t tick time (hexBytes (rest words)))
+        → eventDone c t tick words ≡ stepDone (eventOn c t tick time (hexBytes (rest words)))
     unfolding eventDone
     an-event time k v = simp (e, k, v)

@@ -23,12 +23,12 @@ use mathlib.Core.Path.{_≡_, refl, sym, _∙_}
 use native.Mathlib.Omega.{arith}
 
 -- a text was written, and the first bytes of h are a table
-pub turns : (o : List ℕ) (size : ℕ) (h t text : List ℕ) {d : Effect} {n : ℕ} {o′ : List ℕ} → d ≡ shows t text → (n ≡ length text) × (o′ ≡ written o text) → take size h ≡ t
+pub turns : (o : List ℕ) (size : ℕ) (h t text : List ℕ) {d : Effect (List ℕ)} {n : ℕ} {o′ : List ℕ} → d ≡ shows t text → (n ≡ length text) × (o′ ≡ written o text) → take size h ≡ t
     → size ≤ 65536 → Turned d o n o′ size h
 turns o size h t text e w k small = rw e (record { text = w; table = k; small = small })
 
 -- `?` was written, and the held table stays
-pub stays : (o : List ℕ) (size : ℕ) (h : List ℕ) {d : Effect} {n m : ℕ} {o′ : List ℕ} → d ≡ shows (take size h) unknown
+pub stays : (o : List ℕ) (size : ℕ) (h : List ℕ) {d : Effect (List ℕ)} {n m : ℕ} {o′ : List ℕ} → d ≡ shows (take size h) unknown
     → ((n ≡ length unknown) × (o′ ≡ written o unknown)) × (m ≡ size) → size ≤ 65536 → Turned d o n o′ m h
 stays o size h e w small = rw (w .1) (turns o size h (take size h) unknown e (w .0) refl small)
 

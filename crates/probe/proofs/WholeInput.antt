@@ -6,7 +6,9 @@ use Rattle.lines.specs.Input.{endedLines, lastLine, linesOf}
 use Rattle.lines.specs.Log.{logText}
 use Rattle.lines.specs.inner.Running.{Turns}
 use Rattle.probe.proofs.CommandLaws.{line-long}
+use Rattle.message.specs.Reading.{ample}
 use Rattle.probe.specs.Commands.{lineDone}
+use Rattle.probe.specs.Effect.{Held, holding}
 use Rattle.table.specs.Blank.{blankOf}
 use lib.ListN.{length, take}
 use lib.Seq.{length-take-le, take-all}
@@ -16,20 +18,20 @@ use native.Mathlib.Decide.{decLe}
 use native.Mathlib.Omega.{arith}
 
 -- a line cut to 170,001 bytes or more does what the whole does
-pub line-kept : (cap : ℕ) → 170001 ≤ cap → (t l : List ℕ) → lineDone t (take cap l) ≡ lineDone t l
-line-kept cap room t l = go (decLe (length l) cap)
+pub line-kept : (cap : ℕ) → 170001 ≤ cap → (x : Held) (l : List ℕ) → lineDone x (take cap l) ≡ lineDone x l
+line-kept cap room x l = go (decLe (length l) cap)
   where
-    go : Dec (length l ≤ cap) → lineDone t (take cap l) ≡ lineDone t l
-    go (yes a) = ap (lineDone t) (take-all cap l a)
-    go (no a) = line-long t (take cap l) (rw (length-take-le cap l (omega arith)) (omega arith)) ∙ sym (line-long t l (omega arith))
+    go : Dec (length l ≤ cap) → lineDone x (take cap l) ≡ lineDone x l
+    go (yes a) = ap (lineDone x) (take-all cap l a)
+    go (no a) = line-long x (take cap l) (rw (length-take-le cap l (omega arith)) (omega arith)) ∙ sym (line-long x l (omega arith))
 
 -- at the end of the input: what was handed on turn by turn, and then the answer to a last line without its line feed, is the text of the
 -- whole input
-pub whole-input : {input handed t k : List ℕ} → Turns lineDone 170001 (blankOf 255) input handed t k []
-    → logText lineDone (blankOf 255) (linesOf input) ≡ handed ++ logText lineDone t (lastLine k)
+pub whole-input : {input handed : List ℕ} {x : Held} {k : List ℕ} → Turns lineDone 170001 (holding ample (blankOf 255)) input handed x k []
+    → logText lineDone (holding ample (blankOf 255)) (linesOf input) ≡ handed ++ logText lineDone x (lastLine k)
 whole-input r = whole-run lineDone 170001 (omega arith) (line-kept 170001 (omega arith)) r
 
 -- before it, and where a call fails: what was handed on is the beginning of the text of the lines that have ended
-pub input-so-far : {input handed t k s : List ℕ} → Turns lineDone 170001 (blankOf 255) input handed t k s
-    → logText lineDone (blankOf 255) (endedLines [] input) ≡ handed ++ logText lineDone t (endedLines k s)
+pub input-so-far : {input handed : List ℕ} {x : Held} {k s : List ℕ} → Turns lineDone 170001 (holding ample (blankOf 255)) input handed x k s
+    → logText lineDone (holding ample (blankOf 255)) (endedLines [] input) ≡ handed ++ logText lineDone x (endedLines k s)
 input-so-far r = so-far lineDone 170001 (omega arith) (line-kept 170001 (omega arith)) r .written

@@ -25,22 +25,22 @@ unfoldable pub eventText : Answer → List ℕ
 eventText (Accepted w s) = acceptedText (Accepted w s)
 eventText (Refused f) = ascii "no " ++ (shown (refusalNumber f) ++ (ascii " " ++ (shown (refusalPlace f) ++ (ascii " " ++ (shown (refusalReply f) ++ ascii "\n")))))
 
--- a tick for the Call-ID s, or the message s
-unfoldable pub eventOn : List ℕ → Bool → ℕ → List ℕ → Step
-eventOn t tick time s = cond tick (onTick t time s) (onMessage t time s)
+-- a tick for the Call-ID s, or the message s under a ceiling of c
+unfoldable pub eventOn : ℕ → List ℕ → Bool → ℕ → List ℕ → Step
+eventOn c t tick time s = cond tick (onTick t time s) (onMessage c t time s)
 
 -- an event's answer is shown
-abbrev pub stepDone : Step → Effect
-stepDone e = record { text = eventText (e .answer); table = e .table }
+abbrev pub stepDone : Step → Effect (List ℕ)
+stepDone e = record { text = eventText (e .answer); held = e .table }
 
 -- an event at the time that is spelt
-abbrev pub eventAt : List ℕ → Bool → List ℕ → Spelt → Effect
-eventAt t tick s (Value time) = stepDone (eventOn t tick time s)
-eventAt t tick s Other = shows t unknown
+abbrev pub eventAt : ℕ → List ℕ → Bool → List ℕ → Spelt → Effect (List ℕ)
+eventAt c t tick s (Value time) = stepDone (eventOn c t tick time s)
+eventAt c t tick s Other = shows t unknown
 
 -- `msg TIME HEX` and `tick TIME HEX`
-unfoldable pub eventDone : List ℕ → Bool → List ℕ → Effect
-eventDone t tick words =
+unfoldable pub eventDone : ℕ → List ℕ → Bool → List ℕ → Effect (List ℕ)
+eventDone c t tick words =
     cond (hasSpace words && isBytes (rest words))
-    (eventAt t tick (hexBytes (rest words)) (numeral (firstWord words)))
+    (eventAt c t tick (hexBytes (rest words)) (numeral (firstWord words)))
     (shows t unknown)

@@ -1,4 +1,5 @@
 pub mod Effect
+pub mod Ceiling
 pub mod Tables
 pub mod Events
 pub mod Commands

@@ -22,14 +22,14 @@ dumpText t = hexed t ++ ascii "\n"
 
 -- a blank table of so many records and bytes is held, if the length is right for the count; a COUNT over 65,535 and a LENGTH over 65,536
 -- are answered `?`
-unfoldable pub blankMade : List ℕ → ℕ → ℕ → Effect
+unfoldable pub blankMade : List ℕ → ℕ → ℕ → Effect (List ℕ)
 blankMade t count len =
     cond (leb count 65535 && leb len 65536)
     (cond (blankFits count len) (shows (blankOf count) (verdictText true)) (shows t (verdictText false)))
     (shows t unknown)
 
 -- `blank COUNT LENGTH`
-unfoldable pub blankDone : List ℕ → List ℕ → Effect
+unfoldable pub blankDone : List ℕ → List ℕ → Effect (List ℕ)
 blankDone t words = cond (hasSpace words) (blankMade t (numberTo 65535 (firstWord words)) (numberTo 65536 (rest words))) (shows t unknown)
 
 -- a word stands for a table's image, of at most 65,536 bytes
@@ -37,5 +37,5 @@ abbrev pub isImage : List ℕ → Bool
 isImage w = isHexTo 131072 w
 
 -- `table HEX`: the image is held as it is
-unfoldable pub tableDone : List ℕ → List ℕ → Effect
+unfoldable pub tableDone : List ℕ → List ℕ → Effect (List ℕ)
 tableDone t w = cond (isImage w) (shows (hexBytes w) (verdictText (wellFormed (hexBytes w)))) (shows t unknown)

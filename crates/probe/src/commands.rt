@@ -1,4 +1,5 @@
-// One line: what it shows, and what it does to the held table.
+// One line: what it shows, and what it does to the held table and to the ceiling.
+use crate::ceilings::set_ceiling;
 use crate::events::happen;
 use crate::tables::Answered;
 use crate::tables::answer_unknown;
@@ -10,13 +11,15 @@ use showing::ask;
 use showing::first;
 use showing::has_space;
 use showing::rest;
+ghost use mathlib.Core.Path.{_≡_};
 ghost use Prim.Native.Nat.{_≤_};
 ghost use lib.ListN.{length, take};
-ghost use Rattle.probe.specs.Commands.{commandDone, lineDone};
-ghost use Rattle.probe.specs.inner.Turned.{Turned};
+ghost use Rattle.probe.specs.Commands.{commandDone, lineDone, plainDone};
+ghost use Rattle.probe.specs.Effect.{holding};
+ghost use Rattle.probe.specs.inner.Turned.{Finishes, Turned};
 
-// A command and its words.
-fn obey(
+// A command but `ceiling`, and its words.
+fn obey_plain(
     out: &mut [u8; 160100],
     held: &mut [u8; 65536],
     size: usize,
@@ -24,19 +27,20 @@ fn obey(
     room: &mut [u8; 40000],
     name: &[u8],
     words: &[u8],
+    ceiling: u32,
 ) -> Answered
     requires { ⌜ (size ≤ 65536) × (length (now words) ≤ 170000) ⌝ }
-    ensures { λ r. ⌜ Turned (commandDone (take size (now (held .entry))) (now (name .entry)) (now (words .entry))) (now (out .entry)) (r .len) (now (out .exit)) (r .size) (now (held .exit)) ⌝ }
+    ensures { λ r. ⌜ Turned (plainDone ceiling (take size (now (held .entry))) (now (name .entry)) (now (words .entry))) (now (out .entry)) (r .len) (now (out .exit)) (r .size) (now (held .exit)) ⌝ }
 {
     if same(name, b"msg") {
         return Answered {
-            len: happen(out, held, size, bytes, words, false),
+            len: happen(out, held, size, bytes, words, false, ceiling),
             size: size,
         };
     }
     if same(name, b"tick") {
         return Answered {
-            len: happen(out, held, size, bytes, words, true),
+            len: happen(out, held, size, bytes, words, true, ceiling),
             size: size,
         };
     }
@@ -47,9 +51,53 @@ fn obey(
         return hold(out, held, size, words);
     }
     Answered {
-        len: ask(out, bytes, room, name, words),
+        len: ask(out, bytes, room, name, words, ceiling),
         size: size,
     }
+}
+
+// The length of an answer, and the size of the held table and the ceiling after it.
+pub struct Finished {
+    pub len: usize,
+    pub size: usize,
+    pub ceiling: u32,
+}
+
+// The ceiling stays.
+fn keep_ceiling(a: Answered, ceiling: u32) -> Finished
+    ensures { λ r. ⌜ (r .len ≡ a .len) × ((r .size ≡ a .size) × (r .ceiling ≡ ceiling)) ⌝ }
+{
+    Finished {
+        len: a.len,
+        size: a.size,
+        ceiling,
+    }
+}
+
+// A command and its words.
+fn obey(
+    out: &mut [u8; 160100],
+    held: &mut [u8; 65536],
+    size: usize,
+    bytes: &mut [u8; 85000],
+    room: &mut [u8; 40000],
+    name: &[u8],
+    words: &[u8],
+    ceiling: u32,
+) -> Finished
+    requires { ⌜ (size ≤ 65536) × (length (now words) ≤ 170000) ⌝ }
+    ensures { λ r. ⌜ Finishes (commandDone (holding ceiling (take size (now (held .entry)))) (now (name .entry)) (now (words .entry))) (now (out .entry)) (r .len) (now (out .exit)) (r .ceiling) (r .size) (now (held .exit)) ⌝ }
+{
+    if same(name, b"ceiling") {
+        let set = set_ceiling(out, ceiling, words);
+        return Finished {
+            len: set.len,
+            size: size,
+            ceiling: set.ceiling,
+        };
+    }
+    let a = obey_plain(out, held, size, bytes, room, name, words, ceiling);
+    keep_ceiling(a, ceiling)
 }
 
 // Answers a line. One of more than 170,000 bytes is answered `?`.
@@ -60,21 +108,32 @@ pub fn answer(
     bytes: &mut [u8; 85000],
     room: &mut [u8; 40000],
     line: &[u8],
-) -> Answered
+    ceiling: u32,
+) -> Finished
     requires { ⌜ size ≤ 65536 ⌝ }
-    ensures { λ r. ⌜ Turned (lineDone (take size (now (held .entry))) (now (line .entry))) (now (out .entry)) (r .len) (now (out .exit)) (r .size) (now (held .exit)) ⌝ }
+    ensures { λ r. ⌜ Finishes (lineDone (holding ceiling (take size (now (held .entry)))) (now (line .entry))) (now (out .entry)) (r .len) (now (out .exit)) (r .ceiling) (r .size) (now (held .exit)) ⌝ }
 {
     if 170000 < line.len() {
-        return answer_unknown(out, size);
+        return keep_ceiling(answer_unknown(out, size), ceiling);
     }
     if same(line, b"dump") {
-        return Answered {
+        let shown = Answered {
             len: dump(out, held, size),
             size: size,
         };
+        return keep_ceiling(shown, ceiling);
     }
     if !has_space(line) {
-        return answer_unknown(out, size);
+        return keep_ceiling(answer_unknown(out, size), ceiling);
     }
-    obey(out, held, size, bytes, room, first(line), rest(line))
+    obey(
+        out,
+        held,
+        size,
+        bytes,
+        room,
+        first(line),
+        rest(line),
+        ceiling,
+    )
 }

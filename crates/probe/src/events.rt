@@ -59,23 +59,23 @@ fn tick_on(held: &mut [u8], size: usize, s: &[u8], time: u64) -> Answer
     keeper::tick(&mut held[0..size], time, s)
 }
 
-// A message on it.
-fn message_on(held: &mut [u8], size: usize, s: &[u8], time: u64) -> Answer
+// A message on it, under a ceiling.
+fn message_on(held: &mut [u8], size: usize, s: &[u8], time: u64, ceiling: u32) -> Answer
     requires { ⌜ size ≤ length (now held) ⌝ }
-    ensures { λ r. ⌜ (r ≡ onMessage (take size (now (held .entry))) time (now (s .entry)) .answer) × (take size (now (held .exit)) ≡ onMessage (take size (now (held .entry))) time (now (s .entry)) .table) ⌝ }
+    ensures { λ r. ⌜ (r ≡ onMessage ceiling (take size (now (held .entry))) time (now (s .entry)) .answer) × (take size (now (held .exit)) ≡ onMessage ceiling (take size (now (held .entry))) time (now (s .entry)) .table) ⌝ }
 {
-    keeper::message(&mut held[0..size], time, s)
+    keeper::message(&mut held[0..size], time, s, ceiling)
 }
 
 // The one or the other.
-fn event(held: &mut [u8], size: usize, s: &[u8], time: u64, tick: bool) -> Answer
+fn event(held: &mut [u8], size: usize, s: &[u8], time: u64, tick: bool, ceiling: u32) -> Answer
     requires { ⌜ size ≤ length (now held) ⌝ }
-    ensures { λ r. ⌜ (r ≡ eventOn (take size (now (held .entry))) tick time (now (s .entry)) .answer) × (take size (now (held .exit)) ≡ eventOn (take size (now (held .entry))) tick time (now (s .entry)) .table) ⌝ }
+    ensures { λ r. ⌜ (r ≡ eventOn ceiling (take size (now (held .entry))) tick time (now (s .entry)) .answer) × (take size (now (held .exit)) ≡ eventOn ceiling (take size (now (held .entry))) tick time (now (s .entry)) .table) ⌝ }
 {
     if tick {
         tick_on(held, size, s, time)
     } else {
-        message_on(held, size, s, time)
+        message_on(held, size, s, time, ceiling)
     }
 }
 
@@ -88,12 +88,13 @@ fn happens(
     n: usize,
     time: u64,
     tick: bool,
+    ceiling: u32,
 ) -> usize
     requires { ⌜ (size ≤ 65536) × (n ≤ 85000) ⌝ }
-    ensures { λ r. ⌜ Turned (stepDone (eventOn (take size (now (held .entry))) tick time (take n (now (bytes .entry))))) (now (out .entry)) r (now (out .exit)) size (now (held .exit)) ⌝ }
+    ensures { λ r. ⌜ Turned (stepDone (eventOn ceiling (take size (now (held .entry))) tick time (take n (now (bytes .entry))))) (now (out .entry)) r (now (out .exit)) size (now (held .exit)) ⌝ }
 {
     let s: &[u8] = bytes;
-    put_event(out, event(held, size, &s[0..n], time, tick))
+    put_event(out, event(held, size, &s[0..n], time, tick, ceiling))
 }
 
 // `msg TIME HEX` and `tick TIME HEX`.
@@ -104,9 +105,10 @@ pub fn happen(
     bytes: &mut [u8; 85000],
     words: &[u8],
     tick: bool,
+    ceiling: u32,
 ) -> usize
     requires { ⌜ (size ≤ 65536) × (length (now words) ≤ 170000) ⌝ }
-    ensures { λ r. ⌜ Turned (eventDone (take size (now (held .entry))) tick (now (words .entry))) (now (out .entry)) r (now (out .exit)) size (now (held .exit)) ⌝ }
+    ensures { λ r. ⌜ Turned (eventDone ceiling (take size (now (held .entry))) tick (now (words .entry))) (now (out .entry)) r (now (out .exit)) size (now (held .exit)) ⌝ }
 {
     if !has_space(words) {
         return put_unknown(out);
@@ -116,7 +118,7 @@ pub fn happen(
         return put_unknown(out);
     }
     match number(first(words)) {
-        Spelt::Value(time) => happens(out, held, size, bytes, n, time, tick),
+        Spelt::Value(time) => happens(out, held, size, bytes, n, time, tick, ceiling),
         Spelt::Other => put_unknown(out),
     }
 }

@@ -10,25 +10,25 @@ use mathlib.Core.Bool.{true, false}
 use mathlib.Core.List.{List}
 use mathlib.Core.Path.{_≡_}
 
-module _ (name words : List ℕ) where
-  pub asks-read : same name (ascii "read") ≡ true → readText words ≡ askedText name words
+module _ (c : ℕ) (name words : List ℕ) where
+  pub asks-read : same name (ascii "read") ≡ true → readText c words ≡ askedText c name words
   unfolding askedText
   asks-read a = simp a
 
-  pub asks-reply : same name (ascii "read") ≡ false → same name (ascii "reply") ≡ true → replyLine words ≡ askedText name words
+  pub asks-reply : same name (ascii "read") ≡ false → same name (ascii "reply") ≡ true → replyLine words ≡ askedText c name words
   unfolding askedText
   asks-reply a b = simp (a, b)
 
-  pub asks-add : same name (ascii "read") ≡ false → same name (ascii "reply") ≡ false → same name (ascii "add") ≡ true → editText true words ≡ askedText name words
+  pub asks-add : same name (ascii "read") ≡ false → same name (ascii "reply") ≡ false → same name (ascii "add") ≡ true → editText true words ≡ askedText c name words
   unfolding askedText
   asks-add a b d = simp (a, b, d)
 
   pub asks-remove : same name (ascii "read") ≡ false → same name (ascii "reply") ≡ false → same name (ascii "add") ≡ false → same name (ascii "remove") ≡ true
-      → editText false words ≡ askedText name words
+      → editText false words ≡ askedText c name words
   unfolding askedText
   asks-remove a b d e = simp (a, b, d, e)
 
   pub asks-else : same name (ascii "read") ≡ false → same name (ascii "reply") ≡ false → same name (ascii "add") ≡ false → same name (ascii "remove") ≡ false
-      → unknown ≡ askedText name words
+      → unknown ≡ askedText c name words
   unfolding askedText
   asks-else a b d e = simp (a, b, d, e)

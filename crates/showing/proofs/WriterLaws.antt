@@ -1,7 +1,7 @@
 -- What the words taken mean for the line that is shown, one law for each way out, and what a filled room shows after a writing.
 -- Assumes nothing.
 use Prim.Native.Nat.{ℕ, zero, suc, _+_, _-_, _*_, _≤_, _<_}
-use Rattle.message.specs.Reading.{reading}
+use Rattle.message.specs.Reading.{ample, reading}
 use Rattle.fields.specs.declared.spans.Span.{Span}
 use Rattle.octets.proofs.Chain.{At}
 use Rattle.octets.proofs.TestLaws.{and-parts}
@@ -233,10 +233,10 @@ module _ (n : ℕ) (x : Outcome) {room : List ℕ} (h : n ≤ 40000) (e : room �
       let b = t .output ∙ ap (λ (o : List ℕ). outputLeft o x) room-front in
       rw (a, b)
 
-  pub took-line : (s : List ℕ) {r : Removed} {o : List ℕ} → Took (take n room) (hostIn (reading s)) x r o → tookText r o s ≡ tookLine n s x
+  pub took-line : (s : List ℕ) {r : Removed} {o : List ℕ} → Took (take n room) (hostIn (reading ample s)) x r o → tookText r o s ≡ tookLine n s x
   unfolding tookLine
   took-line s t =
-      let a = t .answer ∙ ap (hostShown (hostIn (reading s))) room-answered in
+      let a = t .answer ∙ ap (hostShown (hostIn (reading ample s))) room-answered in
       let b = t .output ∙ ap (λ (o : List ℕ). outputLeft o x) room-front in
       rw (a, b)
 

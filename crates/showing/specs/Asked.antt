@@ -8,10 +8,10 @@ use Rattle.showing.specs.Writers.{editText, replyLine}
 use mathlib.Core.Bool.{true, false, cond}
 use mathlib.Core.List.{List}
 
--- by its name, and the words behind it; `?` for any other name
-unfoldable pub askedText : List ℕ → List ℕ → List ℕ
-askedText name words =
-    cond (same name (ascii "read")) (readText words)
+-- by its name, and the words behind it; `?` for any other name; a `read` under a ceiling of c values
+unfoldable pub askedText : ℕ → List ℕ → List ℕ → List ℕ
+askedText c name words =
+    cond (same name (ascii "read")) (readText c words)
     (cond (same name (ascii "reply")) (replyLine words)
     (cond (same name (ascii "add")) (editText true words)
     (cond (same name (ascii "remove")) (editText false words)

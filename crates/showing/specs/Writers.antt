@@ -1,7 +1,7 @@
 -- What `reply`, `add` and `remove` show for the words behind their names; `?` where a word is not what it should be. Cited by the
 -- contracts of `src/writers.rt`. Assumes nothing.
 use Prim.Native.Nat.{ℕ, _+_}
-use Rattle.message.specs.Reading.{reading}
+use Rattle.message.specs.Reading.{ample, reading}
 use Rattle.octets.specs.Ascii.{ascii}
 use Rattle.octets.specs.Decimal as decimal
 use Rattle.showing.specs.Shown.{hexed, unknown}
@@ -75,7 +75,7 @@ wroteLine n x = wroteText (answered n x) (outputLeft (filled n) x)
 
 -- the same, where x is what becomes of the response s
 unfoldable pub tookLine : ℕ → List ℕ → Outcome → List ℕ
-tookLine n s x = tookText (hostShown (hostIn (reading s)) (answered n x)) (outputLeft (filled n) x) s
+tookLine n s x = tookText (hostShown (hostIn (reading ample s)) (answered n x)) (outputLeft (filled n) x) s
 
 -- the line of `add`, or of `remove`
 unfoldable pub edited : Bool → ℕ → List ℕ → List ℕ → List ℕ → List ℕ → List ℕ

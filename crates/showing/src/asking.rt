@@ -9,19 +9,20 @@ ghost use lib.ListN.{length};
 ghost use Rattle.showing.specs.Asked.{askedText};
 ghost use Rattle.showing.specs.Shown.{Puts};
 
-// Writes what a command shows, by its name and the words behind it.
+// Writes what a command shows, by its name and the words behind it; a `read` under a ceiling.
 pub fn ask(
     out: &mut [u8; 160100],
     bytes: &mut [u8; 85000],
     room: &mut [u8; 40000],
     name: &[u8],
     words: &[u8],
+    ceiling: u32,
 ) -> usize
     requires { ⌜ length (now words) ≤ 170000 ⌝ }
-    ensures { λ r. ⌜ Puts (now (out .entry)) (askedText (now (name .entry)) (now (words .entry))) r (now (out .exit)) ⌝ }
+    ensures { λ r. ⌜ Puts (now (out .entry)) (askedText ceiling (now (name .entry)) (now (words .entry))) r (now (out .exit)) ⌝ }
 {
     if same(name, b"read") {
-        return read(out, bytes, words);
+        return read(out, bytes, words, ceiling);
     }
     if same(name, b"reply") {
         return reply(out, bytes, room, words);

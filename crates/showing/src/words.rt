@@ -95,7 +95,7 @@ pub fn number(word: &[u8]) -> Spelt
 
 // The number that a word is, and one above the limit for any other word.
 pub fn number_to(word: &[u8], most: u64) -> u64
-    requires { ⌜ most ≤ 65536 ⌝ }
+    requires { ⌜ most ≤ 4294967295 ⌝ }
     ensures { λ r. ⌜ r ≡ numberTo most (now (word .entry)) ⌝ }
 {
     match number(word) {

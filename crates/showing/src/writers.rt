@@ -15,7 +15,7 @@ ghost use mathlib.Core.List.{_++_};
 ghost use mathlib.Core.Path.{_≡_};
 ghost use Prim.Native.Nat.{_+_, _-_, _*_, _≤_};
 ghost use lib.ListN.{drop, length, take};
-ghost use Rattle.message.specs.Reading.{reading};
+ghost use Rattle.message.specs.Reading.{ample, reading};
 ghost use Rattle.octets.specs.Ascii.{ascii};
 ghost use Rattle.octets.specs.Decimal.{shown};
 ghost use Rattle.octets.specs.Splice.{splice};
@@ -159,7 +159,7 @@ fn remove_into(
     organization: &[u8],
 ) -> Removed
     requires { ⌜ n ≤ length (now room) ⌝ }
-    ensures { λ r. ⌜ Took (take n (now (room .entry))) (hostIn (reading (now (s .entry)))) (removing (now (s .entry)) (now (host .entry)) (now (destination .entry)) (now (organization .entry))) r (take n (now (room .exit))) ⌝ }
+    ensures { λ r. ⌜ Took (take n (now (room .entry))) (hostIn (reading ample (now (s .entry)))) (removing (now (s .entry)) (now (host .entry)) (now (destination .entry)) (now (organization .entry))) r (take n (now (room .exit))) ⌝ }
 {
     writing::remove(&mut room[0..n], s, host, destination, organization)
 }

@@ -1,6 +1,8 @@
 -- Document 01's example, the BYE and its 200, computed from the definitions (01 Writing). Assumes nothing.
 use Prim.Native.Nat.{ℕ}
+use Rattle.json.specs.inner.Begun as json
 use Rattle.json.specs.inner.Machine.{opens, begin, ends, step, stops, walk, from}
+use Rattle.json.specs.inner.Tour.{tour}
 use Rattle.json.specs.Places.{part, spaces, past, isOpen, isShut, left, size, behind, closing, raw, next, valueOf, follows, more, memberAt, membersFrom, members, elementsFrom}
 use Rattle.json.specs.Places.{elements, isWs}
 use Rattle.message.specs.Checks.{lacks, breaks, lowest, checked}
@@ -8,7 +10,7 @@ use Rattle.fields.specs.Field.{addressRule, keeps}
 use Rattle.fields.specs.Known.{numberAt, has, note, noted, repeated}
 use Rattle.message.specs.Message.{numberOf, methodOf, fromCaller, toCaller, settingOf, sameSide, wrongSide, wrongNumber, sidesDisagree, requestDisagrees, disagrees, messageOf}
 use Rattle.fields.specs.Spans.{textAt}
-use Rattle.message.specs.Reading.{agreed, settled, judged, known, shaped, reading}
+use Rattle.message.specs.Reading.{agreed, judged, known, reading, reporting, settled, shaped}
 use Rattle.message.specs.Shape.{tagAt, tagOf, objectOf}
 use Rattle.fields.specs.Value.{isString, isArray, textOf, freely, ruled}
 use Rattle.fields.specs.Via.{hopPlaces, hopRule, hopKeeps, isHop, viaRule}
@@ -46,7 +48,8 @@ unfolding among isDigit isLower isUpper isLetter isAlnum all same standsAt begin
     left size behind closing raw next valueOf follows more memberAt membersFrom members elementsFrom elements sequenceRule numberEnd sequenceOf runLength digits decimalAt
     wordNumberFrom within reads leap daysIn dateRule callerRule calleeRule userEnd callerEnd calleeEnd addressOf indexIn listed statusText callIdRule hostRule destinationRule
     organizationRule noBackslash holds isIn tagAsks methodAsks textAt numberOf methodOf fromCaller toCaller settingOf sameSide wrongSide wrongNumber sidesDisagree requestDisagrees
-    disagrees messageOf agreed settled judged known shaped reading lacks breaks lowest checked isString isArray textOf freely ruled tagAt tagOf objectOf addressRule keeps
+    disagrees messageOf agreed settled judged known shaped reading reporting tour json.begun json.begins lacks breaks lowest checked isString isArray textOf freely ruled tagAt
+    tagOf objectOf addressRule keeps
     hopPlaces hopRule hopKeeps isHop viaRule numberAt has note noted repeated replyText replyOf unanswered wrongCode replyTo replying pieces.pieceEnd pieces.hasPiece
     sequence.cseqNumber sequence.cseqMethod
 example = refl

@@ -8,7 +8,7 @@ use Rattle.frame.specs.Edit.{added, removed, stopsOf}
 use Rattle.json.specs.Places.{bytes, behind, elements, part, prevOf, lastOf}
 use Rattle.fields.specs.Hop.{hostOf}
 use Rattle.message.specs.Message.{settingOf, messageOf}
-use Rattle.message.specs.Reading.{reading}
+use Rattle.message.specs.Reading.{ample, reading}
 use Rattle.message.specs.declared.facts.Message.{Message}
 use Rattle.fields.specs.declared.spans.Span.{Span}
 use Rattle.message.specs.declared.reading.Reading.the-variants.{Read}
@@ -47,7 +47,7 @@ pub record SameValues (s : List ℕ) (m : Message) (s′ : List ℕ) (m′ : Mes
 -- s′ is the message s, read as m, with v for its Via value: it is accepted, with the same facts, and every byte outside that value is as it was
 pub record Edited (s : List ℕ) (m : Message) (s′ v : List ℕ) : Type 0 where
   pub message : Message
-  pub read : reading s′ ≡ Read message
+  pub read : reading ample s′ ≡ Read message
   pub facts : SameFacts m message
   pub values : SameValues s m s′ message
   pub via : message .via ≡ m .via
@@ -102,7 +102,7 @@ module _ {s : List ℕ} {tag : ℕ} {t : List ℕ} (a : Accepted s tag t) where
 
 pub forwarded-by : (s h d o w : List ℕ) (e : Added s h d o w) → length w ≤ 32768 → Forwarded s (e .m) (entry h d o) w
 forwarded-by s h d o w e l =
-    let a = read-taken s (e .m) (e .read) (omega (arith, e .request)) in
+    let a = read-taken ample s (e .m) (e .read) (omega (arith, e .request)) in
     let t = a .t in
     let v = via-place s (e .m .tag) t (e .m) (a .is) in
     let q : w ≡ added s (getD t 6 0) (entry h d o) = e .is ∙ ap (λ (x : ℕ). added s x (entry h d o)) v in
@@ -111,7 +111,7 @@ forwarded-by s h d o w e l =
 
 -- THEOREM: what `add` writes is forwarded as document 01 says
 pub add-forwards : (s h d g : List ℕ) {o : List ℕ} {n : ℕ} {o′ : List ℕ} → Writes o (adding s h d g) (Done n) o′
-    → (m : Message) × ((reading s ≡ Read m) × Forwarded s m (entry h d g) (take n o′))
+    → (m : Message) × ((reading ample s ≡ Read m) × Forwarded s m (entry h d g) (take n o′))
 add-forwards s h d g {o} {n} {o′} w =
     let x = stood w in
     let e = was-added s h d g (x .w) (x .is) in
@@ -138,7 +138,7 @@ some-left (c ∷ w) x b h = omega arith
 
 pub returned-by : (s h d o w : List ℕ) (e : TakenOff s h d o w) → length w ≤ 32768 → Returned s (e .m) w
 returned-by s h d o w e l =
-    let a = read-taken s (e .m) (e .read) (omega (arith, e .response)) in
+    let a = read-taken ample s (e .m) (e .read) (omega (arith, e .response)) in
     let t = a .t in
     let v = via-place s (e .m .tag) t (e .m) (a .is) in
     let q : w ≡ removed s (getD t 6 0) = e .is ∙ ap (removed s) v in
@@ -156,10 +156,10 @@ pub took-wrote : {h : Span} {o : List ℕ} {x : Outcome} {n a e : ℕ} {o′ : L
 took-wrote {h} {o} {x} {n} {a} {e} w = record { answer = sym (done-of h (answered (length o) x) n a e (w .answer) .0); output = w .output }
 
 -- THEOREM: what `remove` writes is the response less its last Via object, and the next host is that of the last one left
-pub remove-returns : (s h d g : List ℕ) {o : List ℕ} {n a e : ℕ} {o′ : List ℕ} → Took o (hostIn (reading s)) (removing s h d g) (removals.Done n a e) o′
-    → (m : Message) × ((reading s ≡ Read m) × (Returned s m (take n o′) × (nextHop s (removals.Done n a e) ≡ hostOf (lastIn (objects (take n o′) (m .via))))))
+pub remove-returns : (s h d g : List ℕ) {o : List ℕ} {n a e : ℕ} {o′ : List ℕ} → Took o (hostIn (reading ample s)) (removing s h d g) (removals.Done n a e) o′
+    → (m : Message) × ((reading ample s ≡ Read m) × (Returned s m (take n o′) × (nextHop s (removals.Done n a e) ≡ hostOf (lastIn (objects (take n o′) (m .via))))))
 remove-returns s h d g {o} {n} {a} {e} {o′} w =
-    let q = done-of (hostIn (reading s)) (answered (length o) (removing s h d g)) n a e (w .answer) in
+    let q = done-of (hostIn (reading ample s)) (answered (length o) (removing s h d g)) n a e (w .answer) in
     let x = stood (took-wrote w) in
     let k = was-taken s h d g (x .w) (x .is) in
     let r = subst (λ (z : List ℕ). Returned s (k .m) z) (sym (x .front)) (returned-by s h d g (x .w) k (x .short)) in

@@ -1,8 +1,10 @@
 -- Marks of the writer (01 Writing), computed from the definitions; document 01's own reply is in Example.antt. Assumes nothing.
+use Rattle.json.specs.inner.Begun as json
 use Rattle.json.specs.inner.Machine.{begin, from, opens, step, stops, walk}
 use Prim.Native.Nat.{ℕ}
 use Rattle.frame.specs.Edit.{added, stopsOf}
 use Rattle.json.specs.inner.Machine.{ends}
+use Rattle.json.specs.inner.Tour.{tour}
 use Rattle.json.specs.Places.{behind, closing, elements, elementsFrom, follows, isOpen, isShut, left as leftOf, memberAt, members, membersFrom, more, next, part, lastOf, isWs}
 use Rattle.json.specs.Places.{past, raw, size, spaces, valueOf}
 use Rattle.message.specs.Checks.{breaks, checked, lacks, lowest}
@@ -11,7 +13,7 @@ use Rattle.fields.specs.Hop.{destinationOf, hopOf, hostOf}
 use Rattle.fields.specs.Known.{has, note, noted, numberAt, repeated}
 use Rattle.message.specs.Message.{contentAt, disagrees, fromCaller, messageOf, methodOf, numberOf, requestDisagrees, sameSide, settingOf, sidesDisagree, toCaller}
 use Rattle.message.specs.Message.{probeOf, wrongNumber, wrongSide}
-use Rattle.message.specs.Reading.{agreed, judged, known, reading, settled, shaped}
+use Rattle.message.specs.Reading.{agreed, judged, known, reading, reporting, settled, shaped}
 use Rattle.message.specs.Shape.{objectOf, tagAt, tagOf}
 use Rattle.fields.specs.Spans.{textAt}
 use Rattle.fields.specs.Value.{freely, isArray, isString, ruled, textOf}
@@ -49,7 +51,8 @@ begun =
 pub adds :
     adding (begun ++ ascii " ]}]") (ascii "h2") (ascii "d") (ascii "og")
     ≡ write (begun ++ ascii ",{\"host\":\"h2\",\"destination\":\"d\",\"organization\":\"og\"} ]}]")
-unfolding reading octets charAt begins goesOn from walk step isWs begin opens ends stops shaped tagOf tagAt objectOf elements elementsFrom more follows past spaces behind size
+unfolding reading reporting tour json.begun json.begins octets charAt begins goesOn from walk step isWs begin opens ends stops shaped tagOf tagAt objectOf elements elementsFrom
+    more follows past spaces behind size
     leftOf isOpen isShut raw closing part wordNumberFrom same standsAt members membersFrom memberAt valueOf next known repeated has numberAt note noted judged checked lacks breaks
     lowest tagAsks methodAsks isIn keeps ruled freely isString isArray textOf textAt viaRule isHop hopPlaces hopRule hopKeeps addressRule dateRule daysIn leap
     callerRule calleeRule sequenceRule callIdRule destinationRule hostRule organizationRule noBackslash reads runLength decimalAt digits within holds all among isAlnum isDigit

@@ -2,7 +2,7 @@
 use Prim.Native.Nat.{ℕ, _≤_}
 use Rattle.frame.specs.Edit.{added, removed}
 use Rattle.json.specs.Places.{bytes, elements, lastOf}
-use Rattle.message.specs.Reading.{reading}
+use Rattle.message.specs.Reading.{ample, reading}
 use Rattle.message.specs.declared.facts.Message.{Message}
 use Rattle.message.specs.declared.reading.Reading.the-variants as readings
 use Rattle.message.specs.declared.reading.Reading.{Reading}
@@ -88,7 +88,7 @@ write-is e = cc
 -- a reply
 pub record Replied (s : List ℕ) (code : ℕ) (date w : List ℕ) : Type 0 where
   pub m : Message
-  pub read : reading s ≡ readings.Read m
+  pub read : reading ample s ≡ readings.Read m
   pub request : m .tag ≡ 1
   pub listed : wrongCode code (m .method) ≡ false
   pub day : dateRule date ≡ true
@@ -101,7 +101,7 @@ asked m e = eqb-true (m .tag) 1 (not-false (eqb (m .tag) 1) (or-none (not (eqb (
 pub was-replied : (s : List ℕ) (code : ℕ) (date w : List ℕ) → replying s code date ≡ write w → Replied s code date w
 unfolding replying replyTo
 was-replied s code date w e =
-    let r = was-read (reading s) (λ m. replyTo s m code date) w e in
+    let r = was-read (reading ample s) (λ m. replyTo s m code date) w e in
     let m = r .0 in
     let p₀ = past-test (unanswered m) Kind _ w (r .1 .1) in
     let p₁ = past-test (wrongCode code (m .method)) Code _ w (p₀ .1) in
@@ -112,7 +112,7 @@ was-replied s code date w e =
 pub record Added (s h d o w : List ℕ) : Type 0 where
   pub path : pathRule h d o ≡ true
   pub m : Message
-  pub read : reading s ≡ readings.Read m
+  pub read : reading ample s ≡ readings.Read m
   pub request : m .tag ≡ 1
   pub new : some (isOurs h d) (objects s (m .via)) ≡ false
   pub few : length (elements s (m .via)) ≡ 16 → ⊥
@@ -122,7 +122,7 @@ pub was-added : (s h d o w : List ℕ) → adding s h d o ≡ write w → Added 
 unfolding adding addTo
 was-added s h d o w e =
     let p₀ = past-test (not (pathRule h d o)) Path _ w e in
-    let r = was-read (reading s) (λ m. addTo s m h d o) w (p₀ .1) in
+    let r = was-read (reading ample s) (λ m. addTo s m h d o) w (p₀ .1) in
     let m = r .0 in
     let p₁ = past-test (not (eqb (m .tag) 1)) Kind _ w (r .1 .1) in
     let p₂ = past-test (some (isOurs h d) (objects s (m .via))) Loop _ w (p₁ .1) in
@@ -141,7 +141,7 @@ was-added s h d o w e =
 pub record TakenOff (s h d o w : List ℕ) : Type 0 where
   pub path : pathRule h d o ≡ true
   pub m : Message
-  pub read : reading s ≡ readings.Read m
+  pub read : reading ample s ≡ readings.Read m
   pub response : m .tag ≡ 2
   pub two : 2 ≤ length (elements s (m .via))
   pub ours : isOurs h d (bytes s (lastOf (elements s (m .via)))) ≡ true
@@ -151,7 +151,7 @@ pub was-taken : (s h d o w : List ℕ) → removing s h d o ≡ write w → Take
 unfolding removing removeFrom
 was-taken s h d o w e =
     let p₀ = past-test (not (pathRule h d o)) Path _ w e in
-    let r = was-read (reading s) (λ m. removeFrom s m h d) w (p₀ .1) in
+    let r = was-read (reading ample s) (λ m. removeFrom s m h d) w (p₀ .1) in
     let m = r .0 in
     let p₁ = past-test (not (eqb (m .tag) 2)) Kind _ w (r .1 .1) in
     let p₂ = past-test (ltb (length (elements s (m .via))) 2) Few _ w (p₁ .1) in

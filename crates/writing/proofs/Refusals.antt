@@ -1,7 +1,7 @@
 -- THEOREM on refusals: whichever of the three writers is asked, and whatever it is given, where it refuses, by any number, the output is byte for
 -- byte what it was. Over the public contracts of `reply`, `add` and `remove`. Assumes nothing.
 use Prim.Native.Nat.{ℕ}
-use Rattle.message.specs.Reading.{reading}
+use Rattle.message.specs.Reading.{ample, reading}
 use Rattle.fields.specs.declared.spans.Span.{Span}
 use Rattle.writing.specs.Adding.{adding}
 use Rattle.writing.specs.Outcome.{Outcome, refuse, write, fitted, answered, put, outputLeft, Writes}
@@ -30,7 +30,7 @@ pub data Asked : Type 0 where
 abbrev pub Refuses : Asked → Refusal → List ℕ → List ℕ → Type 0
 Refuses (reply s code date) f o o′ = Writes o (replying s code date) (Refused f) o′
 Refuses (add s h d g) f o o′ = Writes o (adding s h d g) (Refused f) o′
-Refuses (remove s h d g) f o o′ = Took o (hostIn (reading s)) (removing s h d g) (removals.Refused f) o′
+Refuses (remove s h d g) f o o′ = Took o (hostIn (reading ample s)) (removing s h d g) (removals.Refused f) o′
 
 -- 39 and 33, which go by the result's length
 too-much : (o w : List ℕ) (f : Refusal) (a b : Bool) → ltb 32768 (length w) ≡ a → ltb (length o) (length w) ≡ b
@@ -54,4 +54,4 @@ pub refused-leaves : (a : Asked) (f : Refusal) (o o′ : List ℕ) → Refuses a
 refused-leaves (reply s code date) f o o′ w = w .output ∙ stays o (replying s code date) f (w .answer)
 refused-leaves (add s h d g) f o o′ w = w .output ∙ stays o (adding s h d g) f (w .answer)
 refused-leaves (remove s h d g) f o o′ w =
-    w .output ∙ stays o (removing s h d g) f (refused-of (hostIn (reading s)) (answered (length o) (removing s h d g)) f (w .answer))
+    w .output ∙ stays o (removing s h d g) f (refused-of (hostIn (reading ample s)) (answered (length o) (removing s h d g)) f (w .answer))

@@ -13,7 +13,7 @@ use Rattle.fields.specs.Field.{statusField, keeps}
 use Rattle.fields.specs.Known.{empty, noted}
 use Rattle.message.specs.Message.{methodOf, numberOf, fromCaller, toCaller, codeOf, settingOf, sidesDisagree, responseDisagrees, disagrees, messageOf, firstSetting}
 use Rattle.fields.specs.Spans.{textAt}
-use Rattle.message.specs.Reading.{reading}
+use Rattle.message.specs.Reading.{ample, reading}
 use Rattle.message.specs.Shape.{objectOf}
 use Rattle.fields.specs.Value.{isString, textOf, freely, ruled}
 use Rattle.message.specs.declared.facts.Message.{Message}
@@ -75,7 +75,7 @@ sevenOf s m code date =
 -- w is the reply to the request s, read as m, and is read back
 pub record ReadBack (s : List ℕ) (m : Message) (code : ℕ) (date w : List ℕ) : Type 0 where
   pub message : Message
-  pub read : reading w ≡ Read message
+  pub read : reading ample w ≡ Read message
   pub response : message .tag ≡ 2
   pub status : message .status ≡ code
   pub method : message .method ≡ m .method
@@ -371,20 +371,20 @@ replied-at s t m code date tag e =
 
 pub read-back-by : (s : List ℕ) (code : ℕ) (date w : List ℕ) (e : Replied s code date w) → length w ≤ 32768 → ReadBack s (e .m) code date w
 read-back-by s code date w e l =
-    let a = read-taken s (e .m) (e .read) (omega (arith, e .request)) in
+    let a = read-taken ample s (e .m) (e .read) (omega (arith, e .request)) in
     subst (λ (x : List ℕ). ReadBack s (e .m) code date x) (sym (e .is))
     (replied-at s (a .t) (e .m) code date (e .m .tag) (e .request) (a .accepted) (a .is) (e .listed) (e .day) (omega (arith, ap length (e .is))))
 
 -- THEOREM: what `reply` writes is read back
 pub reply-read-back : (s : List ℕ) (code : ℕ) (date : List ℕ) {o : List ℕ} {n : ℕ} {o′ : List ℕ} → Writes o (replying s code date) (Done n) o′
-    → (m : Message) × ((reading s ≡ Read m) × ReadBack s m code date (take n o′))
+    → (m : Message) × ((reading ample s ≡ Read m) × ReadBack s m code date (take n o′))
 reply-read-back s code date {o} {n} {o′} w =
     let x = stood w in
     let e = was-replied s code date (x .w) (x .is) in
     (e .m, (e .read, subst (λ (z : List ℕ). ReadBack s (e .m) code date z) (sym (x .front)) (read-back-by s code date (x .w) e (x .short))))
 
 -- The reply to a forwarded request, less our entry.
-one-read : (s : List ℕ) (a b : Message) → reading s ≡ Read a → reading s ≡ Read b → a ≡ b
+one-read : (s : List ℕ) (a b : Message) → reading ample s ≡ Read a → reading ample s ≡ Read b → a ≡ b
 one-read s a b e f = same-message (sym e ∙ f)
 
 undone-at : {s t : List ℕ} {tag : ℕ} (a : Accepted s tag t) (p q z : List ℕ) → Piece 5 z → (es : List ℕ) → elements s (getD t 6 0) ≡ es
@@ -397,10 +397,10 @@ via-is : (s : List ℕ) (tag : ℕ) (t : List ℕ) (m : Message) → messageOf s
 unfolding messageOf
 via-is s tag t m e = ap (λ (x : Message). x .via) e
 
-undone : (s : List ℕ) (m : Message) → reading s ≡ Read m → m .tag ≤ 2 → (p q z : List ℕ) → Piece 5 z
+undone : (s : List ℕ) (m : Message) → reading ample s ≡ Read m → m .tag ≤ 2 → (p q z : List ℕ) → Piece 5 z
     → removed (p ++ (added (bytes s (m .via)) 0 z ++ q)) (length p) ≡ p ++ (bytes s (m .via) ++ q)
 undone s m e l p q z g =
-    let a = read-taken s m e l in
+    let a = read-taken ample s m e l in
     subst (λ (o : ℕ). removed (p ++ (added (bytes s o) 0 z ++ q)) (length p) ≡ p ++ (bytes s o ++ q)) (via-is s (m .tag) (a .t) m (a .is))
     (undone-at (a .accepted) p q z g (elements s (getD (a .t) 6 0)) refl)
 
@@ -437,7 +437,7 @@ reply-less-ours s h d g code date s′ w′ w w₀ e₁ l₁ e₂ l₂ e₃ e₄
 
 -- the same of what the functions write
 pub returned-reply : (s h d g : List ℕ) (code : ℕ) (date : List ℕ) {o₁ o₂ o₃ o₄ : List ℕ} {n₁ n₂ n₃ n₄ a e : ℕ} {p₁ p₂ p₃ p₄ : List ℕ} → Writes o₁ (adding s h d g) (Done n₁) p₁
-    → Writes o₂ (replying (take n₁ p₁) code date) (Done n₂) p₂ → Took o₃ (hostIn (reading (take n₂ p₂))) (removing (take n₂ p₂) h d g) (removals.Done n₃ a e) p₃
+    → Writes o₂ (replying (take n₁ p₁) code date) (Done n₂) p₂ → Took o₃ (hostIn (reading ample (take n₂ p₂))) (removing (take n₂ p₂) h d g) (removals.Done n₃ a e) p₃
     → Writes o₄ (replying s code date) (Done n₄) p₄ → take n₃ p₃ ≡ take n₄ p₄
 returned-reply s h d g code date {o₁} {o₂} {o₃} {o₄} {n₁} {n₂} {n₃} {n₄} {a} {e} {p₁} {p₂} {p₃} {p₄} w₁ w₂ w₃ w₄ =
     let x₁ = written-front w₁ in

@@ -11,7 +11,7 @@ use Rattle.fields.proofs.TextLaws.{there-cut}
 use Rattle.fields.specs.Hop.{hostOf}
 use Rattle.message.specs.Message.{settingOf, messageOf}
 use Rattle.fields.specs.Spans.{cut}
-use Rattle.message.specs.Reading.{reading}
+use Rattle.message.specs.Reading.{ample, reading}
 use Rattle.fields.specs.Trail.{hostSpan, hostStart, hostEnd, trailOf, trailIn, moved}
 use Rattle.fields.specs.Via.{hopPlaces, isHop}
 use Rattle.message.specs.declared.facts.Message.{Message}
@@ -166,8 +166,8 @@ module _ {s : List ℕ} {tag : ℕ} {t : List ℕ} (a : Accepted s tag t) where
   trail-read = trail-found
 
 -- what the reading says of a request's or a response's Via
-pub trail-passed : (s : List ℕ) (m : Message) → reading s ≡ Read m → m .tag ≤ 2 → Passed s (m .via) (m .trail)
-trail-passed s m e l = let a = read-taken s m e l in rw (← (a .is)) (trail-read (a .accepted))
+pub trail-passed : (s : List ℕ) (m : Message) → reading ample s ≡ Read m → m .tag ≤ 2 → Passed s (m .via) (m .trail)
+trail-passed s m e l = let a = read-taken ample s m e l in rw (← (a .is)) (trail-read (a .accepted))
 
 -- Whether one object of those is ours: the objects qs of s are still to come.
 

@@ -2,7 +2,7 @@
 use Prim.Native.Nat.{ℕ, _≤_, _<_}
 use Rattle.frame.specs.Edit.{added, removed}
 use Rattle.json.specs.Places.{bytes}
-use Rattle.message.specs.Reading.{reading}
+use Rattle.message.specs.Reading.{ample, reading}
 use Rattle.message.specs.declared.facts.Message.{Message}
 use Rattle.fields.specs.declared.spans.Span.{Span}
 use Rattle.message.specs.declared.reading.Reading.the-variants as readings
@@ -54,11 +54,11 @@ module _ (s : List ℕ) (m : Message) (code : ℕ) (date : List ℕ) where
       unfolding replyTo replyOf
       a-reply e f₁ f₂ f₃ f₄ f₅ = rw (a, b, e, f₁, f₂, f₃, f₄, f₅)
 
-  pub reply-of : reading s ≡ readings.Read m → replying s code date ≡ replyTo s m code date
+  pub reply-of : reading ample s ≡ readings.Read m → replying s code date ≡ replyTo s m code date
   unfolding replying
   reply-of e = rw e
 
-pub reply-none : (s : List ℕ) (code : ℕ) (date : List ℕ) (n p : ℕ) → reading s ≡ readings.Refused n p → replying s code date ≡ refuse Kind
+pub reply-none : (s : List ℕ) (code : ℕ) (date : List ℕ) (n p : ℕ) → reading ample s ≡ readings.Refused n p → replying s code date ≡ refuse Kind
 unfolding replying
 reply-none s code date n p e = rw e
 
@@ -89,11 +89,11 @@ module _ (s host destination organization : List ℕ) where
   bad-path e = rw e
 
   module _ (k : pathRule host destination organization ≡ true) where
-    pub add-none : (n p : ℕ) → reading s ≡ readings.Refused n p → adding s host destination organization ≡ refuse Kind
+    pub add-none : (n p : ℕ) → reading ample s ≡ readings.Refused n p → adding s host destination organization ≡ refuse Kind
     unfolding adding
     add-none n p e = rw (k, e)
 
-    pub add-of : (m : Message) → reading s ≡ readings.Read m → adding s host destination organization ≡ addTo s m host destination organization
+    pub add-of : (m : Message) → reading ample s ≡ readings.Read m → adding s host destination organization ≡ addTo s m host destination organization
     unfolding adding
     add-of m e = rw (k, e)
 
@@ -138,13 +138,13 @@ module _ (s host destination organization : List ℕ) where
   wrong-path e = rw e
 
   module _ (k : pathRule host destination organization ≡ true) where
-    pub remove-none : (n p : ℕ) → reading s ≡ readings.Refused n p → removing s host destination organization ≡ refuse Kind
+    pub remove-none : (n p : ℕ) → reading ample s ≡ readings.Refused n p → removing s host destination organization ≡ refuse Kind
     unfolding removing
     remove-none n p e = rw (k, e)
 
-    pub remove-of : (m : Message) → reading s ≡ readings.Read m → removing s host destination organization ≡ removeFrom s m host destination
+    pub remove-of : (m : Message) → reading ample s ≡ readings.Read m → removing s host destination organization ≡ removeFrom s m host destination
     unfolding removing
     remove-of m e = rw (k, e)
 
-pub host-of : (s : List ℕ) (m : Message) → reading s ≡ readings.Read m → hostIn (reading s) ≡ m .trail .host
+pub host-of : (s : List ℕ) (m : Message) → reading ample s ≡ readings.Read m → hostIn (reading ample s) ≡ m .trail .host
 host-of s m e = rw e

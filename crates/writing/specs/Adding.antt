@@ -2,7 +2,7 @@
 use Prim.Native.Nat.{ℕ}
 use Rattle.frame.specs.Edit.{added}
 use Rattle.json.specs.Places.{elements}
-use Rattle.message.specs.Reading.{reading}
+use Rattle.message.specs.Reading.{ample, reading}
 use Rattle.message.specs.declared.facts.Message.{Message}
 use Rattle.octets.specs.Ascii.{ascii}
 use Rattle.rules.specs.Texts.{hostRule, destinationRule, organizationRule}
@@ -41,4 +41,4 @@ addTo s m host destination organization =
 unfoldable pub adding : List ℕ → List ℕ → List ℕ → List ℕ → Outcome
 adding s host destination organization =
     cond (not (pathRule host destination organization)) (refuse Path)
-    (onRead (reading s) (λ m. addTo s m host destination organization))
+    (onRead (reading ample s) (λ m. addTo s m host destination organization))

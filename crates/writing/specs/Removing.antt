@@ -3,7 +3,7 @@
 use Prim.Native.Nat.{ℕ}
 use Rattle.frame.specs.Edit.{removed}
 use Rattle.json.specs.Places.{bytes, elements, part, lastOf}
-use Rattle.message.specs.Reading.{reading}
+use Rattle.message.specs.Reading.{ample, reading}
 use Rattle.fields.specs.Spans.{nowhere}
 use Rattle.message.specs.declared.facts.Message.{Message}
 use Rattle.fields.specs.declared.spans.Span.{Span}
@@ -36,7 +36,7 @@ removeFrom s m host destination =
 unfoldable pub removing : List ℕ → List ℕ → List ℕ → List ℕ → Outcome
 removing s host destination organization =
     cond (not (pathRule host destination organization)) (refuse Path)
-    (onRead (reading s) (λ m. removeFrom s m host destination))
+    (onRead (reading ample s) (λ m. removeFrom s m host destination))
 
 -- where the host of the last but one Via object stands in what is read; `hostShown` has it only where there are two
 abbrev pub hostIn : Reading → Span

@@ -1,7 +1,7 @@
 -- 01 Writing, the reply. The contract of `reply` cites `replying`. Assumes nothing.
 use Prim.Native.Nat.{ℕ}
 use Rattle.json.specs.Places.{bytes}
-use Rattle.message.specs.Reading.{reading}
+use Rattle.message.specs.Reading.{ample, reading}
 use Rattle.message.specs.declared.facts.Message.{Message}
 use Rattle.octets.specs.Ascii.{ascii}
 use Rattle.rules.specs.Date.{dateRule}
@@ -54,4 +54,4 @@ replyTo s m code date =
     (write (replyOf s m code date))))
 
 unfoldable pub replying : List ℕ → ℕ → List ℕ → Outcome
-replying s code date = onRead (reading s) (λ m. replyTo s m code date)
+replying s code date = onRead (reading ample s) (λ m. replyTo s m code date)

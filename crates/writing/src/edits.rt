@@ -7,6 +7,7 @@ use crate::objects::is_ours;
 use crate::putting::put_both;
 use json::part;
 use json::value_part;
+use message::AMPLE;
 use message::Message;
 use message::Reading;
 use octets::and;
@@ -16,7 +17,7 @@ ghost use mathlib.Core.List.{_++_, _∷_};
 ghost use mathlib.Core.Path.{_≡_};
 ghost use Prim.Native.Nat.{_≤_};
 ghost use lib.ListN.{drop, length, take};
-ghost use Rattle.message.specs.Reading.{reading};
+ghost use Rattle.message.specs.Reading.{ample, reading};
 ghost use Rattle.message.specs.declared.reading.Reading.the-variants as readings;
 ghost use Rattle.writing.specs.Adding.{addTo, adding, entry, pathRule};
 ghost use Rattle.writing.specs.Outcome.{Writes, write};
@@ -70,7 +71,7 @@ fn add_to(
     destination: &[u8],
     organization: &[u8],
 ) -> Written
-    requires { ⌜ (reading (now s) ≡ readings.Read m) × (pathRule (now host) (now destination) (now organization) ≡ true) ⌝ }
+    requires { ⌜ (reading ample (now s) ≡ readings.Read m) × (pathRule (now host) (now destination) (now organization) ≡ true) ⌝ }
     ensures { λ r. ⌜ Writes (now (out .entry)) (addTo (now (s .entry)) m (now (host .entry)) (now (destination .entry)) (now (organization .entry))) r (now (out .exit)) ⌝ }
 {
     let tag = m.tag;
@@ -103,7 +104,7 @@ pub fn add(
     if !is_path(host, destination, organization) {
         return Written::Refused(Refusal::Path);
     }
-    match message::read(s) {
+    match message::read(s, AMPLE) {
         Reading::Refused(_, _) => Written::Refused(Refusal::Kind),
         Reading::Read(m) => add_to(out, s, m, host, destination, organization),
     }
@@ -128,7 +129,7 @@ fn put_removed(out: &mut [u8], s: &[u8], seam: usize, end: usize) -> Written
 
 // The last Via object of what is read as m taken off.
 fn remove_from(out: &mut [u8], s: &[u8], m: Message, host: &[u8], destination: &[u8]) -> Removed
-    requires { ⌜ reading (now s) ≡ readings.Read m ⌝ }
+    requires { ⌜ reading ample (now s) ≡ readings.Read m ⌝ }
     ensures { λ r. ⌜ Took (now (out .entry)) (m .trail .host) (removeFrom (now (s .entry)) m (now (host .entry)) (now (destination .entry))) r (now (out .exit)) ⌝ }
 {
     let tag = m.tag;
@@ -161,12 +162,12 @@ pub fn remove(
     destination: &[u8],
     organization: &[u8],
 ) -> Removed
-    ensures { λ r. ⌜ Took (now (out .entry)) (hostIn (reading (now (s .entry)))) (removing (now (s .entry)) (now (host .entry)) (now (destination .entry)) (now (organization .entry))) r (now (out .exit)) ⌝ }
+    ensures { λ r. ⌜ Took (now (out .entry)) (hostIn (reading ample (now (s .entry)))) (removing (now (s .entry)) (now (host .entry)) (now (destination .entry)) (now (organization .entry))) r (now (out .exit)) ⌝ }
 {
     if !is_path(host, destination, organization) {
         return Removed::Refused(Refusal::Path);
     }
-    match message::read(s) {
+    match message::read(s, AMPLE) {
         Reading::Refused(_, _) => Removed::Refused(Refusal::Kind),
         Reading::Read(m) => remove_from(out, s, m, host, destination),
     }

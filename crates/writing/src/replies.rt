@@ -3,6 +3,7 @@ use crate::answers::Refusal;
 use crate::answers::Written;
 use crate::putting::put_both;
 use json::value_part;
+use message::AMPLE;
 use message::Message;
 use message::Reading;
 use octets::and;
@@ -11,7 +12,7 @@ use octets::put;
 ghost use mathlib.Core.Path.{_≡_};
 ghost use Prim.Native.Nat.{_≤_};
 ghost use lib.ListN.{length};
-ghost use Rattle.message.specs.Reading.{reading};
+ghost use Rattle.message.specs.Reading.{ample, reading};
 ghost use Rattle.message.specs.declared.reading.Reading.the-variants as readings;
 ghost use Rattle.rules.specs.Status.{statusText};
 ghost use Rattle.writing.specs.Outcome.{Writes, write};
@@ -75,7 +76,7 @@ fn is_wrong_code(code: u16, method: u8) -> bool
 
 // The reply to what is read as m.
 fn reply_to(out: &mut [u8], s: &[u8], m: Message, code: u16, date: &[u8]) -> Written
-    requires { ⌜ reading (now s) ≡ readings.Read m ⌝ }
+    requires { ⌜ reading ample (now s) ≡ readings.Read m ⌝ }
     ensures { λ r. ⌜ Writes (now (out .entry)) (replyTo (now (s .entry)) m code (now (date .entry))) r (now (out .exit)) ⌝ }
 {
     if is_unanswered(m) {
@@ -108,7 +109,7 @@ fn reply_to(out: &mut [u8], s: &[u8], m: Message, code: u16, date: &[u8]) -> Wri
 pub fn reply(out: &mut [u8], s: &[u8], code: u16, date: &[u8]) -> Written
     ensures { λ r. ⌜ Writes (now (out .entry)) (replying (now (s .entry)) code (now (date .entry))) r (now (out .exit)) ⌝ }
 {
-    match message::read(s) {
+    match message::read(s, AMPLE) {
         Reading::Refused(_, _) => Written::Refused(Refusal::Kind),
         Reading::Read(m) => reply_to(out, s, m, code, date),
     }

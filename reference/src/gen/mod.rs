@@ -1,6 +1,7 @@
 //! Random but mostly sensible cases for the programs, the same for the same
 //! seed.
 
+mod ceilings;
 mod damage;
 mod draft;
 mod flow;
@@ -41,6 +42,12 @@ pub fn photo_lines(seed: u64, count: u64, output: impl Write) -> io::Result<()> 
 pub fn utf8_lines(seed: u64, count: u64, output: impl Write) -> io::Result<()> {
     let mut utf8 = utf8::Utf8::new(seed);
     write_lines(seed, count, output, || utf8.line())
+}
+
+/// So many texts for `probe` to read, each with a ceiling before it: two lines.
+pub fn ceiling_lines(seed: u64, count: u64, output: impl Write) -> io::Result<()> {
+    let mut rng = Rng::new(seed);
+    write_lines(seed, count, output, || ceilings::pair(&mut rng))
 }
 
 /// So many lines for `json`.
@@ -109,6 +116,10 @@ mod tests {
         made(|out| utf8_lines(seed, count, out))
     }
 
+    fn ceiling_script(seed: u64, count: u64) -> Vec<u8> {
+        made(|out| ceiling_lines(seed, count, out))
+    }
+
     fn json_script(seed: u64, count: u64) -> Vec<u8> {
         made(|out| json_lines(seed, count, out))
     }
@@ -123,10 +134,12 @@ mod tests {
         assert_eq!(probe_script(5, 500), probe_script(5, 500));
         assert_eq!(photo_script(5, 500), photo_script(5, 500));
         assert_eq!(utf8_script(5, 500), utf8_script(5, 500));
+        assert_eq!(ceiling_script(5, 500), ceiling_script(5, 500));
         assert_eq!(json_script(5, 500), json_script(5, 500));
         assert_eq!(rule_script(5, 500), rule_script(5, 500));
         assert_ne!(photo_script(5, 500), photo_script(6, 500));
         assert_ne!(utf8_script(5, 500), utf8_script(6, 500));
+        assert_ne!(ceiling_script(5, 500), ceiling_script(6, 500));
         assert_ne!(json_script(5, 500), json_script(6, 500));
         assert_ne!(rule_script(5, 500), rule_script(6, 500));
         assert_ne!(keep_log(5, 500), keep_log(6, 500));
@@ -142,6 +155,7 @@ mod tests {
                 probe_script(seed, 300),
                 photo_script(seed, 300),
                 utf8_script(seed, 300),
+                ceiling_script(seed, 150),
                 json_script(seed, 300),
                 rule_script(seed, 300),
             ] {
@@ -185,12 +199,54 @@ mod tests {
         }
     }
 
+    /// Where there is no text, a reading is answered as an event is, and
+    /// `count` cannot tell them apart.
     #[test]
-    fn texts_reach_both_rows_and_neither() {
+    fn readings_and_events_reach_every_row_without_a_text() {
+        let script = probe_script(1, 15_000);
+        let answers = written(Probe::new(), &script);
+        for command in ["read ", "msg "] {
+            let lines = script.split(|byte| *byte == b'\n').zip(answers.lines());
+            let asked = lines.filter(|(line, _)| line.starts_with(command.as_bytes()));
+            let answers: Vec<&str> = asked.map(|(_, answer)| answer).collect();
+            let wanted = ["no 2 ", "no 3 ", "no 4 ", "no 5 ", "no 11 "];
+            reaches(&answers.join("\n"), &wanted.map(|start| (start, 2)));
+        }
+    }
+
+    #[test]
+    fn texts_reach_every_row_of_the_walk_and_none() {
         let answers = written(JsonLines, &json_script(1, 5000));
         reaches(
             &answers,
-            &[("ok", 500), ("no 4 ", 500), ("no 5 ", 50), ("?", 10)],
+            &[
+                ("ok ", 500),
+                ("no 4 ", 500),
+                ("no 5 ", 50),
+                ("no 11 ", 500),
+                ("?", 10),
+            ],
+        );
+    }
+
+    #[test]
+    fn texts_under_ceilings_reach_every_row() {
+        let answers = written(Probe::new(), &ceiling_script(1, 4000));
+        reaches(
+            &answers,
+            &[
+                ("ok ", 200),
+                ("no 2 ", 10),
+                ("no 3 ", 10),
+                ("no 4 ", 500),
+                ("no 5 ", 100),
+                ("no 6 ", 100),
+                ("no 7 ", 50),
+                ("no 8 ", 100),
+                ("no 9 ", 100),
+                ("no 10 ", 50),
+                ("no 11 ", 800),
+            ],
         );
     }
 

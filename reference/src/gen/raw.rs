@@ -239,8 +239,8 @@ fn control_byte(rng: &mut Rng) -> Vec<u8> {
     wrap(rng, &case)
 }
 
-/// Seven, eight or nine brackets of any mix, closed, cut or gone on.
-fn depth(rng: &mut Rng) -> Vec<u8> {
+/// Seven to ten brackets of any mix, closed, cut or gone on.
+pub fn depth(rng: &mut Rng) -> Vec<u8> {
     let levels = rng.between(7, 10);
     if rng.one_in(2) {
         let node = draft::nested(rng, levels);

@@ -1,5 +1,6 @@
 //! Lines for `probe`.
 
+use super::ceilings;
 use super::damage;
 use super::draft::{self, Plan};
 use super::flow::{self, Flow, Happening};
@@ -9,7 +10,7 @@ use super::rng::Rng;
 use super::texts;
 use crate::hex;
 use crate::lines::Answerer;
-use crate::message::MAX_LENGTH;
+use crate::message::{CEILING, MAX_LENGTH};
 use crate::probe::{Probe, MAX_BYTES, MAX_LINE, MAX_ROOM, MAX_TABLE};
 use crate::rules::Method;
 use crate::table;
@@ -23,6 +24,8 @@ pub struct Script {
     rng: Rng,
     flow: Flow,
     probe: Probe,
+    /// The line that a ceiling was chosen for.
+    next: Option<Vec<u8>>,
 }
 
 impl Script {
@@ -33,12 +36,13 @@ impl Script {
             rng,
             flow,
             probe: Probe::new(),
+            next: None,
         }
     }
 
     /// The next line, without its line feed.
     pub fn line(&mut self) -> Vec<u8> {
-        let line = self.compose();
+        let line = self.next.take().unwrap_or_else(|| self.compose());
         self.probe.answer(&line);
         line
     }
@@ -50,13 +54,17 @@ impl Script {
         if !table::well_formed(held) && rng.percent(25) {
             return new_table(rng);
         }
+        if self.probe.ceiling != CEILING && rng.percent(40) {
+            return ceiling(CEILING);
+        }
         match rng.below(1000) {
             0..=4 => new_table(rng),
             5..=44 => table_line(rng, held),
             45..=64 if records <= SMALL || rng.one_in(60) => b"dump".to_vec(),
             45..=84 => odd_line(rng),
             85..=85 => long_line(rng),
-            86..=319 => read_line(rng),
+            86..=115 => self.ceiling_line(),
+            116..=319 => read_line(rng),
             320..=439 => reply_line(rng),
             440..=529 => add_line(rng),
             530..=619 => remove_line(rng),
@@ -70,6 +78,19 @@ impl Script {
             Happening::Message(bytes) => words("msg", &[&time, &Hex(bytes)]),
             Happening::Tick(call_id) => words("tick", &[&time, &Hex(call_id)]),
         }
+    }
+
+    /// A ceiling around the values of what the next line reads: its last word.
+    /// That of a tick is no text, and any ceiling is as good.
+    fn ceiling_line(&mut self) -> Vec<u8> {
+        let next = match self.rng.one_in(2) {
+            true => read_line(&mut self.rng),
+            false => self.event_line(),
+        };
+        let word = next.rsplit(|byte| *byte == b' ').next();
+        let text = word.and_then(hex::decode).unwrap_or_default();
+        self.next = Some(next);
+        ceiling(ceilings::around(&mut self.rng, &text))
     }
 }
 
@@ -174,6 +195,24 @@ fn odd_line(rng: &mut Rng) -> Vec<u8> {
         "READ 5b5d",
         "reads 5b5d",
         "read\t5b5d",
+        "ceiling",
+        "ceiling ",
+        "ceiling -",
+        "ceiling x",
+        "ceiling -1",
+        "ceiling +1",
+        "ceiling 1 ",
+        "ceiling  1",
+        "ceiling 1 2",
+        "ceiling 1.0",
+        "ceiling 0x10",
+        "ceiling 00016384",
+        "ceiling 4294967295",
+        "ceiling 4294967296",
+        "ceiling 4294967297",
+        "ceiling 18446744073709551616",
+        "Ceiling 1",
+        "ceilings 1",
         "dump ",
         "dump -",
         "dump\r",
@@ -238,7 +277,7 @@ fn odd_line(rng: &mut Rng) -> Vec<u8> {
 /// Lines at and over each limit of size.
 fn long_line(rng: &mut Rng) -> Vec<u8> {
     let over = rng.below(2);
-    match rng.below(8) {
+    match rng.below(9) {
         0 => read(vec![b'['; MAX_BYTES + over]),
         1 => read(vec![b' '; MAX_LENGTH + over]),
         2 => words("msg", &[&1usize, &Hex(vec![b' '; MAX_BYTES + over])]),
@@ -258,6 +297,7 @@ fn long_line(rng: &mut Rng) -> Vec<u8> {
                 &Hex(Vec::new()),
             ],
         ),
+        7 => read(ceilings::crowd(rng)),
         _ => {
             let plan = Plan::random(rng);
             let mut bytes = flow::message(rng, &plan);
@@ -268,9 +308,17 @@ fn long_line(rng: &mut Rng) -> Vec<u8> {
 }
 
 fn read_line(rng: &mut Rng) -> Vec<u8> {
-    let bytes = match rng.below(10) {
-        0..=4 => raw::text(rng),
-        5 => {
+    let bytes = match rng.one_in(2) {
+        true => raw::text(rng),
+        false => message(rng),
+    };
+    read(bytes)
+}
+
+/// A message to read: right, or spoiled for one of the rows or more.
+pub fn message(rng: &mut Rng) -> Vec<u8> {
+    match rng.below(5) {
+        0 => {
             let own = *rng.pick(&[
                 Method::Invite,
                 Method::Message,
@@ -283,14 +331,14 @@ fn read_line(rng: &mut Rng) -> Vec<u8> {
             draft.break_a_field(rng);
             draft.render(rng)
         }
-        6 => {
+        1 => {
             let mut draft = draft::ping_or_pong(rng);
             if rng.one_in(2) {
                 draft.spoil(rng);
             }
             draft.render(rng)
         }
-        7 => {
+        2 => {
             let plan = Plan::random(rng);
             flow::message(rng, &plan)
         }
@@ -306,13 +354,17 @@ fn read_line(rng: &mut Rng) -> Vec<u8> {
             }
             bytes
         }
-    };
-    read(bytes)
+    }
 }
 
 /// The line that reads these bytes.
 pub fn read(bytes: Vec<u8>) -> Vec<u8> {
     words("read", &[&Hex(bytes)])
+}
+
+/// The line that sets this ceiling.
+pub fn ceiling(ceiling: u32) -> Vec<u8> {
+    words("ceiling", &[&u64::from(ceiling)])
 }
 
 /// A room for a result: too short by one, exact, larger, none or any.

@@ -1,5 +1,6 @@
 //! Lines for `json`.
 
+use super::ceilings;
 use super::damage;
 use super::draft::Plan;
 use super::flow;
@@ -12,7 +13,8 @@ use crate::message::MAX_LENGTH;
 pub fn line(rng: &mut Rng) -> Vec<u8> {
     let mut text = match rng.below(2000) {
         0 => long(rng),
-        1..=29 => return odd_line(rng),
+        1 => ceilings::crowd(rng),
+        2..=29 => return odd_line(rng),
         30..=149 => {
             let plan = Plan::random(rng);
             flow::message(rng, &plan)
@@ -27,7 +29,8 @@ pub fn line(rng: &mut Rng) -> Vec<u8> {
     if rng.one_in(8) {
         damage::scatter(rng, &mut text);
     }
-    let mut line = Vec::new();
+    let ceiling = ceilings::around(rng, &text);
+    let mut line = format!("{ceiling} ").into_bytes();
     hex::encode(&text, &mut line);
     line
 }
@@ -40,26 +43,45 @@ fn long(rng: &mut Rng) -> Vec<u8> {
     text
 }
 
-/// Lines of no bytes, and lines that are answered `?`.
+/// Lines of no bytes, lines that are answered `?`, and some that only look
+/// like it.
 fn odd_line(rng: &mut Rng) -> Vec<u8> {
     const ODD: &[&str] = &[
         "",
+        " ",
         "-",
-        "--",
-        "-5b",
-        "5",
-        "5b5",
-        "5B5D",
-        "5b5D",
-        "5b5g",
-        "5b 5d",
-        " 5b5d",
-        "5b5d ",
-        "5b5d\r",
+        "9",
+        "9 ",
+        "0 ",
+        "9 -",
+        "0 -",
+        "9 --",
+        "9 -5b",
+        "9 5",
+        "9 5b5",
+        "9 5B5D",
+        "9 5b5D",
+        "9 5b5g",
+        "9 5b 5d",
+        "9  5b5d",
+        " 9 5b5d",
+        "9 5b5d ",
+        "9 5b5d\r",
+        "9\t5b5d",
         "\r",
         "?",
-        "[]",
-        "0x5b",
+        "5b5d",
+        " 5b5d",
+        "- 5b5d",
+        "-1 5b5d",
+        "+1 5b5d",
+        "0x9 5b5d",
+        "00009 5b5d",
+        "4294967295 5b5d",
+        "4294967296 5b5d",
+        "18446744073709551616 5b5d",
+        "9 []",
+        "9 0x5b",
         "read 5b5d",
     ];
     rng.one_of(ODD)

@@ -1,6 +1,6 @@
 -- JSON as a machine that takes one byte at a time: where it stands (a Mode) and which arrays and objects are open (a Stack, innermost first).
--- It is what the readers of src/ are proved against. Inner: `verdict` and `verdict-answer` in proofs/VerdictLaws.antt say that its answer on a text is
--- the one that `Verdict` allows, in the words of the grammar alone. Assumes nothing.
+-- It is what the readers of src/ are proved against. Inner: `says` and `says-one` in proofs/AnswerLaws.antt say that its answer on a text
+-- is the true one, in the words of the grammar alone; Tour.antt puts a ceiling on it. Assumes nothing.
 use mathlib.Core.Path.{_≡_}
 use mathlib.Core.Bool.{Bool, true, false, not, _&&_, _||_, cond}
 use mathlib.Core.List.{List, [], _∷_}
@@ -229,13 +229,6 @@ pub record Leaf (s : List ℕ) (a : ℕ) (m m′ : Role → Mode) (r : Walked) :
   pub low : a ≤ place r
   pub high : place r ≤ length s
   pub same : (w : Role) (k : Stack) → from s a (m w) k ≡ onward s (m′ w) k r
-
--- a reader of what may nest, with so many levels left: it starts in mode m with f k around, and its end leaves the machine after a value
--- with k around
-pub record Nest (s : List ℕ) (a left : ℕ) (m : Mode) (f : Stack → Stack) (r : Walked) : Type 0 where
-  pub low : a ≤ place r
-  pub high : place r ≤ length s
-  pub same : (k : Stack) → levels (f k) ≡ left → from s a m (f k) ≡ onward s after k r
 
 -- bytes of a class f are passed over from a to r
 pub record Pass (f : ℕ → Bool) (s : List ℕ) (a r : ℕ) : Type 0 where

@@ -13,12 +13,12 @@ Inv-loop s text₀ from₀ text from = Unit {0}
 abbrev μ-loop : tie.MeasureT-loop
 μ-loop s text₀ from₀ text from = length s - from
 
-part-decoded-end : tie.Need-part-decoded-end Inv-loop μ-loop
-part-decoded-end c = omega (arith, c .find .ensures, found-within 10 (c .before .before .before .before .args .s .now) (c .before .before .loop .from) (search needs))
+part-line-end : tie.Need-part-line-end Inv-loop μ-loop
+part-line-end c = omega (arith, c .find .ensures, found-within 10 (c .before .before .before .before .args .s .now) (c .before .before .loop .from) (search needs))
 
 add-from : tie.Need-add-from Inv-loop μ-loop
 add-from c =
-    let at-find = c .before .before .before .before .before in
+    let at-find = c .before .before .before in
     let at-loop = at-find .before .before in
     let start = at-loop .before .before in
     omega (arith, at-find .find .ensures, found-within 10 (start .args .s .now) (at-loop .loop .from) (search needs))
@@ -33,8 +33,7 @@ lines-spec =
     (λ c κs. search needs)
     (λ c. search needs)
     (λ c. search needs)
-    part-decoded-end
-    (λ c κs. search needs)
+    part-line-end
     (λ c κs. search needs)
     add-from
     (λ c. search needs)

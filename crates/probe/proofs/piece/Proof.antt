@@ -6,6 +6,7 @@ use Rattle.probe.proofs.PieceLaws.{buffered-told, here-told, kept-on}
 use Rattle.probe.proofs.piece.Statement.{statement}
 use Rattle.probe.proofs.piece.Tie as tie
 use Rattle.probe.specs.Commands.{lineDone}
+use Rattle.probe.specs.Effect.{holding}
 use borrow.Author.Needs.{needs}
 use Prim.Native.Nat.{_-_}
 use lib.ListN.{drop, length, take}
@@ -55,7 +56,7 @@ told-requires c κs =
     let x = at-e .before .before .before .before .before .args in
     let e = at-e .e .given .0 .0 in
     let a = c .before .before .answer .ensures in
-    answer-fits (x .out .now) (lineDone (take (x .size) (x .held .now)) (take (e - x .from) (drop (x .from) (x .s .now))) .text) (a .text .0) (a .text .1)
+    answer-fits (x .out .now) (lineDone (holding (x .ceiling) (take (x .size) (x .held .now))) (take (e - x .from) (drop (x .from) (x .s .now))) .text) (a .text .0) (a .text .1)
 
 answer-kept-requires : tie.Need-answer-kept-requires
 answer-kept-requires c κs =
@@ -76,7 +77,7 @@ told-requires-2 c κs =
     let x = at-m .before .before .before .before .before .args in
     let m = at-m .m .given .0 .0 in
     let a = c .before .before .answer-kept .ensures in
-    answer-fits (x .out .now) (lineDone (take (x .size) (x .held .now)) (take m (at-m .before .before .next-line .last .0)) .text) (a .text .0) (a .text .1)
+    answer-fits (x .out .now) (lineDone (holding (x .ceiling) (take (x .size) (x .held .now))) (take m (at-m .before .before .next-line .last .0)) .text) (a .text .0) (a .text .1)
 
 returns : tie.Need-returns
 returns c =
@@ -88,15 +89,15 @@ returns c =
     let a = c .before .before .before .answer .ensures in
     let r = c .told .ensures in
     let l : length (x .line .now) ≡ 170001 = search needs in (
-      here-told (take (x .size) (x .held .now)) (x .line .now) l (x .len) (x .s .now) (x .from) e (x .out .now) _ q a
-          (record { table = r .0; none-kept = r .1; next = r .2; handed = r .4 }),
+      here-told (holding (x .ceiling) (take (x .size) (x .held .now))) (x .line .now) l (x .len) (x .s .now) (x .from) e (x .out .now) _ q a
+          (record { ceiling = r .1; table = r .0; none-kept = r .2; next = r .3; handed = r .5 }),
       omega (arith, r .0, a .small),
-      omega (arith, r .1),
-      omega (arith, r .2, p .0, p .1),
-      r .3,
-      r .5,
-      omega (arith, r .2, p .0),
+      omega (arith, r .2),
+      omega (arith, r .3, p .0, p .1),
+      r .4,
       r .6,
+      omega (arith, r .3, p .0),
+      r .7,
     )
 
 returns-2 : tie.Need-returns-2
@@ -111,15 +112,15 @@ returns-2 c =
     let a = c .before .before .before .answer-kept .ensures in
     let r = c .told2 .ensures in
     let l : length (x .line .now) ≡ 170001 = search needs in (
-      buffered-told (take (x .size) (x .held .now)) (x .line .now) l (x .len) (x .s .now) (x .from) m e (x .out .now) _ _ q (n .ensures .1) a
-          (record { table = r .0; none-kept = r .1; next = r .2; handed = r .4 }),
+      buffered-told (holding (x .ceiling) (take (x .size) (x .held .now))) (x .line .now) l (x .len) (x .s .now) (x .from) m e (x .out .now) _ _ q (n .ensures .1) a
+          (record { ceiling = r .1; table = r .0; none-kept = r .2; next = r .3; handed = r .5 }),
       omega (arith, r .0, a .small),
-      omega (arith, r .1),
-      omega (arith, r .2, p .1, p .2),
-      r .3,
-      r .5,
-      omega (arith, r .2, p .1),
+      omega (arith, r .2),
+      omega (arith, r .3, p .1, p .2),
+      r .4,
       r .6,
+      omega (arith, r .3, p .1),
+      r .7,
     )
 
 returns-3 : tie.Need-returns-3
@@ -133,7 +134,7 @@ returns-3 c =
     let l : length (x .line .now) ≡ 170001 = search needs in
     let k = short (length (x .line .now)) (take (x .len) (x .line .now) ++ restOfLine (x .s .now) (x .from)) in
     let given = start .pre in (
-      kept-on (take (x .size) (x .held .now)) (x .line .now) l (x .len) (x .s .now) (x .from) m _ q (n .ensures .1),
+      kept-on (holding (x .ceiling) (take (x .size) (x .held .now))) (x .line .now) l (x .len) (x .s .now) (x .from) m _ q (n .ensures .1),
       given .0,
       omega (arith, p .0),
       omega arith,

@@ -5,17 +5,19 @@ use Rattle.lines.proofs.WholeRun.{further}
 use Rattle.lines.specs.inner.Running.{Reached}
 use Rattle.probe.proofs.run.Statement.{statement}
 use Rattle.probe.proofs.run.Tie as tie
+use Rattle.message.specs.Reading.{ample}
 use Rattle.probe.specs.Commands.{lineDone}
+use Rattle.probe.specs.Effect.{holding}
 use Rattle.table.specs.Blank.{blankOf}
 use borrow.Author.Needs.{needs}
 use lib.ListN.{drop, take}
 use mathlib.Core.Bool.{true}
-use mathlib.Core.Path.{_≡_}
+use mathlib.Core.Path.{_≡_, ap}
 use native.Mathlib.Omega.{arith}
 
 abbrev Inv-loop : tie.InvT-loop
 Inv-loop out₀ held₀ bytes₀ room₀ line₀ buf₀ s₀ turns₀ out held bytes room line buf s turns =
-    Reached lineDone 170001 (blankOf 255) (take (s .size) held) (take (s .len) line) (drop (s .from) (take (s .n) buf))
+    Reached lineDone 170001 (holding ample (blankOf 255)) (holding (s .ceiling) (take (s .size) held)) (take (s .len) line) (drop (s .from) (take (s .n) buf))
     × (s .size ≤ 65536)
     × (s .len ≤ 170001)
     × (s .from ≤ s .n)
@@ -29,7 +31,7 @@ loop-holds : tie.Need-loop-holds Inv-loop μ-loop
 loop-holds c =
     let x = c .before .before .args in
     let e = c .start .ensures in
-    (begins lineDone 170001 (blankOf 255) (x .line .now) (x .buf .now) (e .0), e .1, omega arith, omega arith, omega arith, never)
+    (begins lineDone 170001 (holding ample (blankOf 255)) (x .line .now) (x .buf .now) (ap (holding ample) (e .0)), e .1, omega arith, omega arith, omega arith, never)
 
 turn-requires : tie.Need-turn-requires Inv-loop μ-loop
 turn-requires c κs =

@@ -4,6 +4,7 @@ use Rattle.lines.proofs.TurnLaws.{never, turn-answers, turn-reads}
 use Rattle.probe.proofs.turn.Statement.{statement}
 use Rattle.probe.proofs.turn.Tie as tie
 use Rattle.probe.specs.Commands.{lineDone}
+use Rattle.probe.specs.Effect.{holding}
 use borrow.Author.Needs.{needs}
 use lib.ListN.{length, take}
 use lib.Seq.{length-take-le}
@@ -29,13 +30,13 @@ returns-2 : tie.Need-returns-2
 returns-2 c =
     let x = c .before .before .before .args in
     let f = c .fetch .ensures in
-    let t = take (x .s .size) (x .held .now) in (
-      rw (f .0) (turn-reads lineDone 170001 t (x .line .now) (x .buf .now) (x .out .now) (x .s .len) (x .s .from) (x .s .n) (omega arith) (f .1) (f .4)),
+    let h = holding (x .s .ceiling) (take (x .s .size) (x .held .now)) in (
+      rw (f .0, f .1) (turn-reads lineDone 170001 h (x .line .now) (x .buf .now) (x .out .now) (x .s .len) (x .s .from) (x .s .n) (omega arith) (f .2) (f .5)),
       omega (arith, f .0),
-      omega (arith, f .1),
       omega (arith, f .2),
-      f .3,
-      f .6,
+      omega (arith, f .3),
+      f .4,
+      f .7,
       λ h. absurd (omega (arith, h)),
     )
 

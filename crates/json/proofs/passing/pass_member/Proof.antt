@@ -1,7 +1,6 @@
 -- One law for each way out; what the readers answer is the machine's answer. Assumes nothing.
 use Rattle.octets.proofs.TextLaws.{there}
-use Rattle.json.proofs.PassLaws.{no-string-reached, string-reached, string-some, no-value-reached, value-reached, value-some, no-name, no-colon}
-use Rattle.json.proofs.PassLaws.{no-value, not-followed, a-member}
+use Rattle.json.proofs.PassLaws.{no-string-reached, string-reached, string-some, value-lone, no-end, no-name, no-colon, no-value, not-followed, a-member}
 use Rattle.json.proofs.passing.pass_member.Statement.{statement}
 use Rattle.json.proofs.passing.pass_member.Tie as tie
 use Rattle.json.specs.inner.Passing.{isNext}
@@ -13,7 +12,8 @@ returns : tie.Need-returns
 returns c =
     let st = c .before .before in
     let x = st .before .before in
-    c .nothing .ensures ∙ no-name (x .args .left) (x .args .s .now) (x .args .q) (no-string-reached (x .pre .0) (x .pre .1) (st .string .ensures) (c .before .match .keys2)) refl
+    c .nothing .ensures ∙ no-name (x .args .left) (x .args .room) (x .args .s .now) (x .args .q)
+    (no-string-reached (x .pre .0) (x .pre .1) (st .string .ensures) (c .before .match .keys2)) refl
 
 returns-2 : tie.Need-returns-2
 returns-2 c =
@@ -24,7 +24,8 @@ returns-2 c =
     let x = st .before .before in
     let e = string-reached (x .pre .0) (x .pre .1) (st .string .ensures) (n .n .given .1) in
     let named = string-some (x .pre .0) (x .pre .1) (st .string .ensures) (n .n .given .1) in
-    c .nothing2 .ensures ∙ no-colon (x .args .left) (x .args .s .now) (x .args .q) e named (sk .skip .ensures .is) (λ z. c .before .if1 .taken (by .byte .ensures ∙ z))
+    c .nothing2 .ensures ∙ no-colon (x .args .left) (x .args .room) (x .args .s .now) (x .args .q) e named (sk .skip .ensures .is)
+    (λ z. c .before .if1 .taken (by .byte .ensures ∙ z))
 
 add-skip : tie.Need-add-skip
 add-skip c = let st = c .before .before .before .before .before .before in let x = st .before .before .args in
@@ -46,8 +47,8 @@ returns-3 c =
     let e = string-reached (x .pre .0) (x .pre .1) (st .string .ensures) (n .n .given .1) in
     let named = string-some (x .pre .0) (x .pre .1) (st .string .ensures) (n .n .given .1) in
     let colon = sym (by .byte .ensures) ∙ s2 .before .if1 .left in
-    c .nothing3 .ensures ∙ no-value (x .args .left) (x .args .s .now) (x .args .q) e named (sk .skip .ensures .is) colon (s2 .skip2 .ensures .is)
-    (no-value-reached (va .value .ensures) (c .before .match2 .keys2)) refl
+    c .nothing3 .ensures ∙ no-value (x .args .left) (x .args .room) (x .args .s .now) (x .args .q) e named (sk .skip .ensures .is) colon (s2 .skip2 .ensures .is)
+    (value-lone (va .value .ensures)) (no-end (va .value .result) (c .before .match2 .keys2))
 
 returns-4 : tie.Need-returns-4
 returns-4 c =
@@ -65,10 +66,9 @@ returns-4 c =
     let e = string-reached (x .pre .0) (x .pre .1) (st .string .ensures) (n .n .given .1) in
     let named = string-some (x .pre .0) (x .pre .1) (st .string .ensures) (n .n .given .1) in
     let colon = sym (by .byte .ensures) ∙ s2 .before .if1 .left in
-    let w = value-reached (va .value .ensures) (r .r .given .1) in
-    let some = value-some (va .value .ensures) (omega (arith, s2 .skip2 .ensures .low)) (r .r .given .1) in
     let follow = ap isNext (sym (b2 .byte2 .ensures)) ∙ sym (nx .is-next .ensures) in
-    a-member (x .args .left) (x .args .s .now) (x .args .q) e named (sk .skip .ensures .is) colon (s2 .skip2 .ensures .is) w some (s3 .skip3 .ensures .is) (follow ∙ c .if2 .taken)
+    a-member (x .args .left) (x .args .room) (x .args .s .now) (x .args .q) e named (sk .skip .ensures .is) colon (s2 .skip2 .ensures .is) (value-lone (va .value .ensures))
+    (r .r .given .1) (s3 .skip3 .ensures .is) (follow ∙ c .if2 .taken)
 
 returns-5 : tie.Need-returns-5
 returns-5 c =
@@ -86,11 +86,9 @@ returns-5 c =
     let e = string-reached (x .pre .0) (x .pre .1) (st .string .ensures) (n .n .given .1) in
     let named = string-some (x .pre .0) (x .pre .1) (st .string .ensures) (n .n .given .1) in
     let colon = sym (by .byte .ensures) ∙ s2 .before .if1 .left in
-    let w = value-reached (va .value .ensures) (r .r .given .1) in
-    let some = value-some (va .value .ensures) (omega (arith, s2 .skip2 .ensures .low)) (r .r .given .1) in
     let follow = ap isNext (sym (b2 .byte2 .ensures)) ∙ sym (nx .is-next .ensures) in
-    c .nothing4 .ensures ∙ not-followed (x .args .left) (x .args .s .now) (x .args .q) e named (sk .skip .ensures .is) colon (s2 .skip2 .ensures .is)
-    w some (s3 .skip3 .ensures .is) (follow ∙ c .before .if2 .left)
+    c .nothing4 .ensures ∙ not-followed (x .args .left) (x .args .room) (x .args .s .now) (x .args .q) e named (sk .skip .ensures .is) colon (s2 .skip2 .ensures .is)
+    (value-lone (va .value .ensures)) (r .r .given .1) (s3 .skip3 .ensures .is) (follow ∙ c .before .if2 .left)
 
 pub pass-member-spec : {M : Type 1} → statement M
 pass-member-spec =

@@ -18,7 +18,7 @@ ask-requires : tie.Need-ask-requires
 ask-requires c κs =
     let at-read = c .before .before .before .before .before in
     let start = at-read .before .before .before in
-    (start .pre, read-named _ _ (sym (at-read .read .ensures) ∙ c .before .before .before .m .given .1) (c .before .if1 .left))
+    (start .pre, read-named _ _ _ (sym (at-read .read .ensures) ∙ c .before .before .before .m .given .1) (c .before .if1 .left))
 
 returns-2 : tie.Need-returns-2
 unfolding onMessage

@@ -1,90 +1,30 @@
--- One law for each name. Assumes nothing.
-use Rattle.probe.proofs.CommandLaws.{does, does-ask, does-blank, does-msg, does-table, does-tick}
-use Rattle.probe.proofs.TableLaws.{turns}
+-- `ceiling`, or any other command. Assumes nothing.
+use Rattle.probe.proofs.CeilingLaws.{ceiling-set}
+use Rattle.probe.proofs.CommandLaws.{does-plain, finishes}
 use Rattle.probe.proofs.commands.obey.Statement.{statement}
 use Rattle.probe.proofs.commands.obey.Tie as tie
-use Rattle.showing.specs.Asked.{askedText}
 use borrow.Author.Needs.{needs}
 use lib.ListN.{take}
-use mathlib.Core.Path.{_∙_, refl, sym}
+use mathlib.Core.Path.{sym, _∙_}
 
 returns : tie.Need-returns
 returns c =
-    let at-if1 = c .before .before .before .before in
+    let at-if1 = c .before .before in
     let at-same = at-if1 .before in
     let start = at-same .before .before .before .before in
     let x = start .args in
-    does (x .out .now) (does-msg (take (x .size) (x .held .now)) (x .name .now) (x .words .now)
-    (sym (at-same .same .ensures) ∙ at-if1 .if1 .taken)) (c .happen .ensures)
+    ceiling-set (x .ceiling) (x .size) (x .held .now) (x .name .now) (x .words .now) (x .out .now) (sym (at-same .same .ensures) ∙ at-if1 .if1 .taken) (c .set-ceiling .ensures)
+    (start .pre .0)
 
 returns-2 : tie.Need-returns-2
 returns-2 c =
-    let at-if2 = c .before .before .before .before in
-    let at-same2 = at-if2 .before in
-    let at-if1 = at-same2 .before .before in
+    let at-obey-plain = c .before in
+    let at-if1 = at-obey-plain .before .before .before .before .before in
     let at-same = at-if1 .before in
-    let start = at-same .before .before .before .before in
-    let x = start .args in
-    does (x .out .now) (does-tick (take (x .size) (x .held .now)) (x .name .now) (x .words .now)
-    (sym (at-same .same .ensures) ∙ at-if1 .if1 .left)
-    (sym (at-same2 .same2 .ensures) ∙ at-if2 .if2 .taken)) (c .happen2 .ensures)
-
-returns-3 : tie.Need-returns-3
-returns-3 c =
-    let at-same3 = c .before .before .before .before in
-    let at-if2 = at-same3 .before .before in
-    let at-same2 = at-if2 .before in
-    let at-if1 = at-same2 .before .before in
-    let at-same = at-if1 .before in
-    let start = at-same .before .before .before .before in
-    let x = start .args in
-    does (x .out .now) (does-blank (take (x .size) (x .held .now)) (x .name .now) (x .words .now)
-    (sym (at-same .same .ensures)
-    ∙ at-if1 .if1 .left)
-    (sym (at-same2 .same2 .ensures) ∙ at-if2 .if2 .left)
-    (sym (at-same3 .same3 .ensures) ∙ c .before .before .before .if3 .taken)) (c .blank .ensures)
-
-returns-4 : tie.Need-returns-4
-returns-4 c =
-    let at-same4 = c .before .before .before .before in
-    let at-if3 = at-same4 .before .before in
-    let at-same3 = at-if3 .before in
-    let at-if2 = at-same3 .before .before in
-    let at-same2 = at-if2 .before in
-    let at-if1 = at-same2 .before .before in
-    let at-same = at-if1 .before in
-    let start = at-same .before .before .before .before in
-    let x = start .args in
-    does (x .out .now) (does-table (take (x .size) (x .held .now)) (x .name .now) (x .words .now)
-    (sym (at-same .same .ensures)
-    ∙ at-if1 .if1 .left)
-    (sym (at-same2 .same2 .ensures)
-    ∙ at-if2 .if2 .left)
-    (sym (at-same3 .same3 .ensures) ∙ at-if3 .if3 .left)
-    (sym (at-same4 .same4 .ensures) ∙ c .before .before .before .if4 .taken)) (c .hold .ensures)
-
-returns-5 : tie.Need-returns-5
-returns-5 c =
-    let at-if4 = c .before .before .before .before in
-    let at-same4 = at-if4 .before in
-    let at-if3 = at-same4 .before .before in
-    let at-same3 = at-if3 .before in
-    let at-if2 = at-same3 .before .before in
-    let at-same2 = at-if2 .before in
-    let at-if1 = at-same2 .before .before in
-    let at-same = at-if1 .before in
-    let start = at-same .before .before .before .before in
-    let x = start .args in
-    let t = take (x .size) (x .held .now) in
-    turns (x .out .now) (x .size) (x .held .now) t (askedText (x .name .now) (x .words .now))
-    (does-ask t (x .name .now) (x .words .now)
-    (sym (at-same .same .ensures)
-    ∙ at-if1 .if1 .left)
-    (sym (at-same2 .same2 .ensures)
-    ∙ at-if2 .if2 .left)
-    (sym (at-same3 .same3 .ensures) ∙ at-if3 .if3 .left)
-    (sym (at-same4 .same4 .ensures) ∙ at-if4 .if4 .left)) (c .ask .ensures) refl
-    (start .pre .0)
+    let x = at-same .before .before .before .before .args in
+    finishes (x .ceiling) (x .out .now)
+    (does-plain (x .ceiling) (take (x .size) (x .held .now)) (x .name .now) (x .words .now) (sym (at-same .same .ensures) ∙ at-if1 .if1 .left)) (at-obey-plain .obey-plain .ensures)
+    (c .keep-ceiling .ensures)
 
 pub obey-spec : {M : Type 1} → statement M
 obey-spec =
@@ -94,17 +34,6 @@ obey-spec =
     (λ c κs. search needs)
     (λ c κs. search needs)
     returns
-    (λ c. search needs)
     (λ c κs. search needs)
     (λ c κs. search needs)
-    returns-2
-    (λ c. search needs)
-    (λ c κs. search needs)
-    (λ c κs. search needs)
-    returns-3
-    (λ c. search needs)
-    (λ c κs. search needs)
-    (λ c κs. search needs)
-    returns-4
-    (λ c κs. search needs)
-    returns-5)
+    returns-2)

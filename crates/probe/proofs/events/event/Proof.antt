@@ -10,14 +10,14 @@ returns c =
     let at-if1 = c .before .before .before .before in
     let start = at-if1 .before .before .before in
     let x = start .args in
-    rw (← is-tick (take (x .size) (x .held .now)) (x .tick) (x .time) (x .s .now) (at-if1 .if1 .taken)) (c .before .before .tick-on .ensures)
+    rw (← is-tick (x .ceiling) (take (x .size) (x .held .now)) (x .tick) (x .time) (x .s .now) (at-if1 .if1 .taken)) (c .before .before .tick-on .ensures)
 
 returns-2 : tie.Need-returns-2
 returns-2 c =
     let at-if1 = c .before .before .before .before in
     let start = at-if1 .before .before .before in
     let x = start .args in
-    rw (← is-message (take (x .size) (x .held .now)) (x .tick) (x .time) (x .s .now) (at-if1 .if1 .left)) (c .before .before .message-on .ensures)
+    rw (← is-message (x .ceiling) (take (x .size) (x .held .now)) (x .tick) (x .time) (x .s .now) (at-if1 .if1 .left)) (c .before .before .message-on .ensures)
 
 pub event-spec : {M : Type 1} → statement M
 event-spec =

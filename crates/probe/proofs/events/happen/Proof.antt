@@ -19,7 +19,8 @@ returns c =
     let x = start .args in
     let t = take (x .size) (x .held .now) in
     turns (x .out .now) (x .size) (x .held .now) t unknown
-    (no-event t (x .tick) (x .words .now) (sym (c .before .before .before .has-space .ensures) ∙ not-true _ (c .before .before .if1 .taken))) (c .put-unknown .ensures) refl
+    (no-event (x .ceiling) t (x .tick) (x .words .now) (sym (c .before .before .before .has-space .ensures) ∙ not-true _ (c .before .before .if1 .taken)))
+    (c .put-unknown .ensures) refl
     (start .pre .0)
 
 take-bytes-requires : tie.Need-take-bytes-requires
@@ -41,7 +42,7 @@ returns-2 c =
     let b = got-false (isBytes w) k (omega (arith, half w, rest-short (x .words .now), start .pre .1))
     (c .before .before .if2 .taken) in
     turns (x .out .now) (x .size) (x .held .now) t unknown
-    (no-bytes t (x .tick) (x .words .now)
+    (no-bytes (x .ceiling) t (x .tick) (x .words .now)
     (sym (at-has-space .has-space .ensures) ∙ not-false _ (at-if1 .if1 .left)) b)
     (c .put-unknown2 .ensures) refl (start .pre .0)
 
@@ -63,7 +64,7 @@ returns-3 c =
     (at-take-bytes .take-bytes .ensures) in
     let v = rw (at-first .first .ensures) at
     (sym (at-number .number .ensures) ∙ at-time .time .given .1) in
-    let e = an-event t (x .tick) (x .words .now)
+    let e = an-event (x .ceiling) t (x .tick) (x .words .now)
     (sym (at-has-space .has-space .ensures)
     ∙ not-false _ (at-if1 .if1 .left))
     (at-time .time .given .0 .0)
@@ -86,7 +87,7 @@ returns-4 c =
     let k = rw (at-rest .rest .ensures) at
     (at-take-bytes .take-bytes .ensures) in
     let v = rw (at-first .first .ensures) at (sym (at-number .number .ensures) ∙ c .before .before .enum-told .given .1) in
-    let e = no-time t (x .tick) (x .words .now)
+    let e = no-time (x .ceiling) t (x .tick) (x .words .now)
     (sym (at-has-space .has-space .ensures)
     ∙ not-false _ (at-if1 .if1 .left))
     (got-true (isBytes w) k (at-if2 .if2 .left)) v in

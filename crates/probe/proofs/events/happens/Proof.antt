@@ -14,7 +14,7 @@ returns c =
     let start = c .before .before .before .before .before .before in
     let x = start .args in
     let z : x .n - 0 ≡ x .n = omega arith in
-    happened (eventOn (take (x .size) (x .held .now)) (x .tick) (x .time) (take (x .n) (x .bytes .now))) (x .out .now) (x .size) (c .before .event .last .0)
+    happened (eventOn (x .ceiling) (take (x .size) (x .held .now)) (x .tick) (x .time) (take (x .n) (x .bytes .now))) (x .out .now) (x .size) (c .before .event .last .0)
     (rw z at (c .before .event .ensures)) (c .put-event .ensures) (start .pre .0)
 
 pub happens-spec : {M : Type 1} → statement M

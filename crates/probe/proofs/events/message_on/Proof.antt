@@ -15,7 +15,7 @@ returns c =
     let x = c .before .before .before .before .before .before .args in
     let p = c .before .before .message .last .0 in
     let l : length p ≡ x .size = omega arith in
-    came-back (λ (t : List ℕ). onMessage t (x .time) (x .s .now)) (x .held .now) (x .size) p l (c .before .before .message .ensures)
+    came-back (λ (t : List ℕ). onMessage (x .ceiling) t (x .time) (x .s .now)) (x .held .now) (x .size) p l (c .before .before .message .ensures)
 
 pub message-on-spec : {M : Type 1} → statement M
 message-on-spec =

@@ -10,7 +10,8 @@ returns : tie.Need-returns
 returns c =
     let at-same = c .before .before .before .before in
     let start = at-same .before .before .before .before in
-    let x = start .args in says (x .out .now) (asks-read (x .name .now) (x .words .now) (sym (at-same .same .ensures) ∙ c .before .before .before .if1 .taken)) (c .read .ensures)
+    let x = start .args in says (x .out .now) (asks-read (x .ceiling) (x .name .now) (x .words .now) (sym (at-same .same .ensures) ∙ c .before .before .before .if1 .taken))
+    (c .read .ensures)
 
 returns-2 : tie.Need-returns-2
 returns-2 c =
@@ -20,7 +21,8 @@ returns-2 c =
     let at-same = at-if1 .before in
     let start = at-same .before .before .before .before in
     let x = start .args in says (x .out .now)
-    (asks-reply (x .name .now) (x .words .now) (sym (at-same .same .ensures) ∙ at-if1 .if1 .left) (sym (at-same2 .same2 .ensures) ∙ at-if2 .if2 .taken)) (c .reply .ensures)
+    (asks-reply (x .ceiling) (x .name .now) (x .words .now) (sym (at-same .same .ensures) ∙ at-if1 .if1 .left) (sym (at-same2 .same2 .ensures) ∙ at-if2 .if2 .taken))
+    (c .reply .ensures)
 
 returns-3 : tie.Need-returns-3
 returns-3 c =
@@ -32,7 +34,7 @@ returns-3 c =
     let at-same = at-if1 .before in
     let start = at-same .before .before .before .before in
     let x = start .args in says (x .out .now)
-    (asks-add (x .name .now) (x .words .now) (sym (at-same .same .ensures) ∙ at-if1 .if1 .left) (sym (at-same2 .same2 .ensures) ∙ at-if2 .if2 .left)
+    (asks-add (x .ceiling) (x .name .now) (x .words .now) (sym (at-same .same .ensures) ∙ at-if1 .if1 .left) (sym (at-same2 .same2 .ensures) ∙ at-if2 .if2 .left)
     (sym (at-same3 .same3 .ensures) ∙ at-if3 .if3 .taken)) (c .edit .ensures)
 
 returns-4 : tie.Need-returns-4
@@ -47,7 +49,7 @@ returns-4 c =
     let at-same = at-if1 .before in
     let start = at-same .before .before .before .before in
     let x = start .args in says (x .out .now)
-    (asks-remove (x .name .now) (x .words .now) (sym (at-same .same .ensures) ∙ at-if1 .if1 .left) (sym (at-same2 .same2 .ensures) ∙ at-if2 .if2 .left)
+    (asks-remove (x .ceiling) (x .name .now) (x .words .now) (sym (at-same .same .ensures) ∙ at-if1 .if1 .left) (sym (at-same2 .same2 .ensures) ∙ at-if2 .if2 .left)
     (sym (at-same3 .same3 .ensures) ∙ at-if3 .if3 .left) (sym (at-same4 .same4 .ensures) ∙ at-if4 .if4 .taken)) (c .edit2 .ensures)
 
 returns-5 : tie.Need-returns-5
@@ -60,7 +62,7 @@ returns-5 c =
     let at-same = at-if1 .before in
     let start = at-same .before .before .before .before in
     let x = start .args in says (x .out .now)
-    (asks-else (x .name .now) (x .words .now) (sym (at-same .same .ensures) ∙ at-if1 .if1 .left) (sym (at-same2 .same2 .ensures) ∙ at-if2 .if2 .left)
+    (asks-else (x .ceiling) (x .name .now) (x .words .now) (sym (at-same .same .ensures) ∙ at-if1 .if1 .left) (sym (at-same2 .same2 .ensures) ∙ at-if2 .if2 .left)
     (sym (at-same3 .same3 .ensures) ∙ at-if3 .if3 .left) (sym (c .before .before .before .same4 .ensures) ∙ c .before .before .if4 .left)) (c .put-unknown .ensures)
 
 pub ask-spec : {M : Type 1} → statement M

@@ -10,7 +10,7 @@ returns : tie.Need-returns
 returns c =
     let x = c .before .before .before .before .before .args in
     let z : x .n - 0 ≡ x .n = omega arith in
-    rw z at (rw (c .before .read .ensures) at (c .put-reading .ensures))
+    rw z at (rw (c .before .read-and-count .ensures) at (c .put-report .ensures))
 
 pub judge-spec : {M : Type 1} → statement M
 judge-spec =

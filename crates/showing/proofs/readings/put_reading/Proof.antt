@@ -16,7 +16,7 @@ put-number-requires-2 c κs = omega
 returns : tie.Need-returns
 unfolding readingText
 returns c = rw (c .before .before .before .enum-told .given .1)
-    (let w = more (ascii "ok\n") (start (c .before .before .before .before .before .args .out .now)) (c .put .ensures) in (w .place, w .is))
+    (let w = more (ascii "ok ") (start (c .before .before .before .before .before .args .out .now)) (c .put .ensures) in ((w .place, w .is), omega (arith, w .place)))
 
 returns-2 : tie.Need-returns-2
 returns-2 c =
@@ -24,8 +24,17 @@ returns-2 c =
     let at-verdict = at-put2 .before .before .before .before in
     let start = at-verdict .before .before in
     let v = at-verdict .verdict .given in
-    rw (v .1) (reading-refused (start .args .out .now) (v .0 .0) (v .0 .1 .0) (at-put2 .put2 .ensures) (c .before .before .before .put-number .ensures)
-    (c .put-number2 .ensures))
+    rw (v .1) (
+      reading-refused (start .args .out .now) (v .0 .0) (v .0 .1 .0) (at-put2 .put2 .ensures) (c .before .before .before .put-number .ensures) (c .put-number2 .ensures),
+      omega (
+        arith,
+        at-put2 .put2 .ensures .0,
+        c .before .before .before .put-number .ensures .0,
+        c .put-number2 .ensures .0,
+        number-length (v .0 .0) (ascii " ") (omega arith),
+        number-length (v .0 .1 .0) (ascii " ") (omega arith),
+      ),
+    )
 
 pub put-reading-spec : {M : Type 1} → statement M
 put-reading-spec =

@@ -11,7 +11,7 @@ use native.Mathlib.Omega.{arith}
 returns : tie.Need-returns
 returns c =
     let x = c .before .before .before .before .before .before .args in
-    says (x .out .now) (read-unknown (x .word .now)
+    says (x .out .now) (read-unknown (x .ceiling) (x .word .now)
     (got-false (isBytes (x .word .now)) (c .before .before .before .take-bytes .ensures) (omega (arith, half (x .word .now))) (c .before .before .if1 .taken)))
     (c .put-unknown .ensures)
 
@@ -21,7 +21,7 @@ returns-2 c =
     let start = at-take-bytes .before .before .before in
     let x = start .args in
     let t = at-take-bytes .take-bytes .ensures in
-    says (x .out .now) (read-good (x .word .now) (got-true (isBytes (x .word .now)) t (c .before .before .before .if1 .left)))
+    says (x .out .now) (read-good (x .ceiling) (x .word .now) (got-true (isBytes (x .word .now)) t (c .before .before .before .if1 .left)))
     (rw (got-alone (isBytes (x .word .now)) t (c .before .before .before .if1 .left)) at (c .judge .ensures))
 
 pub read-spec : {M : Type 1} → statement M

@@ -6,6 +6,7 @@ use Rattle.writing.proofs.WayLaws.{refused-as, wrote-as, no-adding, on-
 use Rattle.writing.proofs.edits.add_to.Statement.{statement}
 use Rattle.writing.proofs.edits.add_to.Tie as tie
 use Rattle.writing.specs.declared.answers.Refusal.the-variants.{Kind, Loop, Full}
+use Rattle.message.specs.Reading.{ample}
 use borrow.Author.Needs.{needs}
 use native.Mathlib.Omega.{arith}
 
@@ -15,7 +16,7 @@ returns c = let x = c .before .before .before .before .before .before in
 
 has-ours-requires : tie.Need-has-ours-requires
 has-ours-requires c κs = let x = c .before .before .before .before .before .before .before in
-    via-inside (x .args .s .now) (x .args .m) (x .pre .0) (omega (arith, c .before .if1 .left))
+    via-inside ample (x .args .s .now) (x .args .m) (x .pre .0) (omega (arith, c .before .if1 .left))
 
 returns-2 : tie.Need-returns-2
 returns-2 c = let x = c .before .before .before .before .before .before .before .before .before in
@@ -33,7 +34,7 @@ returns-3 c =
 
 put-added-requires : tie.Need-put-added-requires
 put-added-requires c κs = let x = c .before .before .before .before .before .before .before .before .before .before .before in
-    (read-short (x .args .s .now) (x .args .m) (x .pre .0), x .pre .1)
+    (read-short ample (x .args .s .now) (x .args .m) (x .pre .0), x .pre .1)
 
 returns-4 : tie.Need-returns-4
 returns-4 c =

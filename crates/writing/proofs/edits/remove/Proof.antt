@@ -1,5 +1,5 @@
 -- `writing::edits::remove` meets its contract: our own path, then what is read, decide. Assumes nothing.
-use Rattle.message.specs.Reading.{reading}
+use Rattle.message.specs.Reading.{ample, reading}
 use Rattle.writing.proofs.WayLaws.{took-refused, took-as, wrong-path, remove-none, remove-of, host-of}
 use Rattle.writing.proofs.edits.remove.Statement.{statement}
 use Rattle.writing.proofs.edits.remove.Tie as tie
@@ -12,7 +12,7 @@ use mathlib.Core.Path.{sym, _∙_}
 returns : tie.Need-returns
 returns c =
     let x = c .before .before .before .before .before .before .before .args in
-    took-refused (x .out .now) (hostIn (reading (x .s .now))) Path
+    took-refused (x .out .now) (hostIn (reading ample (x .s .now))) Path
     (wrong-path (x .s .now) (x .host .now) (x .destination .now) (x .organization .now) (sym (c .before .is-path .ensures) ∙ not-true _ (c .if1 .taken)))
 
 remove-from-requires : tie.Need-remove-from-requires
@@ -22,7 +22,7 @@ returns-2 : tie.Need-returns-2
 returns-2 c =
     let at-is-path = c .before .before .before .before in
     let start = at-is-path .before .before .before .before .before .before in
-    let x = start .args in took-refused (x .out .now) (hostIn (reading (x .s .now))) Kind
+    let x = start .args in took-refused (x .out .now) (hostIn (reading ample (x .s .now))) Kind
     (remove-none (x .s .now) (x .host .now) (x .destination .now) (x .organization .now)
     (sym (at-is-path .is-path .ensures) ∙ not-false _ (c .before .before .before .if1 .left)) _ _ (sym (c .before .before .read .ensures) ∙ c .enum-told .given .1))
 

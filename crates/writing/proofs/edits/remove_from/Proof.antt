@@ -5,6 +5,7 @@ use Rattle.writing.proofs.WayLaws.{took-refused, no-removing, too-few, 
 use Rattle.writing.proofs.edits.remove_from.Statement.{statement}
 use Rattle.writing.proofs.edits.remove_from.Tie as tie
 use Rattle.writing.specs.declared.answers.Refusal.the-variants.{Kind, Few, Foreign}
+use Rattle.message.specs.Reading.{ample}
 use borrow.Author.Needs.{needs}
 use borrow.Author.Tests.{not-true, not-false}
 use mathlib.Core.Path.{sym, _∙_}
@@ -32,7 +33,7 @@ returns-3 c =
 
 put-removed-requires : tie.Need-put-removed-requires
 put-removed-requires c κs = let x = c .before .before .before .before .before .before .before .before .before .before .before .before in
-    read-short (x .args .s .now) (x .args .m) (x .pre)
+    read-short ample (x .args .s .now) (x .args .m) (x .pre)
 
 returns-4 : tie.Need-returns-4
 returns-4 c =

@@ -5,6 +5,7 @@ use Rattle.writing.proofs.WayLaws.{refused-as, wrote-as, no-reply, bad-
 use Rattle.writing.proofs.replies.reply_to.Statement.{statement}
 use Rattle.writing.proofs.replies.reply_to.Tie as tie
 use Rattle.writing.specs.declared.answers.Refusal.the-variants.{Kind, Code, Date}
+use Rattle.message.specs.Reading.{ample}
 use borrow.Author.Needs.{needs}
 use borrow.Author.Tests.{not-true, not-false}
 use mathlib.Core.Path.{sym, _∙_}
@@ -41,12 +42,12 @@ put-reply-requires c κs =
     let s = x .s .now in (
       omega (arith, date-long (x .date .now) (sym (at-is-date .is-date .ensures) ∙ not-false _ (at-if3 .if3 .left))),
       (
-        value-short s (x .m) _ e (at-value-part .value-part .ensures),
+        value-short ample s (x .m) _ e (at-value-part .value-part .ensures),
         (
-          value-short s (x .m) _ e (c .before .before .before .value-part2 .ensures),
+          value-short ample s (x .m) _ e (c .before .before .before .value-part2 .ensures),
           (
-            value-short s (x .m) _ e (c .before .before .value-part3 .ensures),
-            (value-short s (x .m) _ e (c .before .value-part4 .ensures), value-short s (x .m) _ e (c .value-part5 .ensures)),
+            value-short ample s (x .m) _ e (c .before .before .value-part3 .ensures),
+            (value-short ample s (x .m) _ e (c .before .value-part4 .ensures), value-short ample s (x .m) _ e (c .value-part5 .ensures)),
           ),
         ),
       ),
