@@ -39,7 +39,7 @@ module _ (T : Rule) (s : List ℕ) (p q : ℕ) (h : p < q) (more : List ℕ) whe
       ∙ append-assoc (take (p + 1) s) (drop (p + 1) (take q s)) more in
       f (drop (p + 1) (take q s) ++ more) (subst T e x)
 
-order : (p q : ℕ) → (p < q → ⊥) → (q < p → ⊥) → p ≡ q
+pub order : (p q : ℕ) → (p < q → ⊥) → (q < p → ⊥) → p ≡ q
 order p q f g = omega arith
 
 module _ (s : List ℕ) (p q : ℕ) where

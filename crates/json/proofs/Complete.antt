@@ -77,9 +77,19 @@ value-opens b h = simp h
 starts : {m′ : Mode} {k k′ : Stack} {b : ℕ} → isWs b ≡ false → step value k b ≡ live m′ k′ → Does value k b m′ k′ true
 starts {b = b} e f = record { does = f; marks = value-opens b e }
 
-pub begin-on : (b : ℕ) (bs : List ℕ) (m : Mode) (k : Stack) (i : ℕ) → begins (b ∷ bs) m k i ≡ beginsAt (beginsValue m b) (step m k b) (begins bs) i
+-- the places from a byte on, by whether it begins a value and what it does; and those of no bytes
+pub begin-on : (b : ℕ) (bs : List ℕ) (m : Mode) (k : Stack) (i : ℕ) (t : Bool) (n : Next) → beginsValue m b ≡ t → step m k b ≡ n
+    → begins (b ∷ bs) m k i ≡ beginsAt t n (begins bs) i
 unfolding begins
-begin-on b bs m k i = refl
+begin-on b bs m k i t n e f = ap (λ (z : Bool). beginsAt z (step m k b) (begins bs) i) e ∙ ap (λ (z : Next). beginsAt t z (begins bs) i) f
+
+pub begin-none : (m : Mode) (k : Stack) (i : ℕ) → begins [] m k i ≡ []
+unfolding begins
+begin-none m k i = refl
+
+-- bytes that do the same and begin the same
+same-on : (b : ℕ) (r : List ℕ) (m m′ : Mode) (k : Stack) (i : ℕ) → beginsValue m b ≡ beginsValue m′ b → step m k b ≡ step m′ k b → begins (b ∷ r) m k i ≡ begins (b ∷ r) m′ k i
+same-on b r m m′ k i e f = begin-on b r m k i _ _ e f ∙ sym (begin-on b r m′ k i _ _ refl refl)
 
 module _ {s : List ℕ} {m : Mode} {k : Stack} {c : ℕ → List ℕ} where
   conv : (c′ : ℕ → List ℕ) → Acc s m k c → ((i : ℕ) → c i ≡ c′ i) → Acc s m k c′
@@ -100,8 +110,7 @@ module _ {m m′ : Mode} {k k′ : Stack} {t : Bool} where
   acc-cons b r c f a =
       record {
         ends = λ i. subst Ends (sym (on b r m k i (live m′ k′) (f .does))) (a .ends (i + 1));
-        is = λ i. begin-on b r m k i ∙ ap (λ (z : Bool). beginsAt z (step m k b) (begins r) i) (f .marks) ∙ ap (λ (z : Next). beginsAt t z (begins r) i) (f .does)
-            ∙ ap (λ (l : List ℕ). only t i ++ l) (a .is (i + 1));
+        is = λ i. begin-on b r m k i t (live m′ k′) (f .marks) (f .does) ∙ ap (λ (l : List ℕ). only t i ++ l) (a .is (i + 1));
       }
 
   byte-run : (b : ℕ) → Does m k b m′ k′ t → (s : List ℕ) → Byte b s → (r : List ℕ) (c : ℕ → List ℕ) → Acc r m′ k′ c → Acc (s ++ r) m k (λ i. only t i ++ c (i + length s))
@@ -347,10 +356,6 @@ ends-dead (text d) h b w h₁ h₂ h₃ = simp w
 ends-dead (arr k) h b w h₁ h₂ h₃ = simp (w, ne-eqb b 44 h₁, ne-eqb b 93 h₂)
 ends-dead (obj k) h b w h₁ h₂ h₃ = simp (w, ne-eqb b 44 h₁, ne-eqb b 125 h₃)
 
-not-ws : (b : ℕ) → 32 < b → isWs b ≡ false
-unfolding isWs
-not-ws b h = simp (ne-eqb b 32 (omega arith), ne-eqb b 9 (omega arith), ne-eqb b 10 (omega arith), ne-eqb b 13 (omega arith))
-
 -- b can be no part of a number that is over
 record Plain (b : ℕ) : Type 0 where
   no-digit : isDigit b ≡ false
@@ -360,7 +365,7 @@ record Plain (b : ℕ) : Type 0 where
 
 module _ (k : Stack) (h : Whole k) (b : ℕ) where
   unlike : 32 < b → (b ≡ 44 → ⊥) → (b ≡ 93 → ⊥) → (b ≡ 125 → ⊥) → ends k b ≡ dead
-  unlike w = ends-dead k h b (not-ws b w)
+  unlike w = ends-dead k h b (laws.not-ws b w)
 
   plain-or : Plain b ⊎ (ends k b ≡ dead)
   plain-or =
@@ -382,9 +387,7 @@ module _ (m : Mode) (o : over m ≡ true) (z : (b : ℕ) → beginsValue m b ≡
   over-ends b r i (inr d) a = absurd (subst Ends (on b r after k i _ (step-after k b ∙ d)) a)
 
   over-same : (b : ℕ) (r : List ℕ) (i : ℕ) → Plain b ⊎ (ends k b ≡ dead) → Ends (walk (b ∷ r) after k i) → begins (b ∷ r) m k i ≡ begins (b ∷ r) after k i
-  over-same b r i (inl p) a =
-      begin-on b r m k i ∙ ap (λ (t : Bool). beginsAt t (step m k b) (begins r) i) (z b)
-      ∙ ap (λ (n : Next). beginsAt false n (begins r) i) (f k b p ∙ sym (step-after k b)) ∙ sym (begin-on b r after k i)
+  over-same b r i (inl p) a = same-on b r m after k i (z b) (f k b p ∙ sym (step-after k b))
   over-same b r i (inr d) a = absurd (subst Ends (on b r after k i _ (step-after k b ∙ d)) a)
 
   over-run : (r : List ℕ) (c : ℕ → List ℕ) → Acc r after k c → Acc r m k c
@@ -472,25 +475,25 @@ module _ (k : Stack) (h : Whole k) where
 
   at-value : Goes (Int ⨾ Opt Frac ⨾ Opt Exp) value k after k true
   at-value =
-      c-either (c-byte (starts (not-ws 48 (omega arith)) (laws.value-zero k 48 refl))) nought-tail
-      (c-range (λ b l u. starts (not-ws b (omega arith))
-      (laws.value-rest k b (not-ws b (omega arith)) (omega arith) (omega arith) (omega arith) (omega arith) (omega arith) (omega arith) (omega arith)
+      c-either (c-byte (starts (laws.not-ws 48 (omega arith)) (laws.value-zero k 48 refl))) nought-tail
+      (c-range (λ b l u. starts (laws.not-ws b (omega arith))
+      (laws.value-rest k b (laws.not-ws b (omega arith)) (omega arith) (omega arith) (omega arith) (omega arith) (omega arith) (omega arith) (omega arith)
       ∙ laws.minus-digit k b (omega arith) (digit-is b (omega arith) u))) then int-digits) int-tail
 
   number : Goes Number value k after k true
-  number = c-may (c-byte (starts (not-ws 45 (omega arith)) (laws.value-minus k 45 refl))) after-minus at-value
+  number = c-may (c-byte (starts (laws.not-ws 45 (omega arith)) (laws.value-minus k 45 refl))) after-minus at-value
 
   string : Goes Text value k after k true
-  string = c-byte (starts (not-ws 34 (omega arith)) (laws.value-quote k 34 refl)) then quoted plain k
+  string = c-byte (starts (laws.not-ws 34 (omega arith)) (laws.value-quote k 34 refl)) then quoted plain k
 
   lit-false : Goes False value k after k true
-  lit-false = literal (starts (not-ws 102 (omega arith)) (laws.value-f k 102 refl))
+  lit-false = literal (starts (laws.not-ws 102 (omega arith)) (laws.value-f k 102 refl))
 
   lit-null : Goes Null value k after k true
-  lit-null = literal (starts (not-ws 110 (omega arith)) (laws.value-n k 110 refl))
+  lit-null = literal (starts (laws.not-ws 110 (omega arith)) (laws.value-n k 110 refl))
 
   lit-true : Goes True value k after k true
-  lit-true = literal (starts (not-ws 116 (omega arith)) (laws.value-t k 116 refl))
+  lit-true = literal (starts (laws.not-ws 116 (omega arith)) (laws.value-t k 116 refl))
 
 -- Where ']' may stand, so may what a value begins with.
 close-not : beginsValue first 93 ≡ false
@@ -507,17 +510,8 @@ first-go b r k i (inl w) u ih a = subst Ends (sym (on b r first (arr k) i _ (law
 first-go b r k i (inr w) (inl e) ih a = absurd (subst Ends (on b r value (arr k) i dead (close-dead (arr k) b (eqb-true b 93 e))) a)
 first-go b r k i (inr w) (inr e) ih a = subst Ends (on b r value (arr k) i _ (sym (laws.first-value k b w (eqb-false b 93 e))) ∙ sym (on b r first (arr k) i _ refl)) a
 
-none-yet : (m m′ : Mode) (k k′ : Stack) (i j : ℕ) → begins [] m k i ≡ begins [] m′ k′ j
-unfolding begins
-none-yet m m′ k k′ i j = refl
-
--- bytes that do the same and begin the same, and the places behind them
-same-on : (b : ℕ) (r : List ℕ) (m m′ : Mode) (k : Stack) (i : ℕ) → beginsValue m b ≡ beginsValue m′ b → step m k b ≡ step m′ k b → begins (b ∷ r) m k i ≡ begins (b ∷ r) m′ k i
-same-on b r m m′ k i e f =
-    begin-on b r m k i ∙ ap (λ (t : Bool). beginsAt t (step m k b) (begins r) i) e ∙ ap (λ (n : Next). beginsAt (beginsValue m′ b) n (begins r) i) f ∙ sym (begin-on b r m′ k i)
-
 pass-on : (b : ℕ) (r : List ℕ) (m m₁ : Mode) (k k₁ : Stack) (i : ℕ) → Moves m k b m₁ k₁ → begins (b ∷ r) m k i ≡ begins r m₁ k₁ (i + 1)
-pass-on b r m m₁ k k₁ i f = begin-on b r m k i ∙ ap (λ (t : Bool). beginsAt t (step m k b) (begins r) i) (f .marks) ∙ ap (λ (n : Next). beginsAt false n (begins r) i) (f .does)
+pass-on b r m m₁ k k₁ i f = begin-on b r m k i false (live m₁ k₁) (f .marks) (f .does)
 
 first-ink : (b : ℕ) (r : List ℕ) (k : Stack) (i : ℕ) → isWs b ≡ false → (eqb b 93 ≡ true) ⊎ (eqb b 93 ≡ false) → Ends (walk (b ∷ r) value (arr k) i)
     → begins (b ∷ r) first (arr k) i ≡ begins (b ∷ r) value (arr k) i
@@ -533,7 +527,7 @@ first-as [] k i a = a
 first-as (b ∷ r) k i a = first-go b r k i (either (isWs b)) (either (eqb b 93)) (first-as r k (i + 1)) a
 
 first-is : (r : List ℕ) (k : Stack) (i : ℕ) → Ends (walk r value (arr k) i) → begins r first (arr k) i ≡ begins r value (arr k) i
-first-is [] k i a = none-yet first value (arr k) (arr k) i i
+first-is [] k i a = begin-none first (arr k) i ∙ sym (begin-none value (arr k) i)
 first-is (b ∷ r) k i a =
     ⊎-elim (λ w. pass-on b r first first (arr k) (arr k) i (by (first-not b w) (laws.ws-first (arr k) b w)) ∙ first-is r k (i + 1) (next-value b r k i a w)
     ∙ sym (pass-on b r value value (arr k) (arr k) i (by (ws-not b w) (laws.ws-value (arr k) b w))))
@@ -567,7 +561,7 @@ name-ink b r k i w (inl e) a = absurd (subst Ends (on b r name (obj k) i dead (b
 name-ink b r k i w (inr e) a = same-on b r name₁ name (obj k) i refl (laws.name₁-name k b w (eqb-false b 125 e))
 
 name-is : (r : List ℕ) (k : Stack) (i : ℕ) → Ends (walk r name (obj k) i) → begins r name₁ (obj k) i ≡ begins r name (obj k) i
-name-is [] k i a = none-yet name₁ name (obj k) (obj k) i i
+name-is [] k i a = begin-none name₁ (obj k) i ∙ sym (begin-none name (obj k) i)
 name-is (b ∷ r) k i a =
     ⊎-elim (λ w. pass-on b r name₁ name₁ (obj k) (obj k) i (by refl (laws.ws-name₁ (obj k) b w)) ∙ name-is r k (i + 1) (next-name b r k i a w)
     ∙ sym (pass-on b r name name (obj k) (obj k) i (by refl (laws.ws-name (obj k) b w))))
@@ -582,7 +576,7 @@ bracket b = along Ws (Byte b ⨾ Ws) (nothing _) (here _)
 
 module _ (k : Stack) (h : Whole k) (X : Rule) (f : Finds X) where
   begin-array : 0 < levels k → Shows BeginArray value k first (arr k) (bracket 0x5B)
-  begin-array l = quiet (ws-value k) also loud (c-byte (starts (not-ws 91 (omega arith)) (laws.value-arr k 91 refl l)) then ws-first (arr k))
+  begin-array l = quiet (ws-value k) also loud (c-byte (starts (laws.not-ws 91 (omega arith)) (laws.value-arr k 91 refl l)) then ws-first (arr k))
 
   first-end : Leads EndArray first (arr k) after k
   first-end = ws-first (arr k) then c-byte (by close-not (laws.first-close k 93 refl)) then ws-after k h
@@ -597,7 +591,7 @@ module _ (k : Stack) (h : Whole k) (X : Rule) (f : Finds X) where
   array l x = begin-array l also c-any (as-if (s-first k) x also all (quiet comma-array also x)) (quiet end-array) (quiet first-end)
 
   begin-object : 0 < levels k → Shows BeginObject value k name₁ (obj k) (bracket 0x7B)
-  begin-object l = quiet (ws-value k) also loud (c-byte (starts (not-ws 123 (omega arith)) (laws.value-obj k 123 refl l)) then ws-name₁ (obj k))
+  begin-object l = quiet (ws-value k) also loud (c-byte (starts (laws.not-ws 123 (omega arith)) (laws.value-obj k 123 refl l)) then ws-name₁ (obj k))
 
   first-brace : Leads EndObject name₁ (obj k) after k
   first-brace = ws-name₁ (obj k) then c-byte (by refl (laws.name₁-close k 125 refl)) then ws-after k h

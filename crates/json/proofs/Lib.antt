@@ -11,6 +11,7 @@ pub mod Agreement
 pub mod Depth
 pub mod AnswerLaws
 pub mod Bound
+pub mod SpaceLaws
 pub mod TourLaws
 pub mod VerdictLaws
 pub mod ReadLaws

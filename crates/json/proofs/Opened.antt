@@ -8,6 +8,7 @@ use borrow.Author.Tests.{ltb-true}
 use lib.ListN.{length}
 use lib.Dec.{eqb, ltb}
 use Rattle.octets.specs.Class.{isDigit}
+use Rattle.octets.proofs.TestLaws.{picked}
 use Rattle.json.specs.inner.Machine.{Stack, alone, text, arr, obj, Mode, value, first, name, name₁, colon, after, str, esc, hex, word, minus, nought, int}
 use Rattle.json.specs.inner.Machine.{dot, frac, exp, sign, power, Next, live, dead, deep, isHexDigit, isSign, isEsc, levels, shut, opens, begin, ends}
 use Rattle.json.specs.inner.Machine.{expo, point, step, over, ended, stops, takes, walk}
@@ -32,8 +33,7 @@ pub data Keeps : Next → Type 0 where
   sinks : Keeps deep
 
 kept : {x y : Next} (t : Bool) → Keeps x → Keeps y → Keeps (cond t x y)
-kept true p q = p
-kept false p q = q
+kept = picked Keeps
 
 kept-if : {x y : Next} (t : Bool) → (t ≡ true → Keeps x) → Keeps y → Keeps (cond t x y)
 kept-if true p q = p refl

@@ -9,6 +9,7 @@ use lib.ListN.{length}
 use lib.Dec.{eqb, ltb}
 use borrow.Author.Tests.{lt-ltb, ltb-true}
 use Rattle.octets.specs.Class.{isDigit}
+use Rattle.octets.proofs.TestLaws.{picked-alike}
 use Rattle.json.specs.inner.Machine.{Stack, alone, text, arr, obj, levels, shut, done, Role, label, plain, Mode, value, first, name, name₁, colon, after}
 use Rattle.json.specs.inner.Machine.{str, esc, hex, word, minus, nought, int, dot, frac, exp, sign, power, Next, live, dead, deep, isHexDigit, isEsc}
 use Rattle.json.specs.inner.Machine.{isSign, closed, due, hexes, opens, begin, ends, step, over, ended, stops, takes, walk, expo, point}
@@ -130,8 +131,7 @@ pub data Lifts (d : ℕ) (k : Stack) (m₀ : Mode) (s₀ : Stack) (b₀ : ℕ) :
 
 lift-pick : {d : ℕ} {k : Stack} {m₀ : Mode} {s₀ : Stack} {b₀ : ℕ} (t : Bool) {a a′ b b′ : Next} → Lifts d k m₀ s₀ b₀ a a′ → Lifts d k m₀ s₀ b₀ b b′
     → Lifts d k m₀ s₀ b₀ (cond t a b) (cond t a′ b′)
-lift-pick true x y = x
-lift-pick false x y = y
+lift-pick {d} {k} {m₀} {s₀} {b₀} t = picked-alike (Lifts d k m₀ s₀ b₀) t
 
 lift-room : {d : ℕ} {k : Stack} {m₀ : Mode} {s₀ : Stack} {b₀ : ℕ} (t t′ : Bool) {a a′ : Next} → (t ≡ true → t′ ≡ true) → (levels k ≡ d → t′ ≡ t) → Lifts d k m₀ s₀ b₀ a a′
     → Lifts d k m₀ s₀ b₀ (cond t a deep) (cond t′ a′ deep)

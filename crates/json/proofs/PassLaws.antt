@@ -1,22 +1,21 @@
--- For readers that go from place to place: white space before the machine's next byte, what a byte behind a value says of its end; and what a string or a
--- member that passes, or does not, says of the machine's answer, whatever stands around. Assumes nothing.
+-- For readers that go from place to place: what a byte behind a value says of its end; and what a string or a member that passes, or does not, says of
+-- the machine's answer, whatever stands around. Assumes nothing.
 use Rattle.octets.proofs.TextLaws.{there}
-use Prim.Native.Nat.{ℕ, suc, _+_, _-_, _≤_, _<_}
+use Prim.Native.Nat.{ℕ, suc, _+_, _≤_, _<_}
 use Rattle.json.proofs.AroundLaws.{tour-around, one-ends, lone-ends}
-use Rattle.json.proofs.Complete.{begin-on}
 use Rattle.json.proofs.Toured.{the-type as toured-type}
 use Rattle.json.proofs.EndLaws.{ws-mark, ends-at, ends-open}
 use Rattle.json.proofs.MoveLaws.{moves, short-arr, short-obj, onward-alone}
 use Rattle.json.proofs.PlaceLaws.{past-low, past-inner, past-stop, next-is}
-use Rattle.json.proofs.StepLaws.{ws-value, ws-colon, ws-obj, name-quote, colon-hit, colon-miss, value-quote, obj-miss}
+use Rattle.json.proofs.SpaceLaws.{past-tour, past-ink}
+use Rattle.json.proofs.StepLaws.{not-ws, ws-value, ws-colon, ws-obj, name-quote, colon-hit, colon-miss, value-quote, obj-miss}
 use Rattle.json.proofs.TourLaws.{tour-moves, tour-short, string-around, alone-stops, opens-some}
 use Rattle.json.proofs.Walked.{the-type}
-use Rattle.json.specs.inner.Begun.{beginsValue, beginsAt, begins, begun}
-use Rattle.json.specs.inner.Machine.{Stack, alone, arr, obj, Role, label, plain, Mode, value, name, colon, after, str, live, dead, Next, closed, levels}
-use Rattle.json.specs.inner.Machine.{step, takes, walk, from, one, place, Leaf, Pass}
+use Rattle.json.specs.inner.Machine.{Stack, alone, arr, obj, Role, label, plain, Mode, value, name, colon, after, str, live, dead, closed, levels}
+use Rattle.json.specs.inner.Machine.{step, from, one, place, Leaf}
 use Rattle.json.specs.inner.Passing.{isEnd, reached, passed, noVisit, isNext, followed, labelled, passedMember}
-use Rattle.json.specs.inner.Tour.{lift, cap, tour, resume, lone, Tally}
-use Rattle.json.specs.Places.{spaces, past, isMark, isShut, next, behind, valueOf, follows, isWs}
+use Rattle.json.specs.inner.Tour.{lift, tour, resume, lone, Tally}
+use Rattle.json.specs.Places.{past, isMark, isShut, next, behind, valueOf, follows, isWs}
 use Rattle.json.specs.inner.Landing.{Lands, Row}
 use Rattle.json.specs.declared.Toured.the-variants as counts
 use Rattle.json.specs.declared.Toured.{Toured}
@@ -26,86 +25,14 @@ use Rattle.json.specs.declared.passing.Visit.{Visit}
 use borrow.Author.Tests.{eqb-true, eqb-false, lt-ltb, eq-eqb, ne-eqb}
 use denote.Enum.Declared.{tagOf}
 use lib.Dec.{eqb}
-use lib.ListN.{length, drop, getD, length-drop}
-use lib.Seq.{drop-drop, getD-drop}
-use mathlib.Core.Bool.{Bool, true, false, _||_, cond, not}
+use lib.ListN.{length, getD}
+use mathlib.Core.Bool.{Bool, true, false, _||_, not}
 use mathlib.Core.List.{List, [], _∷_}
 use mathlib.Core.Logic.{_⊎_, inl, inr}
 use mathlib.Core.Path.{_≡_, refl, sym, ap, subst, _∙_}
 use native.Mathlib.Decide.{decLt, ℕ-discrete}
 use native.Mathlib.Omega.{arith}
 use types.Run.{OneOf}
-
--- a mode in which white space is passed over
-abbrev pub Passes : Mode → Stack → Type 0
-Passes m k = (b : ℕ) → isWs b ≡ true → step m k b ≡ live m k
-
--- and in which it begins no value
-abbrev pub Quiet : Mode → Type 0
-Quiet m = (b : ℕ) → isWs b ≡ true → beginsValue m b ≡ false
-
--- what is the same behind a byte of white space is the same past all of it
-module _ {A : Type 0} (f : List ℕ → ℕ → A) (same : (b : ℕ) (l : List ℕ) (i : ℕ) → isWs b ≡ true → f (b ∷ l) i ≡ f l (i + 1)) where
-  over-by : (b : ℕ) (l : List ℕ) (i : ℕ) (t : Bool) → isWs b ≡ t → f l (i + 1) ≡ f (drop (spaces l) l) (i + 1 + spaces l)
-      → f (b ∷ l) i ≡ f (drop (cond t (suc (spaces l)) 0) (b ∷ l)) (i + cond t (suc (spaces l)) 0)
-  over-by b l i true e ih = same b l i e ∙ ih ∙ ap (f (drop (spaces l) l)) (let z : i + 1 + spaces l ≡ i + suc (spaces l) = omega arith in z)
-  over-by b l i false e ih = ap (f (b ∷ l)) (let z : i ≡ i + 0 = omega arith in z)
-
-  over-spaces : (l : List ℕ) (i : ℕ) → f l i ≡ f (drop (spaces l) l) (i + spaces l)
-  unfolding spaces
-  over-spaces [] i = ap (f []) (let z : i ≡ i + 0 = omega arith in z)
-  over-spaces (b ∷ l) i = over-by b l i (isWs b) refl (over-spaces l (i + 1))
-
-  over-past : (s : List ℕ) (a : ℕ) → f (drop a s) a ≡ f (drop (past s a) s) (past s a)
-  unfolding past
-  over-past s a = over-spaces (drop a s) a ∙ ap (λ (l : List ℕ). f l (a + spaces (drop a s))) (drop-drop (spaces (drop a s)) a s)
-
-module _ (m : Mode) (k : Stack) (f : Passes m k) where
-  walk-one : (b : ℕ) (l : List ℕ) (i : ℕ) → isWs b ≡ true → walk (b ∷ l) m k i ≡ walk l m k (i + 1)
-  unfolding walk
-  walk-one b l i e = ap (λ (n : Next). takes n (walk l) i) (f b e)
-
-  -- the answer past the white space at a
-  past-same : (s : List ℕ) (a : ℕ) → from s a m k ≡ from s (past s a) m k
-  unfolding from
-  past-same s a = over-past (λ l i. walk l m k i) walk-one s a
-
-  -- and with room for n
-  module _ (q : Quiet m) where
-    begin-one : (b : ℕ) (l : List ℕ) (i : ℕ) → isWs b ≡ true → begins (b ∷ l) m k i ≡ begins l m k (i + 1)
-    begin-one b l i e =
-        begin-on b l m k i ∙ ap (λ (t : Bool). beginsAt t (step m k b) (begins l) i) (q b e) ∙ ap (λ (n : Next). beginsAt false n (begins l) i) (f b e)
-
-    pub past-tour : (s : List ℕ) (a n : ℕ) → tour s a m k n ≡ tour s (past s a) m k n
-    unfolding tour from begun
-    past-tour s a n =
-        over-past (λ l i. cap n (walk l m k i) (begins l m k i))
-        (λ b l i e. ap (λ (r : Walked). cap n r (begins (b ∷ l) m k i)) (walk-one b l i e) ∙ ap (cap n (walk l m k (i + 1))) (begin-one b l i e)) s a
-
--- what stands past white space is none
-stop-by : (b : ℕ) (l : List ℕ) (t : Bool) → isWs b ≡ t → (spaces l < length l → isWs (getD l (spaces l) 0) ≡ false) → cond t (suc (spaces l)) 0 < suc (length l)
-    → isWs (getD (b ∷ l) (cond t (suc (spaces l)) 0) 0) ≡ false
-stop-by b l true e ih h = ih (omega arith)
-stop-by b l false e ih h = e
-
-spaces-stop : (l : List ℕ) → spaces l < length l → isWs (getD l (spaces l) 0) ≡ false
-unfolding spaces
-spaces-stop [] h = absurd (omega arith)
-spaces-stop (b ∷ l) h = stop-by b l (isWs b) refl (spaces-stop l) h
-
-pub past-ink : (s : List ℕ) (a : ℕ) → past s a < length s → isWs (getD s (past s a) 0) ≡ false
-unfolding past
-past-ink s a h = ap isWs (sym (getD-drop a s (spaces (drop a s)) 0)) ∙ spaces-stop (drop a s) (omega (arith, length-drop a s))
-
--- so the reader of white space leaves the machine where it is
-pub spaces-passed : {s : List ℕ} {a r : ℕ} → Lands s a (past s a) r → a ≤ length s → Pass isWs s a r
-spaces-passed {s} {a} {r} l h =
-    record {
-      low = l .low;
-      high = l .inner h;
-      stop = λ i. ap (λ (j : ℕ). isWs (getD s j 0)) (l .is) ∙ past-ink s a (omega (arith, l .is));
-      same = λ m k f. past-same m k f s a ∙ ap (λ (j : ℕ). from s j m k) (sym (l .is));
-    }
 
 -- a byte that ends a member, and white space, are marks
 marks : (b : ℕ) → (b ≡ 44) ⊎ (b ≡ 125) → isMark b ≡ true
@@ -200,10 +127,6 @@ pub record PassedString (s : List ℕ) (q e : ℕ) : Type 0 where
   pub same : (k : Stack) (n : ℕ) → tour s q value k (suc n) ≡ tour s e after k n
 
 module _ (s : List ℕ) (q : ℕ) (h : q < length s) (quote : getD s q 0 ≡ 34) where
-  quote-ink : isWs (getD s q 0) ≡ false
-  unfolding isWs
-  quote-ink = rw quote
-
   -- as a value or, with its colon to come, as a name
   role-tour : (w : Role) (k : Stack) (n : ℕ) → tour s (q + 1) (str w) k n ≡ resume s (closed w) k (lift (one 0 s q) n)
   role-tour w k n =
@@ -224,8 +147,7 @@ module _ (s : List ℕ) (q : ℕ) (h : q < length s) (quote : getD s q 0 ≡ 34)
         record {
           ends = string-found;
           same = λ k n.
-              opens-some s q k k (str plain) (suc n) h quote-ink (value-quote k (getD s q 0) quote) (λ z. omega arith)
-              ∙ role-passes plain k (suc n - 1) ∙ ap (tour s (passed s q) after k) (let z : suc n - 1 ≡ n = omega arith in z);
+              opens-some s q k k (str plain) h (not-ws (getD s q 0) (omega arith)) (value-quote k (getD s q 0) quote) n ∙ role-passes plain k n;
         }
 
   module _ (none : passed s q ≡ 0) where
@@ -234,7 +156,7 @@ module _ (s : List ℕ) (q : ℕ) (h : q < length s) (quote : getD s q 0 ≡ 34)
 
     pub string-stuck : (k : Stack) (n : ℕ) → isEnd (tour s q value k (suc n)) ≡ false
     string-stuck k n =
-        ap isEnd (opens-some s q k k (str plain) (suc n) h quote-ink (value-quote k (getD s q 0) quote) (λ z. omega arith)) ∙ role-stuck plain k (suc n - 1)
+        ap isEnd (opens-some s q k k (str plain) h (not-ws (getD s q 0) (omega arith)) (value-quote k (getD s q 0) quote) n) ∙ role-stuck plain k n
 
 -- the member whose name opens at q, with so many levels left in its object and room for so many values: its places, a comma or a closing brace behind it,
 -- and the room left

@@ -8,7 +8,7 @@ use native.Mathlib.Omega.{arith}
 use borrow.Author.Tests.{lt-ltb, ltb-true}
 use lib.Dec.{eqb, ltb}
 use Rattle.octets.specs.Class.{isDigit}
-use Rattle.octets.proofs.TestLaws.{either}
+use Rattle.octets.proofs.TestLaws.{either, picked-alike}
 use Rattle.json.specs.inner.Machine.{Stack, alone, text, arr, obj, Mode, value, first, name, name₁, colon, after, str, esc, hex, word, minus, nought, int}
 use Rattle.json.specs.inner.Machine.{dot, frac, exp, sign, power, Next, live, dead, deep, done, isHexDigit, isSign, isEsc, levels, shut, opens, begin}
 use Rattle.json.specs.inner.Machine.{ends, expo, point, step, stops, takes, walk}
@@ -56,8 +56,7 @@ module _ (e : ℕ) where
     deeps : {n : Next} → (0 < levels (raise j) → IsLive n) → Up j deep n
 
   up : {j : Stack} {x x′ y y′ : Next} (t : Bool) → Up j x x′ → Up j y y′ → Up j (cond t x y) (cond t x′ y′)
-  up true p q = p
-  up false p q = q
+  up {j} = picked-alike (Up j)
 
   up-ends : (k : Stack) (b : ℕ) → Up k (ends k b) (ends (raise k) b)
   unfolding ends raise

@@ -3,7 +3,7 @@
 use mathlib.Core.Path.{_≡_, refl, sym, ap, subst, _∙_}
 use mathlib.Core.Bool.{Bool, true, false, _||_, cond}
 use mathlib.Core.List.{List, [], _∷_}
-use mathlib.Core.Logic.{_⊎_, inl, inr, ⊎-elim}
+use mathlib.Core.Logic.{inl, inr, ⊎-elim}
 use Prim.Native.Nat.{ℕ, zero, suc, _+_, _-_, _≤_, _<_}
 use native.Mathlib.Nat.{eq-or-lt-of-le}
 use native.Mathlib.Numerals.{add-one}
@@ -13,11 +13,11 @@ use lib.ListN.{length, getD, drop}
 use lib.Seq.{drop-cons, drop-length}
 use lib.Dec.{eqb, ltb}
 use Rattle.octets.specs.Class.{isDigit}
-use Rattle.octets.proofs.TestLaws.{either}
+use Rattle.octets.proofs.TestLaws.{picked, picked-alike}
 use Rattle.json.specs.inner.Begun.{beginsValue, beginsAt, begins, begun}
-use Rattle.json.specs.inner.Machine.{Stack, alone, text, arr, obj, Role, plain, Mode, value, first, name, name₁, after, str, esc, hex, word}
+use Rattle.json.specs.inner.Machine.{Stack, alone, arr, obj, Role, plain, Mode, value, first, name, name₁, after, str, esc, hex, word}
 use Rattle.json.specs.inner.Machine.{minus, nought, int, dot, frac, exp, sign, power, Next, live, dead, deep, done, isHexDigit, isSign, isEsc, closed, due, hexes}
-use Rattle.json.specs.inner.Machine.{begin, ends, expo, point, step, over, stops, takes, walk, levels, from, place, Leaf, Pass, Scalar}
+use Rattle.json.specs.inner.Machine.{begin, ends, expo, point, step, over, takes, walk, levels, from, place, Leaf, Pass, Scalar}
 use Rattle.json.specs.inner.Tour.{lift, cap, tour, lone, resume, spot, taken, started, Tally, Calm}
 use Rattle.json.specs.Places.{isWs}
 use Rattle.json.specs.declared.Toured.{Toured}
@@ -27,7 +27,8 @@ use Rattle.json.specs.declared.Walked.the-variants.{End as Ended, Bad as
 use Rattle.json.proofs.AroundLaws.{tour-around}
 use Rattle.json.proofs.Complete.{begin-on, ws-not}
 use Rattle.json.proofs.Toured.{the-type as toured-type}
-use Rattle.json.proofs.MoveLaws.{goes, moves, halts, short, stops-place, done-alone, from-alone, onward-alone}
+use Rattle.json.proofs.SpaceLaws.{Passes, Quiet, past-tour, pass-is}
+use Rattle.json.proofs.MoveLaws.{goes, moves, short, stops-place, done-alone, from-alone, onward-alone}
 use Rattle.json.proofs.StepLaws as laws
 use Rattle.json.proofs.Walked.{the-type}
 use denote.Enum.Declared.{tagOf}
@@ -45,8 +46,7 @@ pub places-move : (s : List ℕ) (i : ℕ) (m : Mode) (k : Stack) (t : Bool) (n 
     → begun s i m k ≡ beginsAt t n (λ m k j. begun s j m k) i
 unfolding begun
 places-move s i m k t n h o e =
-    rw (drop-cons s i 0) (begin-on (getD s i 0) (drop (suc i) s) m k i ∙ ap (λ (z : Bool). beginsAt z (step m k (getD s i 0)) (begins (drop (suc i) s)) i) o
-    ∙ ap (λ (z : Next). beginsAt t z (begins (drop (suc i) s)) i) e ∙ lands s i t n)
+    rw (drop-cons s i 0) (begin-on (getD s i 0) (drop (suc i) s) m k i t n o e ∙ lands s i t n)
 
 pub places-halt : (s : List ℕ) (i : ℕ) (m : Mode) (k : Stack) → i ≡ length s → begun s i m k ≡ []
 unfolding begun begins
@@ -86,47 +86,9 @@ tour-moves s i m k n t x h o e = tour-is s i m k n (goes s i x) _ (moves s i m k
 pub tour-short : (s : List ℕ) (i : ℕ) (m : Mode) (k : Stack) (n : ℕ) → i ≤ length s → length s ≤ i → from s i m k ≡ Wrong i → tour s i m k n ≡ Bad i
 tour-short s i m k n l u e = tour-is s i m k n (Wrong i) [] e (places-halt s i m k (omega arith))
 
--- White space: a class of bytes that was passed over by `Pass` was met at each of them.
-text-dead : (b : ℕ) → isWs b ≡ false → step after (text 0) b ≡ dead
-unfolding step ends
-text-dead b w = simp w
-
-text-end : (s : List ℕ) (r : ℕ) → r ≡ length s → from s r after (text 0) ≡ Ended r
-unfolding stops
-text-end s r e = halts s r after (text 0) e
-
-module _ (s : List ℕ) (r : ℕ) where
-  -- a byte that is no white space stops the passing
-  must : (a : ℕ) → Pass isWs s a r → a < r → isWs (getD s a 0) ≡ false → ⊥
-  must a p h w =
-      let q : from s a after (text 0) ≡ Wrong a = moves s a after (text 0) dead (omega (arith, p .high)) (text-dead (getD s a 0) w) in
-      let u : from s a after (text 0) ≡ from s r after (text 0) = p .same after (text 0) (λ b w. laws.ws-text b w 0) in
-      ⊎-elim (λ (e : r ≡ length s). let v = text-end s r e in let z : _≡_ {A = ℕ} 0 1 = cc in omega arith)
-      (λ (e : r < length s). let v : from s r after (text 0) ≡ Wrong r = moves s r after (text 0) dead e (text-dead (getD s r 0) (p .stop e)) in let z : a ≡ r = cc in omega arith)
-      (eq-or-lt-of-le (p .high))
-
-  met : (a : ℕ) → Pass isWs s a r → a < r → isWs (getD s a 0) ≡ true
-  met a p h = ⊎-elim (λ e. e) (λ e. absurd (must a p h e)) (either (isWs (getD s a 0)))
-
-  next-pass : (a : ℕ) → Pass isWs s a r → a < r → Pass isWs s (a + 1) r
-  next-pass a p h =
-      record {
-        low = omega arith;
-        high = p .high;
-        stop = p .stop;
-        same = λ m k f. sym (moves s a m k (live m k) (omega (arith, p .high)) (f _ (met a p h))) ∙ p .same m k f;
-      }
-
-  passes : (n a : ℕ) (m : Mode) (k : Stack) (room : ℕ) → r ≡ a + n → Pass isWs s a r → ((b : ℕ) → isWs b ≡ true → step m k b ≡ live m k)
-      → ((b : ℕ) → isWs b ≡ true → beginsValue m b ≡ false) → tour s a m k room ≡ tour s r m k room
-  passes zero a m k room e p f o = ap (λ (i : ℕ). tour s i m k room) (omega arith)
-  passes (suc n) a m k room e p f o =
-      let w = met a p (omega arith) in
-      tour-moves s a m k room false (live m k) (omega (arith, p .high)) (o _ w) (f _ w) ∙ passes n (a + 1) m k room (omega arith) (next-pass a p (omega arith)) f o
-
-  pub spaces : (a : ℕ) (m : Mode) (k : Stack) (room : ℕ) → Pass isWs s a r → ((b : ℕ) → isWs b ≡ true → step m k b ≡ live m k)
-      → ((b : ℕ) → isWs b ≡ true → beginsValue m b ≡ false) → tour s a m k room ≡ tour s r m k room
-  spaces a m k room p f o = passes (r - a) a m k room (omega (arith, p .low)) p f o
+-- White space that a reader passed over.
+pub spaces : (s : List ℕ) (r a : ℕ) (m : Mode) (k : Stack) (room : ℕ) → Pass isWs s a r → Passes m k → Quiet m → tour s a m k room ≡ tour s r m k room
+spaces s r a m k room p f o = past-tour m k f o s a room ∙ ap (λ (i : ℕ). tour s i m k room) (pass-is p)
 
 -- Strings. Beside the machine at m and `alone 0`, where a string stands by itself, runs the one at m′ and k, where it is a value or a name.
 data InText (w : Role) : Mode → Mode → Type 0 where
@@ -150,8 +112,7 @@ data Pair (w : Role) (k : Stack) : Next → Next → Type 0 where
   neither : Pair w k dead dead
 
 pair-cond : {w : Role} {k : Stack} {x y x′ y′ : Next} (t : Bool) → Pair w k x y → Pair w k x′ y′ → Pair w k (cond t x x′) (cond t y y′)
-pair-cond true u v = u
-pair-cond false u v = v
+pair-cond {w} {k} = picked-alike (Pair w k)
 
 hexes-in : (w : Role) (k : Stack) (n : ℕ) → Pair w k (live (hexes plain n) (alone 0)) (live (hexes w n) k)
 unfolding hexes
@@ -235,8 +196,7 @@ data Rests (d : ℕ) : Next → Type 0 where
   is-over : Rests d done
 
 rests-cond : {d : ℕ} {x y : Next} (t : Bool) → Rests d x → Rests d y → Rests d (cond t x y)
-rests-cond true u v = u
-rests-cond false u v = v
+rests-cond {d} = picked (Rests d)
 
 module _ (d b : ℕ) where
   due-rests : (xs : List ℕ) → Rests d (live (due xs) (alone d))
@@ -285,8 +245,7 @@ data Start (d : ℕ) : Next → Type 0 where
   no-start : Start d dead
 
 start-cond : {d : ℕ} {x y : Next} (t : Bool) → Start d x → Start d y → Start d (cond t x y)
-start-cond true u v = u
-start-cond false u v = v
+start-cond {d} = picked (Start d)
 
 starts : (d b : ℕ) → (b ≡ 34 → ⊥) → (b ≡ 91 → ⊥) → (b ≡ 123 → ⊥) → Start d (begin (alone d) b)
 unfolding begin due
@@ -397,47 +356,49 @@ close-quiet b e = rw e
 pub first-alike : (b : ℕ) → isWs b ≡ false → (b ≡ 93 → ⊥) → beginsValue first b ≡ beginsValue value b
 first-alike b w h = simp (w, ne-eqb b 93 h)
 
-opens-none : (s : List ℕ) (i : ℕ) (k k′ : Stack) (m′ : Mode) (n : ℕ) → i < length s → isWs (getD s i 0) ≡ false → step value k (getD s i 0) ≡ live m′ k′ → n ≡ 0
-    → tour s i value k n ≡ Many i
-opens-none s i k k′ m′ n h w e z = tour-moves s i value k n true (live m′ k′) h (simp w) e ∙ rw z
+-- a byte that begins a string, an array or an object: it is one too many, or it takes room for one
+module _ (s : List ℕ) (i : ℕ) (k k′ : Stack) (m′ : Mode) (h : i < length s) (w : isWs (getD s i 0) ≡ false) (e : step value k (getD s i 0) ≡ live m′ k′) where
+  opens-none : tour s i value k 0 ≡ Many i
+  opens-none = tour-moves s i value k 0 true (live m′ k′) h (simp w) e
 
-pub opens-some : (s : List ℕ) (i : ℕ) (k k′ : Stack) (m′ : Mode) (n : ℕ) → i < length s → isWs (getD s i 0) ≡ false → step value k (getD s i 0) ≡ live m′ k′ → (n ≡ 0 → ⊥)
-    → tour s i value k n ≡ tour s (i + 1) m′ k′ (n - 1)
-opens-some s i k k′ m′ zero h w e z = absurd (z refl)
-opens-some s i k k′ m′ (suc n) h w e z = let q : n ≡ suc n - 1 = omega arith in tour-moves s i value k (suc n) true (live m′ k′) h (simp w) e ∙ ap (tour s (i + 1) m′ k′) q
+  pub opens-some : (n : ℕ) → tour s i value k (suc n) ≡ tour s (i + 1) m′ k′ n
+  opens-some n = tour-moves s i value k (suc n) true (live m′ k′) h (simp w) e
 
-taken-low : (a i n : ℕ) (r : Walked) → a ≤ i → a ≤ place r → a ≤ spot (taken i n r)
-taken-low a i zero r h l = h
-taken-low a i (suc n) (Ended e) h l = l
-taken-low a i (suc n) (Wrong p) h l = l
-taken-low a i (suc n) (Nested p) h l = l
+lift-spot : (r : Walked) (n : ℕ) → spot (lift r n) ≡ place r
+lift-spot (Ended e) n = refl
+lift-spot (Wrong p) n = refl
+lift-spot (Nested p) n = refl
 
-taken-high : (z i n : ℕ) (r : Walked) → i ≤ z → place r ≤ z → spot (taken i n r) ≤ z
-taken-high z i zero r h l = h
-taken-high z i (suc n) (Ended e) h l = l
-taken-high z i (suc n) (Wrong p) h l = l
-taken-high z i (suc n) (Nested p) h l = l
+-- what holds of the place i and of the reader's holds of the answer's
+module _ (P : ℕ → Type 0) (i n : ℕ) (here : P i) where
+  taken-place : (r : Walked) → P (place r) → P (spot (taken i n r))
+  taken-place r l = go n
+    where
+      go : (c : ℕ) → P (spot (taken i c r))
+      go zero = here
+      go (suc c) = subst P (sym (lift-spot r c)) l
 
-picked : (t : Bool) (x y : Toured) (P : Toured → Type 0) → P x → P y → P (cond t x y)
-picked true x y P a b = a
-picked false x y P a b = b
-
-started-low : (a i n : ℕ) (r : Walked) → a ≤ i → a ≤ place r → a ≤ spot (started i n r)
-started-low a i n (Ended e) h l = taken-low a i n (Ended e) h l
-started-low a i n (Wrong p) h l = picked (eqb p i) (Bad p) (taken i n (Wrong p)) (λ x. a ≤ spot x) l (taken-low a i n (Wrong p) h l)
-started-low a i n (Nested p) h l = taken-low a i n (Nested p) h l
-
-started-high : (z i n : ℕ) (r : Walked) → i ≤ z → place r ≤ z → spot (started i n r) ≤ z
-started-high z i n (Ended e) h l = taken-high z i n (Ended e) h l
-started-high z i n (Wrong p) h l = picked (eqb p i) (Bad p) (taken i n (Wrong p)) (λ x. spot x ≤ z) l (taken-high z i n (Wrong p) h l)
-started-high z i n (Nested p) h l = taken-high z i n (Nested p) h l
+  started-place : (r : Walked) → P (place r) → P (spot (started i n r))
+  started-place (Ended e) l = taken-place (Ended e) l
+  started-place (Wrong p) l = picked (λ x. P (spot x)) (eqb p i) l (taken-place (Wrong p) l)
+  started-place (Nested p) l = taken-place (Nested p) l
 
 text-taken : (s : List ℕ) (i : ℕ) (k : Stack) (n : ℕ) (r : Walked) → i < length s → isWs (getD s i 0) ≡ false → step value k (getD s i 0) ≡ live (str plain) k
     → Leaf s (i + 1) str closed r → tour s i value k n ≡ resume s after k (taken i n r)
-text-taken s i k zero r h w e f = opens-none s i k k (str plain) zero h w e refl
-text-taken s i k (suc n) r h w e f =
-    opens-some s i k k (str plain) (suc n) h w e (λ z. omega arith) ∙ strings (omega arith) f plain k (suc n - 1)
-    ∙ (let q : suc n - 1 ≡ n = omega arith in ap (λ (c : ℕ). resume s after k (lift r c)) q)
+text-taken s i k zero r h w e f = opens-none s i k k (str plain) h w e
+text-taken s i k (suc n) r h w e f = opens-some s i k k (str plain) h w e n ∙ strings (omega arith) f plain k n
+
+-- byte b opens a level, which f puts around, in mode m; where none is left it opens one too many
+pub record Bracket (m : Mode) (f : Stack → Stack) (b : ℕ) : Type 0 where
+  opens : (k : Stack) → 0 < levels k → step value k b ≡ live m (f k)
+  sinks : (k : Stack) → levels k ≤ 0 → step value k b ≡ deep
+  level : (k : Stack) → levels (f k) ≡ levels k - 1
+
+pub array-bracket : {b : ℕ} → b ≡ 91 → Bracket first arr b
+array-bracket {b} e = record { opens = λ k. laws.value-arr k b e; sinks = λ k. laws.value-arr-deep k b e; level = λ k. refl }
+
+pub object-bracket : {b : ℕ} → b ≡ 123 → Bracket name₁ obj b
+object-bracket {b} e = record { opens = λ k. laws.value-obj k b e; sinks = λ k. laws.value-obj-deep k b e; level = λ k. refl }
 
 -- The exits of `value`.
 module _ {s : List ℕ} {a i : ℕ} (left n : ℕ) (p : Pass isWs s a i) where
@@ -449,52 +410,46 @@ module _ {s : List ℕ} {a i : ℕ} (left n : ℕ) (p : Pass isWs s a i) where
 
   pub value-text : {r : Walked} {g : Toured} → i < length s → getD s i 0 ≡ 34 → Leaf s (i + 1) str closed r → g ≡ taken i n r → Tally s a left n value (λ k. k) g
   value-text {r} {g} h b f e =
-      let x : Tally s a left n value (λ k. k) (taken i n r) = record {
-        low = taken-low a i n r (p .low) (omega (arith, p .low, f .low));
-        high = taken-high (length s) i n r (p .high) (f .high);
+      tally-is {r = taken i n r}
+      (record {
+        low = taken-place (λ x. a ≤ x) i n (p .low) r (omega (arith, p .low, f .low));
+        high = taken-place (λ x. x ≤ length s) i n (p .high) r (f .high);
         same = λ k d. to-value k
             ∙ text-taken s i k n r h (p .stop h) (laws.value-quote k _ b) f;
-      } in
-      subst (Tally s a left n value (λ k. k)) (sym e) x
+      })
+      (sym e)
 
   pub value-scalar : {r : Walked} {g : Toured} → Scalar s i → Leaf s i (λ _. value) (λ _. after) r → g ≡ started i n r → Tally s a left n value (λ k. k) g
   value-scalar {r} {g} sc f e =
-      let x : Tally s a left n value (λ k. k) (started i n r) = record {
-        low = started-low a i n r (p .low) (omega (arith, p .low, f .low));
-        high = started-high (length s) i n r (p .high) (f .high);
+      tally-is {r = started i n r}
+      (record {
+        low = started-place (λ x. a ≤ x) i n (p .low) r (omega (arith, p .low, f .low));
+        high = started-place (λ x. x ≤ length s) i n (p .high) r (f .high);
         same = λ k d. to-value k
             ∙ scalars s i k n sc r f;
-      } in
-      subst (Tally s a left n value (λ k. k)) (sym e) x
+      })
+      (sym e)
 
-  module _ (h : i < length s) (b : getD s i 0 ≡ 91) where
-    pub array-deep : left ≡ 0 → Tally s a left n value (λ k. k) (Deep i)
-    array-deep z = record { low = p .low; high = p .high; same = λ k d. to-value k ∙ tour-moves s i value k n _ deep h refl (laws.value-arr-deep k _ b (omega arith)) }
+  -- a bracket
+  module _ {m₁ : Mode} {f : Stack → Stack} (h : i < length s) (b : Bracket m₁ f (getD s i 0)) where
+    pub bracket-deep : left ≡ 0 → Tally s a left n value (λ k. k) (Deep i)
+    bracket-deep z = record { low = p .low; high = p .high; same = λ k d. to-value k ∙ tour-moves s i value k n _ deep h refl (b .sinks k (omega arith)) }
 
-    pub array-many : (left ≡ 0 → ⊥) → n ≡ 0 → Tally s a left n value (λ k. k) (Many i)
-    array-many z q = record { low = p .low; high = p .high; same = λ k d. to-value k ∙ opens-none s i k (arr k) first n h (p .stop h) (laws.value-arr k _ b (omega arith)) q }
-
-    pub array-in : {g : Toured} → (left ≡ 0 → ⊥) → (n ≡ 0 → ⊥) → Tally s (i + 1) (left - 1) (n - 1) first arr g → Tally s a left n value (λ k. k) g
-    array-in z q t = record {
-      low = omega (arith, p .low, t .low);
-      high = t .high;
+    pub bracket-many : (left ≡ 0 → ⊥) → n ≡ 0 → Tally s a left n value (λ k. k) (Many i)
+    bracket-many z q = record {
+      low = p .low;
+      high = p .high;
       same = λ k d. to-value k
-          ∙ opens-some s i k (arr k) first n h (p .stop h) (laws.value-arr k _ b (omega arith)) q ∙ t .same k (omega arith);
+          ∙ ap (tour s i value k) q ∙ opens-none s i k (f k) m₁ h (p .stop h) (b .opens k (omega arith));
     }
 
-  module _ (h : i < length s) (b : getD s i 0 ≡ 123) where
-    pub object-deep : left ≡ 0 → Tally s a left n value (λ k. k) (Deep i)
-    object-deep z = record { low = p .low; high = p .high; same = λ k d. to-value k ∙ tour-moves s i value k n _ deep h refl (laws.value-obj-deep k _ b (omega arith)) }
-
-    pub object-many : (left ≡ 0 → ⊥) → n ≡ 0 → Tally s a left n value (λ k. k) (Many i)
-    object-many z q = record { low = p .low; high = p .high; same = λ k d. to-value k ∙ opens-none s i k (obj k) name₁ n h (p .stop h) (laws.value-obj k _ b (omega arith)) q }
-
-    pub object-in : {g : Toured} → (left ≡ 0 → ⊥) → (n ≡ 0 → ⊥) → Tally s (i + 1) (left - 1) (n - 1) name₁ obj g → Tally s a left n value (λ k. k) g
-    object-in z q t = record {
+    pub bracket-in : {g : Toured} → (left ≡ 0 → ⊥) → (n ≡ 0 → ⊥) → Tally s (i + 1) (left - 1) (n - 1) m₁ f g → Tally s a left n value (λ k. k) g
+    bracket-in z q t = record {
       low = omega (arith, p .low, t .low);
       high = t .high;
-      same = λ k d. to-value k
-          ∙ opens-some s i k (obj k) name₁ n h (p .stop h) (laws.value-obj k _ b (omega arith)) q ∙ t .same k (omega arith);
+      same = λ k d. let o : n ≡ suc (n - 1) = omega arith in
+          to-value k
+          ∙ ap (tour s i value k) o ∙ opens-some s i k (f k) m₁ h (p .stop h) (b .opens k (omega arith)) (n - 1) ∙ t .same k (omega (arith, b .level k));
     }
 
 -- an answer that is no End stays
@@ -506,24 +461,19 @@ remains (Bad p) s m m′ k k′ h = refl
 remains (Deep p) s m m′ k k′ h = refl
 remains (Many p) s m m′ k k′ h = refl
 
-lift-spot : (r : Walked) (n : ℕ) → spot (lift r n) ≡ place r
-lift-spot (Ended e) n = refl
-lift-spot (Wrong p) n = refl
-lift-spot (Nested p) n = refl
-
 -- an object whose next name is none
 pub label-stops : {s : List ℕ} {a p : ℕ} {g : Toured} (left room n : ℕ) (r : Walked) → a ≤ p
     → ((k : Stack) → levels (obj k) ≡ left → tour s a name₁ (obj k) room ≡ tour s p name (obj k) n) → Calm s p name value r → OneOf (1 ∷ 2 ∷ []) (tagOf the-type r) → g ≡ lift r n
     → Tally s a left room name₁ obj g
 label-stops {s} {a} {p} {g} left room n r l f c h e =
-    let x : Tally s a left room name₁ obj (lift r n) =
-    record {
+    tally-is {r = lift r n}
+    (record {
       low = omega (arith, lift-spot r n, c .low);
       high = omega (arith, lift-spot r n, c .high);
       same = λ k d. f k d ∙ c .same (obj k) n
           ∙ stays r s value after (obj k) k n h;
-    } in
-    subst (Tally s a left room name₁ obj) (sym e) x
+    })
+    (sym e)
 
 -- with nothing around the readers' answer is the machine's
 alone-none : (s : List ℕ) (e d : ℕ) → e ≤ length s → begun s e after (alone d) ≡ []

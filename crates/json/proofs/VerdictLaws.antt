@@ -4,7 +4,7 @@
 use mathlib.Core.Path.{_≡_, refl, sym, ap, subst, _∙_}
 use mathlib.Core.Bool.{Bool, true, false}
 use mathlib.Core.List.{List, [], _∷_, _++_, append-nil}
-use mathlib.Core.Logic.{_⊎_, ⊎-elim}
+use mathlib.Core.Logic.{⊎-elim}
 use Prim.Native.Nat.{ℕ, zero, suc, _+_, _-_, _*_, _≤_, _<_}
 use native.Mathlib.Omega.{arith}
 use borrow.Author.Tests.{lt-ltb, le-ltb, ltb-true, ltb-false, leb-true, leb-false}
@@ -24,9 +24,9 @@ use Rattle.json.specs.declared.Visited.the-variants.{Text, Bad, Deep, Ma
 use Rattle.json.specs.declared.Walked.{Walked}
 use Rattle.json.specs.declared.Walked.the-variants.{End, Bad as Wrong, Deep as Nested}
 use Rattle.json.proofs.Agreement.{deeper, take-one}
-use Rattle.json.proofs.AnswerLaws.{Says, says, says-one, beyond}
+use Rattle.json.proofs.AnswerLaws.{Says, says, says-one, beyond, order}
 use Rattle.json.proofs.Bound.{bound, agree}
-use Rattle.json.proofs.Complete.{complete-places, begin-on}
+use Rattle.json.proofs.Complete.{complete-places, begin-on, begin-none}
 use Rattle.json.proofs.Raise.{raise, raise-text, Up, lives, dies, ended-up, deeps, up-step}
 use Rattle.json.proofs.Refusal.{Ends, rest, goes-on, on}
 use Rattle.json.proofs.Sound.{sound}
@@ -143,7 +143,7 @@ module _ (c : ℕ) (s : List ℕ) where
 
   -- a place before which no value is too many is no further than one
   no-further : (p q : ℕ) → Few c s p → TooMany c s q → p < q + 1
-  no-further p q f t = ⊎-elim (λ e. absurd (f q (ltb-true q p e) t)) (λ e. omega (arith, ltb-false q p e)) (either (ltb q p))
+  no-further p q f t = let h : q < p → ⊥ = λ l. f q l t in omega arith
 
   text-many : (n p : ℕ) → Verdict c s (Text n) → TooMany c s p → ⊥
   text-many n p (x, (e, l)) t = omega (arith, number s x, many-all p t)
@@ -162,9 +162,7 @@ module _ (c : ℕ) (s : List ℕ) where
   many-less p q t u h = omega (arith, below-rise (p + 1) q (all s) (omega arith), many-one p t, many-full q u)
 
   many-same : (p q : ℕ) → TooMany c s p → TooMany c s q → p ≡ q
-  many-same p q t u =
-      ⊎-elim (λ e. absurd (many-less p q t u (ltb-true p q e)))
-      (λ e. ⊎-elim (λ f. absurd (many-less q p u t (ltb-true q p f))) (λ f. omega (arith, ltb-false p q e, ltb-false q p f)) (either (ltb q p))) (either (ltb p q))
+  many-same p q t u = order p q (many-less p q t u) (many-less q p u t)
 
   one-count : (n n′ : ℕ) → Verdict c s (Text n) → Verdict c s (Text n′) → n ≡ n′
   one-count n n′ (x, (e, l)) (x′, (e′, l′)) = omega (arith, number s x, number s x′)
@@ -222,15 +220,10 @@ record Nth (bs : List ℕ) (m : Mode) (k : Stack) (i n p : ℕ) : Type 0 where
   few : length (begins front m k i) ≡ n
   one : length (begins (front ++ (it ∷ [])) m k i) ≡ n + 1
 
-takes-on : (b : ℕ) (w : List ℕ) (m m′ : Mode) (k k′ : Stack) (i : ℕ) (t : Bool) → beginsValue m b ≡ t → step m k b ≡ live m′ k′
-    → begins (b ∷ w) m k i ≡ only t i ++ begins w m′ k′ (i + 1)
-takes-on b w m m′ k k′ i t e f = begin-on b w m k i ∙ ap (λ (z : Bool). beginsAt z (step m k b) (begins w) i) e ∙ ap (λ (z : Next). beginsAt t z (begins w) i) f
-
-none-in : (m : Mode) (k : Stack) (i : ℕ) → begins [] m k i ≡ []
-unfolding begins
-none-in m k i = refl
-
 module _ (b : ℕ) (bs : List ℕ) (m m′ : Mode) (k k′ : Stack) (i : ℕ) (t : Bool) (o : beginsValue m b ≡ t) (f : step m k b ≡ live m′ k′) where
+  on-place : (w : List ℕ) → begins (b ∷ w) m k i ≡ only t i ++ begins w m′ k′ (i + 1)
+  on-place w = begin-on b w m k i t (live m′ k′) o f
+
   later : (n n′ p : ℕ) → length (only t i) + n ≡ n′ → Nth bs m′ k′ (i + 1) n p → Nth (b ∷ bs) m k i n′ p
   later n n′ p h r =
       record {
@@ -241,11 +234,11 @@ module _ (b : ℕ) (bs : List ℕ) (m m′ : Mode) (k k′ : Stack) (i : ℕ) (t
         far = omega (arith, r .far);
         more = r .more;
         can = subst Ends (sym (on b (r .front ++ (r .it ∷ r .more)) m k i (live m′ k′) f)) (r .can);
-        few = omega (arith, r .few, ap length (takes-on b (r .front) m m′ k k′ i t o f), length-append (only t i) (begins (r .front) m′ k′ (i + 1)));
+        few = omega (arith, r .few, ap length (on-place (r .front)), length-append (only t i) (begins (r .front) m′ k′ (i + 1)));
         one = omega (
           arith,
           r .one,
-          ap length (takes-on b (r .front ++ (r .it ∷ [])) m m′ k k′ i t o f),
+          ap length (on-place (r .front ++ (r .it ∷ []))),
           length-append (only t i) (begins (r .front ++ (r .it ∷ [])) m′ k′ (i + 1)),
         );
       }
@@ -260,8 +253,8 @@ module _ (b : ℕ) (bs : List ℕ) (m m′ : Mode) (k k′ : Stack) (i : ℕ) (t
         far = omega arith;
         more = rest m′ k′;
         can = subst Ends (sym (on b (rest m′ k′) m k i (live m′ k′) f)) (goes-on m′ k′ (i + 1));
-        few = ap length (none-in m k i);
-        one = ap length (takes-on b [] m m′ k k′ i true (o ∙ h) f ∙ ap (λ (l : List ℕ). i ∷ l) (none-in m′ k′ (i + 1)));
+        few = ap length (begin-none m k i);
+        one = ap length (begin-on b [] m k i true (live m′ k′) (o ∙ h) f ∙ ap (λ (l : List ℕ). i ∷ l) (begin-none m′ k′ (i + 1)));
       }
 
 module _ (b : ℕ) (bs : List ℕ) (m : Mode) (k : Stack) (i : ℕ)

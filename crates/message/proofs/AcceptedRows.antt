@@ -83,10 +83,6 @@ module _ {s : List ℕ} {tag : ℕ} {t : List ℕ} (a : Accepted s tag t) where
 read-not : {A : Type 0} {n p : ℕ} {m : Message} → Refused n p ≡ Read m → A
 read-not e = absurd (let z : _≡_ {A = ℕ} 0 1 = cc in omega arith)
 
-by-choose : (b : Bool) (x : Reading) (n p : ℕ) (m : Message) → cond b x (Refused n p) ≡ Read m → (b ≡ true) × (x ≡ Read m)
-by-choose true x n p m e = (refl, e)
-by-choose false x n p m e = read-not e
-
 by-refuse : (b : Bool) (x : Reading) (n p : ℕ) (m : Message) → cond b (Refused n p) x ≡ Read m → (b ≡ false) × (x ≡ Read m)
 by-refuse true x n p m e = read-not e
 by-refuse false x n p m e = (refl, e)

@@ -22,6 +22,7 @@ use Rattle.fields.specs.declared.judging.Setting.{Setting}
 use Rattle.message.specs.declared.reading.Reading.the-variants.{Refused, Read}
 use Rattle.message.specs.declared.reading.Reading.{Reading}
 use Rattle.message.specs.declared.reading.Report.{Report}
+use Rattle.octets.proofs.TestLaws.{picked}
 use Rattle.rules.specs.Names.{fields}
 use Rattle.utf8.specs.Rfc3629.{verdict}
 use Rattle.utf8.specs.declared.Verdict.the-variants as utf8
@@ -52,8 +53,7 @@ pub data Late : Reading → Type 0 where
   read : {m : Message} → Late (Read m)
 
 late-choose : (b : Bool) {x y : Reading} → Late x → Late y → Late (cond b x y)
-late-choose true x y = x
-late-choose false x y = y
+late-choose b = picked Late b
 
 -- a run of rows 8 and 9
 late-run : (a b : Bool) (p q : ℕ) {r : Reading} → Late r → Late (unless (cond a (Fault 8 p) (cond b (Fault 9 q) Good)) r)

@@ -10,13 +10,15 @@ use Rattle.json.proofs.AroundLaws.{tour-around, one-ends, lone-ends}
 use Rattle.json.proofs.Complete.{first-not, ws-not}
 use Rattle.json.proofs.EndLaws.{ends-open}
 use Rattle.json.proofs.MoveLaws.{whole, trail}
-use Rattle.json.proofs.PassLaws.{past-tour, past-ink, stuck-on, dead-end, arr-end, obj-end, PassedString, string-passed, string-stuck, PassedMember}
+use Rattle.json.proofs.PassLaws.{stuck-on, dead-end, arr-end, obj-end, PassedString, string-passed, string-stuck, PassedMember}
 use Rattle.json.proofs.ReadLaws.{tour-room}
 use Rattle.json.proofs.PlaceLaws.{closing-is, raw-is, past-low, past-inner}
-use Rattle.json.proofs.StepLaws.{ws-value, ws-first, ws-name, ws-name₁, ws-text, ws-arr, value-arr, value-obj, first-value, arr-comma, arr-close, arr-miss, name-miss, name₁-name}
+use Rattle.json.proofs.SpaceLaws.{past-tour, past-ink}
+use Rattle.json.proofs.StepLaws.{not-ws, ws-value, ws-first, ws-name, ws-name₁, ws-text, ws-arr, value-arr, value-obj, first-value, arr-comma, arr-close, arr-miss, name-miss}
+use Rattle.json.proofs.StepLaws.{name₁-name}
 use Rattle.json.proofs.StepLaws.{obj-comma, obj-close}
 use Rattle.json.proofs.TourLaws.{tour-is, tour-moves, tour-alike, first-alike, opens-some, places-halt, alone-stops}
-use Rattle.json.specs.inner.Machine.{Stack, alone, text, arr, obj, Mode, value, first, name, name₁, after, live, step, one}
+use Rattle.json.specs.inner.Machine.{alone, text, arr, obj, value, first, name, name₁, after, live, one}
 use Rattle.json.specs.inner.Passing.{isEnd, passed}
 use Rattle.json.specs.inner.Tour.{lone, resume, spot, total, tour, visited}
 use Rattle.json.specs.Places.{past, behind, part, valueOf, follows, more, members, membersFrom, isWs}
@@ -42,16 +44,6 @@ use mathlib.Core.Logic.{_⊎_, inl, inr}
 use mathlib.Core.Path.{_≡_, refl, sym, ap, _∙_}
 use native.Mathlib.Decide.{decLt, ℕ-discrete}
 use native.Mathlib.Omega.{arith}
-
--- A byte that opens an array or an object takes room for one value.
-enters : (s : List ℕ) (i : ℕ) (k k′ : Stack) (m : Mode) (n : ℕ) → i < length s → isWs (getD s i 0) ≡ false → step value k (getD s i 0) ≡ live m k′
-    → tour s i value k (suc n) ≡ tour s (i + 1) m k′ n
-enters s i k k′ m n h w e =
-    opens-some s i k k′ m (suc n) h w e (λ z. omega arith) ∙ ap (tour s (i + 1) m k′) (let z : suc n - 1 ≡ n = omega arith in z)
-
-bracket-ink : (b : ℕ) → b ≡ 91 → isWs b ≡ false
-unfolding isWs
-bracket-ink b e = rw e
 
 -- The members of the object at o.
 
@@ -81,10 +73,6 @@ pub record Walking (s : List ℕ) (o room : ℕ) (at end : List ℕ) (n p spare 
   pub json : lone 7 (suc room) s o ≡ tour s (past s p) name (obj (alone 7)) spare
   pub turns : length s < n + p
 
-brace-ink : (b : ℕ) → b ≡ 123 → isWs b ≡ false
-unfolding isWs
-brace-ink b e = rw e
-
 pub walk-starts : (s : List ℕ) (o room : ℕ) {q : ℕ} → getD s o 0 ≡ 123 → q ≡ past s (o + 1) → getD s q 0 ≡ 34 → Walking s o room empty empty (length s) (o + 1) room
 unfolding members
 walk-starts s o room {q} brace e quote =
@@ -95,7 +83,7 @@ walk-starts s o room {q} brace e quote =
       sofar = started fields s o;
       ends = no-ends s;
       json =
-          enters s o (alone 7) (obj (alone 7)) name₁ room (there s o 122 brace) (brace-ink (getD s o 0) brace) (value-obj (alone 7) (getD s o 0) brace (omega arith))
+          opens-some s o (alone 7) (obj (alone 7)) name₁ (there s o 122 brace) (not-ws (getD s o 0) (omega arith)) (value-obj (alone 7) (getD s o 0) brace (omega arith)) room
           ∙ past-tour name₁ (obj (alone 7)) (ws-name₁ (obj (alone 7))) (λ b w. refl) s (o + 1) room
           ∙ tour-alike s (past s (o + 1)) name₁ name (obj (alone 7)) room (omega (arith, e)) refl
           (name₁-name (alone 7) (getD s (past s (o + 1)) 0) (past-ink s (o + 1) (omega (arith, e))) (λ z. omega (arith, b, z)));
@@ -247,7 +235,7 @@ module _ (s : List ℕ) {o : ℕ} (at-o : o ≡ past s 0) where
           let ink : isWs (getD s x 0) ≡ false = ap (λ (i : ℕ). isWs (getD s i 0)) at-x ∙ past-ink s (o + 1) (omega (arith, at-x, there s x 33 quote)) in
           past-tour value (text 8) (ws-value (text 8)) ws-not s 0 (suc n)
           ∙ ap (λ (i : ℕ). tour s i value (text 8) (suc n)) (sym at-o)
-          ∙ enters s o (text 8) (arr (text 8)) first n (there s o 90 array) (bracket-ink (getD s o 0) array) (value-arr (text 8) (getD s o 0) array (omega arith))
+          ∙ opens-some s o (text 8) (arr (text 8)) first (there s o 90 array) (not-ws (getD s o 0) (omega arith)) (value-arr (text 8) (getD s o 0) array (omega arith)) n
           ∙ past-tour first (arr (text 8)) (ws-first (arr (text 8))) first-not s (o + 1) n
           ∙ ap (λ (i : ℕ). tour s i first (arr (text 8)) n) (sym at-x)
           ∙ tour-alike s x first value (arr (text 8)) n (there s x 33 quote) (first-alike (getD s x 0) ink (λ z. omega (arith, quote, z)))

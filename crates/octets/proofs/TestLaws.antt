@@ -1,5 +1,5 @@
 -- Tests, and what is known of two where both are asked, or either: beside the library's laws (mathlib.Core.Bool, borrow.Author.Tests). Assumes nothing.
-use mathlib.Core.Bool.{Bool, true, false, _&&_, _||_, true≢false}
+use mathlib.Core.Bool.{Bool, true, false, _&&_, _||_, cond, true≢false}
 use mathlib.Core.Logic.{_⊎_, inl, inr}
 use mathlib.Core.Path.{_≡_, refl, sym, _∙_}
 
@@ -36,3 +36,12 @@ or-split false b e = inr e
 pub or-none : (a b : Bool) → (a || b) ≡ false → (a ≡ false) × (b ≡ false)
 or-none true b e = clash refl e
 or-none false b e = (refl, e)
+
+-- what holds of both ways out holds of the one that a test picks; and of two that it picks alike
+pub picked : {A : Type 0} {x y : A} (P : A → Type 0) (b : Bool) → P x → P y → P (cond b x y)
+picked P true p q = p
+picked P false p q = q
+
+pub picked-alike : {A B : Type 0} {x y : A} {x′ y′ : B} (R : A → B → Type 0) (b : Bool) → R x x′ → R y y′ → R (cond b x y) (cond b x′ y′)
+picked-alike R true p q = p
+picked-alike R false p q = q

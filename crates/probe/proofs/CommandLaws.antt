@@ -1,5 +1,5 @@
 -- What a line does, by each test on the way to its command. Assumes nothing.
-use Prim.Native.Nat.{ℕ, _+_, _-_, _≤_, _<_}
+use Prim.Native.Nat.{ℕ, _+_, _≤_, _<_}
 use Rattle.lines.specs.Log.{Effect}
 use Rattle.octets.specs.Ascii.{ascii}
 use Rattle.octets.specs.Splice.{written}

@@ -1,6 +1,6 @@
 -- What `reply`, `add` and `remove` show for the words behind their names; `?` where a word is not what it should be. Cited by the
 -- contracts of `src/writers.rt`. Assumes nothing.
-use Prim.Native.Nat.{ℕ, _+_}
+use Prim.Native.Nat.{ℕ}
 use Rattle.message.specs.Reading.{ample, reading}
 use Rattle.octets.specs.Ascii.{ascii}
 use Rattle.octets.specs.Decimal as decimal

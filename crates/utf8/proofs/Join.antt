@@ -2,7 +2,7 @@
 -- Copies of parts of a message rest on these. Assumes nothing.
 use Prim.Native.Nat.{ℕ, zero, suc, _≤_, _<_}
 use Rattle.octets.proofs.ClassLaws.{among-low}
-use Rattle.octets.proofs.TestLaws.{and-parts}
+use Rattle.octets.proofs.TestLaws.{and-parts, picked}
 use Rattle.octets.specs.Class.{among, all}
 use Rattle.utf8.proofs.Rows.{one}
 use Rattle.utf8.proofs.Walk.{charAt-length}
@@ -87,8 +87,7 @@ high (char rs) = highs rs
 high none = true
 
 pick-high : (t : Bool) (x y : Begins) → high x ≡ true → high y ≡ true → high (cond t x y) ≡ true
-pick-high true x y h g = h
-pick-high false x y h g = g
+pick-high t x y = picked (λ (z : Begins). high z ≡ true) t
 
 -- every row of a table
 abbrev allHigh : List (List Bounds) → Bool

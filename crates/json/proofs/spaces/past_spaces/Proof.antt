@@ -1,6 +1,6 @@
 -- By what `skip` ensures. Assumes nothing.
 use borrow.Author.Needs.{needs}
-use Rattle.json.proofs.PassLaws.{spaces-passed}
+use Rattle.json.proofs.SpaceLaws.{spaces-passed}
 use Rattle.json.proofs.spaces.past_spaces.Statement.{statement}
 use Rattle.json.proofs.spaces.past_spaces.Tie as tie
 

@@ -16,7 +16,7 @@ use Rattle.json.proofs.MoveLaws.{short-arr, short-obj}
 use Rattle.json.proofs.StepLaws.{ws-first, ws-name₁, ws-arr, ws-obj, first-close, first-value, arr-comma, arr-close, arr-miss, name₁-close, name₁-name}
 use Rattle.json.proofs.StepLaws.{obj-comma, obj-close, obj-miss}
 use Rattle.json.proofs.TourLaws.{tour-moves, tour-short, tour-alike, spaces, close-quiet, first-alike, calm-is, tally-is, remains, label-stops}
-use Rattle.json.proofs.TourLaws.{value-short, value-text, value-scalar, array-deep, array-many, array-in, object-deep, object-many, object-in}
+use Rattle.json.proofs.TourLaws.{value-short, value-text, value-scalar, array-bracket, object-bracket, bracket-deep, bracket-many, bracket-in}
 use Rattle.json.proofs.spaces.past_spaces.Reads as past-spaces-reads
 use Rattle.json.proofs.strings.string.Reads as string-reads
 use Rattle.json.proofs.values.+array+object+value.Lts-array as array-lts
@@ -384,28 +384,30 @@ value-returns-2 t c = value-text _ _ (c .before .before .before .before .before 
     (c .taking .ensures)
 
 value-returns-3 : (t : ℕ) → value-lts.Need-returns-3 (value-claims t) (value-at t) value.Post
-value-returns-3 t c = array-deep _ _ (c .before .before .before .before .before .past-spaces .ensures) (search needs) (c .before .if3 .taken) (c .if4 .taken)
+value-returns-3 t c = bracket-deep _ _ (c .before .before .before .before .before .past-spaces .ensures) (search needs) (array-bracket (c .before .if3 .taken)) (c .if4 .taken)
 
 value-returns-4 : (t : ℕ) → value-lts.Need-returns-4 (value-claims t) (value-at t) value.Post
-value-returns-4 t c = array-many _ _ (c .before .before .before .before .before .before .past-spaces .ensures) (search needs) (c .before .before .if3 .taken)
+value-returns-4 t c = bracket-many _ _ (c .before .before .before .before .before .before .past-spaces .ensures) (search needs) (array-bracket (c .before .before .if3 .taken))
     (c .before .if4 .left) (c .if5 .taken)
 
 value-returns-5 : (t : ℕ) → value-lts.Need-returns-5 (value-claims t) (value-at t) value.Post
 value-returns-5 t c =
-    array-in _ _ (c .before .before .before .before .before .before .before .past-spaces .ensures) (search needs) (c .before .before .before .if3 .taken)
+    bracket-in _ _ (c .before .before .before .before .before .before .before .past-spaces .ensures) (search needs) (array-bracket (c .before .before .before .if3 .taken))
     (c .before .before .if4 .left) (c .before .if5 .left)
     (c .array .ensures)
 
 value-returns-6 : (t : ℕ) → value-lts.Need-returns-6 (value-claims t) (value-at t) value.Post
-value-returns-6 t c = object-deep _ _ (c .before .before .before .before .before .before .past-spaces .ensures) (search needs) (c .before .if6 .taken) (c .if7 .taken)
+value-returns-6 t c = bracket-deep _ _ (c .before .before .before .before .before .before .past-spaces .ensures) (search needs) (object-bracket (c .before .if6 .taken))
+    (c .if7 .taken)
 
 value-returns-7 : (t : ℕ) → value-lts.Need-returns-7 (value-claims t) (value-at t) value.Post
-value-returns-7 t c = object-many _ _ (c .before .before .before .before .before .before .before .past-spaces .ensures) (search needs) (c .before .before .if6 .taken)
+value-returns-7 t c = bracket-many _ _ (c .before .before .before .before .before .before .before .past-spaces .ensures) (search needs)
+    (object-bracket (c .before .before .if6 .taken))
     (c .before .if7 .left) (c .if8 .taken)
 
 value-returns-8 : (t : ℕ) → value-lts.Need-returns-8 (value-claims t) (value-at t) value.Post
 value-returns-8 t c =
-    object-in _ _ (c .before .before .before .before .before .before .before .before .past-spaces .ensures) (search needs) (c .before .before .before .if6 .taken)
+    bracket-in _ _ (c .before .before .before .before .before .before .before .before .past-spaces .ensures) (search needs) (object-bracket (c .before .before .before .if6 .taken))
     (c .before .before .if7 .left) (c .before .if8 .left)
     (c .object .ensures)
 
