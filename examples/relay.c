@@ -20,7 +20,7 @@ static const char *const invite_fields =
     ",\"Session-ID\":\"S1.nx\",\"Call-Mode\":\"emergency\",\"Call-Test\":0,\"Secure-Call\":true,\"Rescuee\":\"caller\","
     "\"Request-Service\":\"ambulance\",\"Language\":\"ja\",\"Locations\":[],\"User-Agent\":\"\",\"Caller\":{}";
 static const char *const chat_fields =
-    ",\"Message-ID\":\"caller-nishi-1\",\"Content-Type\":\"text/plain\",\"Body\":\"My father has collapsed.\"";
+    ",\"Message-ID\":\"caller-nishi-1\",\"Content-Type\":\"text\\/plain\",\"Body\":\"My father has collapsed.\"";
 
 static char message[NET119_LONGEST + 1];
 static int differences;
@@ -81,11 +81,11 @@ static void step(const char *what, const char *answer, bool right) {
 
 static void check(const char *what, bool right) { step(what, right ? "yes" : "no", right); }
 
-/* Makes a request of the caller, or the response to one, in `message`. */
+/* Makes a request of the caller, or the response to one, in `message`. The caller's server spells its host with an escape, as an encoder may. */
 static void make(const char *tag, const char *call, const char *cseq, const char *more) {
     snprintf(message, sizeof message,
              "[\"%s\",{\"CSeq\":\"%s\",\"To\":\"net119:fire@kita.callee\",\"From\":\"net119:u1@nishi.caller\",\"Call-ID\":\"%s\","
-             "\"Date\":\"" DATE "\",\"Via\":[{\"host\":\"h1.nx\",\"destination\":\"kita.callee\",\"organization\":\"nx\"}]%s}]",
+             "\"Date\":\"" DATE "\",\"Via\":[{\"host\":\"h1\\u002enx\",\"destination\":\"kita.callee\",\"organization\":\"nx\"}]%s}]",
              tag, cseq, call, more);
 }
 
@@ -163,8 +163,8 @@ static void two_calls_ring(void) {
 
 /* A1's caller writes; the request goes on with our Via entry, and its reply comes back and goes on without it. */
 static void chat(void) {
-    static uint8_t forwarded[NET119_LONGEST], answer[NET119_LONGEST], direct[NET119_LONGEST], back[NET119_LONGEST];
-    net119_write_answer f, r, d;
+    static uint8_t forwarded[NET119_LONGEST], answer[NET119_LONGEST], direct[NET119_LONGEST], back[NET119_LONGEST], host[253];
+    net119_write_answer f, r, d, h;
     net119_remove_answer b;
     make("request", "A1.nx", "2 MESSAGE", chat_fields);
     passes("MESSAGE of A1", 5000, NET119_TALKING);
@@ -176,7 +176,8 @@ static void chat(void) {
     hands("  the reply, heard", 5200, answer, r.length, accepted(NET119_PASS, NET119_TALKING), PASSED_ON);
     b = net119_remove(back, sizeof back, answer, r.length, OUR_PATH);
     wrote("  the reply less our entry", b.number, b.length);
-    check("  the next host is h1.nx", b.host_end - b.host_start == 5 && memcmp(answer + b.host_start, "h1.nx", 5) == 0);
+    h = net119_text(host, sizeof host, answer + b.host_start, b.host_end - b.host_start); /* before it is used: no host is longer than 253 */
+    check("  the next host is h1.nx, however it is spelled", h.number == NET119_OK && h.length == 5 && memcmp(host, "h1.nx", 5) == 0);
     d = net119_reply(direct, sizeof direct, BYTES(message), 200, BYTES(DATE));
     check("  it is the reply to the message as it came", d.length == b.length && memcmp(direct, back, d.length) == 0);
 }

@@ -8,6 +8,12 @@
  *
  * Texts and buffers are a pointer and a length in bytes, in this order; texts need no 0 at their end.
  *
+ * A message's tag, its names and its values under a rule are judged by the texts that they spell, escapes decoded (RFC 7159): "text\/plain"
+ * is text/plain. A lone surrogate is no character: it breaks its value's rule (9), and a tag or name that has one is none that is known; it
+ * may stand in free text and wherever no rule looks. A table holds decoded texts, so a call is found however a message spells its Call-ID.
+ * What is written or shown of a message is its bytes as they stand; net119_text decodes a part of it. The other texts that are handed over
+ * (a tick's Call-ID, a Date, our own path) are bytes as they are: no escapes are decoded in them.
+ *
  * What a caller must hold to, since no function can check it:
  *  - a pointer is valid for its length, and a length is at most PTRDIFF_MAX; where the length is 0 the pointer may be null or anything;
  *  - a buffer that is written (a table, an output) overlaps no other argument of that call. Arguments that are only read may overlap,
@@ -45,8 +51,8 @@ extern "C" {
 #define NET119_CEILING 16384
 
 /*
- * No call takes more stack than this, whatever it is handed: the stack grows with the nesting of JSON alone, and that ends at eight. About
- * half of it is used.
+ * No call takes more stack than this, whatever it is handed: the stack grows with the nesting of JSON alone, and that ends at eight. A
+ * little over half of it is used.
  */
 #define NET119_STACK 8192
 
@@ -63,9 +69,9 @@ enum {
     NET119_NOT_JSON = 4,       /* place: the first byte after which no JSON text can continue, or the length if it only stops short */
     NET119_TOO_DEEP = 5,       /* a ninth nested array or object opens; place: that bracket */
     NET119_NOT_A_MESSAGE = 6,  /* not an array of two, a tag and an object; place 0 */
-    NET119_TWICE = 7,          /* a known name twice; place: the opening quote of the first repeat */
+    NET119_TWICE = 7,          /* a known name twice, however spelled; place: the opening quote of the first repeat */
     NET119_MISSING = 8,        /* a required field is missing; place: the lowest such field NUMBER, 1 to 26 */
-    NET119_BAD_VALUE = 9,      /* a value breaks its rule; place: the first byte of the value */
+    NET119_BAD_VALUE = 9,      /* a value breaks its rule; place: the first byte of the value. For net119_text, a lone surrogate */
     NET119_DISAGREE = 10,      /* fields disagree; place 0 */
     NET119_TOO_MANY = 11,      /* a JSON value past the ceiling begins; place: its first byte */
 
@@ -136,14 +142,14 @@ typedef struct {
 } net119_event_answer;
 
 typedef struct {
-    uint8_t number; /* 0, or 30 to 39 */
+    uint8_t number; /* 0, or 30 to 35, 38, 39; for net119_text 0, or 9, 33, 39 */
     size_t length;  /* where done, the result's length; else 0 */
 } net119_write_answer;
 
 typedef struct {
     uint8_t number;    /* 0, or 30, 33, 36, 37, 38 */
     size_t length;     /* where done, the result's length; else 0 */
-    size_t host_start; /* where done, the next host is message[host_start .. host_end); else both are 0 */
+    size_t host_start; /* where done, the next host is message[host_start .. host_end), as it is spelled there; else both are 0 */
     size_t host_end;
 } net119_remove_answer;
 
@@ -233,7 +239,8 @@ net119_event_answer net119_message_within(uint8_t *table, size_t table_length, u
  *
  * Answers number 0 with the word TIMEOUT (Calling and Cancelling after 15 s, Ringing after 150 s) or IDLE (half an hour without chat), both
  * to state 5; FREED (over an hour after the end), state 0; or NONE with the state as it is; or a refusal, always with reply 0:
- * 1; 9 at place 0, the Call-ID breaks its rule; 20, no such call; 22, the time is below the call's last time.
+ * 1; 9 at place 0, the Call-ID breaks its rule; 20, no such call; 22, the time is below the call's last time. The Call-ID is bytes as they
+ * are: one that was taken from a message may be spelled with escapes, and net119_text decodes it.
  *
  * The table: after TIMEOUT and IDLE the call's record has ended, after FREED it is free; every byte of every other record is as it was.
  * After NONE, and on every refusal, the whole table is as it was.
@@ -242,7 +249,7 @@ net119_event_answer net119_tick(uint8_t *table, size_t table_length, uint64_t ti
 
 /*
  * Writes the reply to a request, with a code of document 01's list (100, 180, 200, 202, 400, 404, 405, 481, 486, 487, 488, 500, 501, 503)
- * and the Date to give it, as 2024-02-29T23:59:59+0900. CSeq, To, From, Call-ID and Via are the request's own bytes.
+ * and the Date to give it, as 2024-02-29T23:59:59+0900. CSeq, To, From, Call-ID and Via are the request's own bytes, escapes as they stand.
  *
  * Answers number 0 and the result's length; or, the first that holds: 30, not an accepted request, or an ACK; 31, code not listed, or 202
  * without REFER; 32, bad Date; 39, the result is over 32,768 bytes; 33, the output is shorter than the result.
@@ -257,8 +264,8 @@ net119_write_answer net119_reply(uint8_t *output, size_t output_length, const ui
  * Writes a request with our own Via entry behind its last one. Nothing else of the message changes, white space included.
  *
  * Answers number 0 and the result's length; or, the first that holds: 38, our own path breaks the Via rules; 30, not an accepted request;
- * 34, our host and destination stand in one Via object; 35, sixteen Via objects; 39, the result is over 32,768 bytes; 33, the output is
- * shorter than the result.
+ * 34, our host and destination stand in one Via object, whose texts are compared decoded; 35, sixteen Via objects; 39, the result is over
+ * 32,768 bytes; 33, the output is shorter than the result.
  *
  * The output: as for net119_reply.
  */
@@ -268,17 +275,30 @@ net119_write_answer net119_add(uint8_t *output, size_t output_length, const uint
 
 /*
  * Writes a response with its last Via entry, which must be ours, taken off, and answers where the next host stands in `message`: that of
- * the last but one Via object. As bytes, this undoes net119_add.
+ * the last but one Via object. It is shown as it stands there, and may be spelled with escapes: net119_text decodes it. As bytes, this
+ * undoes net119_add.
  *
  * Answers number 0, the result's length and the host's start and end; or, the first that holds: 38, our own path breaks the Via rules; 30,
- * not an accepted response; 37, fewer than two Via objects; 36, the last has another host or destination than ours (the organization is
- * not compared); 33, the output is shorter than the result. 39 cannot be: the result is shorter than the message.
+ * not an accepted response; 37, fewer than two Via objects; 36, the last has another host or destination than ours (those in Via decoded;
+ * the organization is not compared); 33, the output is shorter than the result. 39 cannot be: the result is shorter than the message.
  *
  * The output: as for net119_reply.
  */
 net119_remove_answer net119_remove(uint8_t *output, size_t output_length, const uint8_t *message, size_t message_length,
                                    const uint8_t *host, size_t host_length, const uint8_t *destination, size_t destination_length,
                                    const uint8_t *organization, size_t organization_length);
+
+/*
+ * Writes the text that a part of a message spells, such as the next host: `spelled` is the bytes between a string's quotes, and the text has
+ * for each escape of RFC 7159 the character that it stands for, in UTF-8; two escapes that are a pair of surrogates stand for one. Every
+ * other byte stands for itself, and so does a backslash that begins no escape, which no JSON string has.
+ *
+ * Answers number 0 and the text's length; or, the first that holds: 9, an escape is a lone surrogate; 39, the text is over 32,768 bytes,
+ * which that of a part of a message never is; 33, the output is shorter than the text. `spelled_length` bytes are always enough.
+ *
+ * The output: as for net119_reply.
+ */
+net119_write_answer net119_text(uint8_t *output, size_t output_length, const uint8_t *spelled, size_t spelled_length);
 
 #ifdef __cplusplus
 }

@@ -1,7 +1,8 @@
 /*
  * What include/net119.h says of stack and alignment. Each function is run on a stack of its own, painted before, with every buffer at an odd
- * address: on messages that nest to the last level, are as long as may be and have sixteen Via objects, and on a full table. The most that a
- * call took is printed; the exit is 1 if it is more than NET119_STACK, or if a call answers otherwise than it must.
+ * address: on messages that nest to the last level, are as long as may be, have sixteen Via objects and are spelled in plain letters and with
+ * escapes, and on a full table; net119_text on parts of any kind, its output held to the byte. The most that a call took is printed; the
+ * exit is 1 if it is more than NET119_STACK, or if a call answers otherwise than it must.
  */
 #include <stdio.h>
 #include <string.h>
@@ -15,12 +16,13 @@
 #define DATE "2024-02-29T23:59:59+0900"
 
 /* Lent from their second byte on. */
-static _Alignas(16) uint8_t message_room[1 + NET119_LONGEST + 1], table_room[1 + NET119_TABLE_LENGTH(COUNT)], output_room[1 + NET119_LONGEST],
+static _Alignas(16) uint8_t message_room[1 + NET119_LONGEST + 8], table_room[1 + NET119_TABLE_LENGTH(COUNT)], output_room[1 + NET119_LONGEST],
     text_room[4][1 + 64];
 static uint8_t *const message = message_room + 1, *const table = table_room + 1, *const output = output_room + 1;
 static const uint8_t *host, *destination, *organization, *date;
-static size_t length;
+static size_t length, room;
 static uint64_t now;
+static net119_write_answer decoded;
 
 static _Alignas(16) uint8_t stack[ROOM];
 static ucontext_t here, there;
@@ -39,6 +41,12 @@ static void replies(void) { answered = net119_reply(output, NET119_LONGEST, mess
 static void adds(void) { answered = net119_add(output, NET119_LONGEST, message, length, host, 8, destination, 11, organization, 2).number; }
 static void removes(void) {
     answered = net119_remove(output, NET119_LONGEST, message, length, host, 8, destination, 11, organization, 2).number;
+}
+
+/* Where a length is 0, with no address. */
+static void decodes(void) {
+    decoded = net119_text(room == 0 ? NULL : output, room, length == 0 ? NULL : message, length);
+    answered = decoded.number;
 }
 
 /* The bytes of the stack, from its far end on, that have lost their paint. */
@@ -78,7 +86,7 @@ static void put(const char *text) {
     length += strlen(text);
 }
 
-/* A message with so many Via objects, and as many spaces behind it as make it the longest. */
+/* A message with so many Via objects, and as many spaces behind it as make it the longest. Every other object is spelled with escapes. */
 static void make(const char *tag, const char *call, const char *cseq, int vias, const char *more) {
     length = 0;
     put("[\"");
@@ -89,15 +97,78 @@ static void make(const char *tag, const char *call, const char *cseq, int vias, 
     put(call);
     put("\",\"Date\":\"" DATE "\",\"Via\":[");
     for (int i = 0; i < vias; i++) {
-        put(i == 0 ? "" : ",");
-        put(i + 1 < vias ? "{\"host\":\"h1.nx\"" : "{\"host\":\"relay.nx\"");
-        put(",\"destination\":\"kita.callee\",\"organization\":\"nx\",\"x\":[[[[-1.5e+10]]]]}");
+        bool plain = i % 2 == 0;
+        put(i == 0 ? "{" : ",{");
+        put(plain ? "\"host\":\"" : "\"h\\u006fst\":\"");
+        put(i + 1 < vias ? "h1" : plain ? "relay" : "rel\\u0061y");
+        put(plain ? ".nx\",\"destination\":\"kita.callee\"" : "\\u002enx\",\"\\u0064estination\":\"\\u006bita.callee\"");
+        put(",\"organization\":\"nx\",\"x\":[[[[-1.5e+10]]]]}");
     }
     put("]");
     put(more);
     put("}]");
     memset(message + length, ' ', NET119_LONGEST - length);
     length = NET119_LONGEST;
+}
+
+/* Decodes `message` into so much room. The text that is due stands in front, and every byte around it is as it was. */
+static void decode(const char *what, size_t given, unsigned number, const char *text) {
+    bool right;
+    room = given;
+    memset(output_room, PAINT, sizeof output_room);
+    run(what, decodes, number);
+    right = decoded.length == strlen(text) && memcmp(output, text, strlen(text)) == 0 && output_room[0] == PAINT;
+    for (size_t i = strlen(text); i < NET119_LONGEST; i++) {
+        right = right && output[i] == PAINT;
+    }
+    if (!right) {
+        printf("%s: the output, or a length of %zu, is not as it must be\n", what, decoded.length);
+        wrong = 1;
+    }
+}
+
+/* Parts to decode: with room to spare, just enough, one byte too little and none. */
+static void parts(void) {
+    static char longest[NET119_LONGEST + 1];
+    length = 0;
+    decode("text, of nothing", 0, NET119_OK, "");
+    decode("text, of nothing, with room", 1, NET119_OK, "");
+    put("h\\u006fst\\/x");
+    decode("text", NET119_LONGEST, NET119_OK, "host/x");
+    decode("text, its own length", 6, NET119_OK, "host/x");
+    decode("text, a byte more", 7, NET119_OK, "host/x");
+    decode("text, a byte less", 5, NET119_NO_ROOM, "");
+    decode("text, no room", 0, NET119_NO_ROOM, "");
+    length = 0;
+    put("\\\"\\\\\\b\\f\\n\\r\\t\\u00e9\\u3042\\uD83D\\ude92");
+    decode("text, each kind of escape", 16, NET119_OK, "\"\\\b\f\n\r\t\xc3\xa9\xe3\x81\x82\xf0\x9f\x9a\x92");
+    decode("text, each kind of escape, a byte less", 15, NET119_NO_ROOM, "");
+    length = 0;
+    put("\\x\\u12");
+    decode("text, no escapes", 6, NET119_OK, "\\x\\u12");
+    length = 0;
+    put("h\\ude92\\ud83d");
+    decode("text, a lone surrogate", NET119_LONGEST, NET119_BAD_VALUE, "");
+    decode("text, a lone surrogate, no room", 0, NET119_BAD_VALUE, "");
+
+    /* The longest part, in plain letters and in escapes alone; and a text that no message has room for. */
+    memset(message, 'x', NET119_LONGEST + 1);
+    memset(longest, 'x', NET119_LONGEST);
+    length = NET119_LONGEST;
+    decode("text, the longest", NET119_LONGEST, NET119_OK, longest);
+    decode("text, the longest, a byte less", NET119_LONGEST - 1, NET119_NO_ROOM, "");
+    length = NET119_LONGEST + 1;
+    decode("text, longer", NET119_LONGEST, NET119_TOO_LONG, "");
+    decode("text, longer, no room", 0, NET119_TOO_LONG, "");
+    put("\\udfff");
+    decode("text, longer, a lone surrogate", NET119_LONGEST, NET119_BAD_VALUE, "");
+    length = 0;
+    while (length < NET119_LONGEST) {
+        put("\\/");
+    }
+    memset(longest, '/', NET119_LONGEST / 2);
+    longest[NET119_LONGEST / 2] = 0;
+    decode("text, all escapes", NET119_LONGEST / 2, NET119_OK, longest);
 }
 
 /* The last level that may open is opened, by arrays and by objects, and holds a number. */
@@ -146,7 +217,11 @@ int main(void) {
     make("request", "C254", "2 MESSAGE", 16, ",\"Message-ID\":\"caller-nishi-1\",\"Content-Type\":\"text/plain\",\"Body\":\"\"" DEEPEST);
     run("MESSAGE", hears, NET119_OK);
     run("reply", replies, NET119_OK);
-    make("request", "C254", "3 BYE", 15, DEEPEST);
+    make("r\\u0065quest", "C\\u003254", "3 MESSAG\\u0045", 16,
+         ",\"Message\\u002dID\":\"caller\\u002dnishi-2\",\"Content-Type\":\"text\\/plain\",\"Body\":\"\\ud83d\"" DEEPEST);
+    run("MESSAGE, escapes", hears, NET119_OK);
+    run("reply, escapes", replies, NET119_OK);
+    make("request", "C254", "4 BYE", 15, DEEPEST);
     host = lend(text_room[0], "other.nx");
     length -= 128; /* room for our entry */
     run("add", adds, NET119_OK);
@@ -154,6 +229,7 @@ int main(void) {
     run("BYE", hears, NET119_OK);
     now += 3600001;
     run("tick, an hour on", ticks, NET119_OK);
+    parts();
 
     printf("lending: at most %zu bytes of stack, of %d\n", most, NET119_STACK);
     return wrong;

@@ -73,10 +73,10 @@ pub type Answer = Result<Outcome, u8>;
 pub fn new_call(invite: &Exchange, now: u64) -> Record {
     Record {
         state: State::Calling,
-        call_id: invite.call_id.to_vec(),
-        user: invite.user.to_vec(),
-        caller_fire: invite.caller_fire.to_vec(),
-        callee_fire: invite.callee_fire.to_vec(),
+        call_id: invite.call_id.clone(),
+        user: invite.user.clone(),
+        caller_fire: invite.caller_fire.clone(),
+        callee_fire: invite.callee_fire.clone(),
         secure: invite.secure,
         invite_number: invite.number,
         caller_highest: invite.number,

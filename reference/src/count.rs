@@ -160,7 +160,7 @@ fn probe_shapes() -> Vec<Shape> {
         (28, 0),
     ];
     shapes.extend(replies.map(|(number, reply)| Shape::EventRefused(number, reply)));
-    shapes.extend([30, 31, 32, 33, 34, 35, 38, 39].map(Shape::NotWritten));
+    shapes.extend([9, 30, 31, 32, 33, 34, 35, 38, 39].map(Shape::NotWritten));
     // Taking an entry off makes no text longer, so 39 is not among these.
     shapes.extend([30, 33, 36, 37, 38].map(Shape::NotRemoved));
     shapes
@@ -187,7 +187,7 @@ fn known_shape(words: &[&str]) -> Option<Shape> {
         ["ok", _, _] => Shape::Written,
         ["ok", _, _, _] => Shape::Removed,
         ["no", number, _] => match number.parse().ok()? {
-            number @ 30.. => Shape::NotWritten(number),
+            number @ (9 | 30..) => Shape::NotWritten(number),
             _ => return None,
         },
         ["no", number, _, rest] => match number.parse().ok()? {
@@ -237,6 +237,7 @@ mod tests {
             ("no 20 0 481", Shape::EventRefused(20, 481)),
             ("ok 12 5b5d", Shape::Written),
             ("no 33 -", Shape::NotWritten(33)),
+            ("no 9 5a", Shape::NotWritten(9)),
             ("ok 12 5b5d 61", Shape::Removed),
             ("no 36 5a -", Shape::NotRemoved(36)),
             ("", Shape::Other),

@@ -2,6 +2,8 @@
 //! right that builds a tree with the place of every value and counts them, or
 //! stops at the first byte that cannot be.
 
+use crate::escapes;
+
 /// Arrays and objects may hold each other to this depth (01 Reading).
 pub const MAX_DEPTH: usize = 8;
 
@@ -73,12 +75,18 @@ impl Value {
         &message[self.start..self.end]
     }
 
-    /// The raw bytes between a string's quotes; nothing for another kind.
-    pub fn string<'a>(&self, message: &'a [u8]) -> Option<&'a [u8]> {
+    /// The bytes between a string's quotes as they stand; nothing for another
+    /// kind.
+    pub fn spelled<'a>(&self, message: &'a [u8]) -> Option<&'a [u8]> {
         match self.kind {
             Kind::String => Some(&message[self.start + 1..self.end - 1]),
             _ => None,
         }
+    }
+
+    /// A string's text; nothing if it is broken, or for another kind.
+    pub fn text(&self, message: &[u8]) -> Option<Vec<u8>> {
+        escapes::text(self.spelled(message)?)
     }
 
     pub fn array(&self) -> Option<&[Value]> {
@@ -97,9 +105,9 @@ impl Value {
 }
 
 impl Span {
-    /// The raw bytes between the quotes.
-    pub fn text<'a>(&self, message: &'a [u8]) -> &'a [u8] {
-        &message[self.start + 1..self.end - 1]
+    /// The string's text; nothing if it is broken.
+    pub fn text(&self, message: &[u8]) -> Option<Vec<u8>> {
+        escapes::text(&message[self.start + 1..self.end - 1])
     }
 }
 
@@ -636,15 +644,17 @@ mod tests {
 
     #[test]
     fn values_know_their_places() {
-        let text = br#" [ "ab" , {"k":12} ] "#;
+        let text = br#" [ "a\/" , {"\u006b":12} ] "#;
         let value = parse(text).unwrap();
         let elements = value.array().unwrap();
         assert_eq!(value.raw(text), &text[1..text.len() - 1]);
-        assert_eq!(elements[0].string(text), Some(&b"ab"[..]));
-        assert_eq!(elements[1].raw(text), br#"{"k":12}"#);
+        assert_eq!(elements[0].spelled(text), Some(&b"a\\/"[..]));
+        assert_eq!(elements[0].text(text), Some(b"a/".to_vec()));
+        assert_eq!(elements[1].raw(text), br#"{"\u006b":12}"#);
         let member = &elements[1].object().unwrap()[0];
-        assert_eq!(member.name.text(text), b"k");
+        assert_eq!(member.name.text(text), Some(b"k".to_vec()));
         assert_eq!(member.value.raw(text), b"12");
-        assert_eq!(member.value.string(text), None);
+        assert_eq!(member.value.spelled(text), None);
+        assert_eq!(member.value.text(text), None);
     }
 }

@@ -117,6 +117,7 @@ mod tests {
             ("tick ", 9),
             ("tick A", 9),
             ("tick A1\r", 9),
+            ("tick A\\u0031", 9),
             ("tick  A1", 9),
             ("Tick A1", 4),
             ("tick\tA1", 4),

@@ -52,7 +52,7 @@ pub fn message_on_good_table(image: &mut [u8], ceiling: u32, now: u64, bytes: &[
         Message::Response(exchange, status) => (exchange, Event::Response(exchange, *status)),
         Message::Probe => return Err(refused(28, 0)),
     };
-    let answer = match (table::find(image, exchange.call_id), event) {
+    let answer = match (table::find(image, &exchange.call_id), event) {
         (None, Event::Request(invite)) if invite.method == Method::Invite => {
             start(image, invite, now)
         }
@@ -593,6 +593,36 @@ mod tests {
         assert_eq!(table::find(&image, b"C1"), Some(1));
         assert_eq!(message(&mut image, 7, &invite("C2")), yes(Word::Pass, 1));
         assert_eq!(table::find(&image, b"C2"), Some(0));
+    }
+
+    /// 02 §2: records hold texts, whatever letters they came in, and a tick's
+    /// Call-ID is bytes as they are.
+    #[test]
+    fn calls_in_other_letters() {
+        let spelled = |sample: Sample| {
+            sample
+                .of_call(r"\u0041\u0031.nx")
+                .with("From", r#""net119:\u0075\u0031@nishi.caller""#)
+                .with("To", r#""net119:fire@kit\u0061.callee""#)
+                .bytes()
+        };
+        let mut plain = table::blank_of(1);
+        let mut image = plain.clone();
+        let invite = Sample::request("3 INVITE");
+        assert_eq!(message(&mut plain, 5, &invite.bytes()), yes(Word::Pass, 1));
+        let invite = spelled(invite);
+        assert_eq!(message(&mut image, 5, &invite), yes(Word::Pass, 1));
+        assert_eq!(image, plain);
+        assert_eq!(message(&mut plain, 6, &invite), yes(Word::Repeat, 1));
+        let ringing = Sample::response("3 INVITE", "18\\u0030 Ringing");
+        assert_eq!(
+            message(&mut plain, 7, &spelled(ringing)),
+            yes(Word::Pass, 2)
+        );
+        let other = Sample::request("3 CANCEL").with("From", r#""net119:\u00752@nishi.caller""#);
+        assert_eq!(message(&mut plain, 8, &other.bytes()), no(21, 481));
+        assert_eq!(tick(&mut plain, 8, br"\u0041\u0031.nx"), no(9, 0));
+        assert_eq!(tick(&mut plain, 8, b"A1.nx"), yes(Word::None, 2));
     }
 
     #[test]

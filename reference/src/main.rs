@@ -4,6 +4,7 @@
 
 mod call;
 mod count;
+mod escapes;
 mod fields;
 mod gen;
 mod hex;

@@ -1,6 +1,7 @@
 //! Reading: from bytes to a message, or to the first refusal of rows 2 to 10
 //! of 01 Reading and 02 §9's 11 with its place, and how many values were read.
 
+use crate::escapes;
 use crate::fields::{self, *};
 use crate::json::{self, Kind, Member, Text, Value};
 use crate::rules::{self, Address, ContentType, Method};
@@ -47,18 +48,18 @@ impl Side {
     pub const ALL: [Side; 2] = [Side::Caller, Side::Callee];
 }
 
-/// What a request and its responses have in common. All slices are parts of
-/// the message itself.
+/// What a request and its responses have in common. Texts are decoded
+/// (02 §2); all slices are parts of the message itself.
 #[derive(Debug)]
 pub struct Exchange<'a> {
     pub number: u32,
     pub method: Method,
     /// The side that sent the request.
     pub from: Side,
-    pub user: &'a [u8],
-    pub caller_fire: &'a [u8],
-    pub callee_fire: &'a [u8],
-    pub call_id: &'a [u8],
+    pub user: Vec<u8>,
+    pub caller_fire: Vec<u8>,
+    pub callee_fire: Vec<u8>,
+    pub call_id: Vec<u8>,
     /// Was a Secure-Call of true there? Only a new INVITE's is ever used.
     pub secure: bool,
     pub values: CopiedValues<'a>,
@@ -75,12 +76,14 @@ pub struct CopiedValues<'a> {
     pub via: &'a [u8],
 }
 
-/// One object of a Via: where it ends in the message, and two of its texts.
+/// One object of a Via: where it ends in the message, two of its texts, and
+/// the host as it stands.
 #[derive(Debug)]
 pub struct Hop<'a> {
     pub end: usize,
-    pub host: &'a [u8],
-    pub destination: &'a [u8],
+    pub host: Vec<u8>,
+    pub destination: Vec<u8>,
+    pub spelled_host: &'a [u8],
 }
 
 /// The checks of 01 Reading, in its order, under a ceiling of values.
@@ -138,7 +141,7 @@ fn envelope<'v>(bytes: &[u8], outermost: &'v Value) -> Option<(Tag, &'v [Member]
     let [first, second] = outermost.array()? else {
         return None;
     };
-    let tag = Tag::of_name(first.string(bytes)?)?;
+    let tag = Tag::of_name(&first.text(bytes)?)?;
     Some((tag, second.object()?))
 }
 
@@ -150,11 +153,13 @@ struct Draft<'a, 'v> {
 }
 
 impl<'a, 'v> Draft<'a, 'v> {
-    /// Row 7: sorts the members by number, known names only.
+    /// Row 7: sorts the members by number, known names only; a broken name is
+    /// none.
     fn collect(bytes: &'a [u8], tag: Tag, members: &'v [Member]) -> Result<Self, Refusal> {
         let mut values = [None; 27];
         for member in members {
-            let Some(number) = fields::number_of(member.name.text(bytes)) else {
+            let name = member.name.text(bytes);
+            let Some(number) = name.and_then(|name| fields::number_of(&name)) else {
                 continue;
             };
             if values[number].is_some() {
@@ -192,19 +197,25 @@ impl<'a, 'v> Draft<'a, 'v> {
         }
     }
 
-    /// The text of a field that is there and a string.
-    fn text(&self, field: usize) -> Option<&'a [u8]> {
-        self.values[field]?.string(self.bytes)
+    /// The text of a field that is there, a string and not broken.
+    fn text(&self, field: usize) -> Option<Vec<u8>> {
+        self.values[field]?.text(self.bytes)
     }
 
     fn cseq(&self) -> Option<(u32, Method)> {
-        rules::parse_cseq(self.text(CSEQ)?)
+        rules::parse_cseq(&self.text(CSEQ)?)
+    }
+
+    /// The code of a string that begins as a Status; the rest is free.
+    fn status(&self, value: &Value) -> Option<u16> {
+        rules::parse_status(&escapes::beginning(value.spelled(self.bytes)?))
     }
 
     /// 01 Reading, 'Rules': does this value meet its field's rule?
     fn meets_rule(&self, field: usize, value: &Value) -> bool {
         match field {
             VIA => hops(self.bytes, value).is_some(),
+            STATUS if self.tag != Tag::Pong => self.status(value).is_some(),
             BODY => self.is_body(value),
             CALL_TEST => rules::is_one_of(&rules::CALL_TESTS, value.raw(self.bytes)),
             SECURE_CALL => rules::is_one_of(&rules::SECURE_CALLS, value.raw(self.bytes)),
@@ -215,20 +226,19 @@ impl<'a, 'v> Draft<'a, 'v> {
                 .array()
                 .is_some_and(|options| options.iter().all(|option| option.kind == Kind::String)),
             _ => value
-                .string(self.bytes)
-                .is_some_and(|text| self.text_meets_rule(field, text)),
+                .text(self.bytes)
+                .is_some_and(|text| self.text_meets_rule(field, &text)),
         }
     }
 
-    /// The same for the fields whose rule is on a string's raw bytes.
+    /// The same for the fields whose rule is on a string's whole text.
     fn text_meets_rule(&self, field: usize, text: &[u8]) -> bool {
         match field {
             CSEQ => rules::parse_cseq(text).is_some(),
             TO | FROM => rules::parse_address(text).is_some(),
             DATE => rules::is_date(text),
             CALL_ID | SESSION_ID => rules::is_call_id(text),
-            STATUS if self.tag == Tag::Pong => rules::is_one_of(&rules::AVAILABILITIES, text),
-            STATUS => rules::parse_status(text).is_some(),
+            STATUS => rules::is_one_of(&rules::AVAILABILITIES, text),
             MESSAGE_ID => rules::is_message_id(text),
             CONTENT_TYPE => self.content_type().is_some(),
             REFER_TO | REFERRED_BY => rules::is_fire_id(text),
@@ -245,24 +255,23 @@ impl<'a, 'v> Draft<'a, 'v> {
     /// What the Content-Type says of the Body, if it is one that the method allows.
     fn content_type(&self) -> Option<ContentType> {
         let (_, method) = self.cseq()?;
-        ContentType::of_method(method, self.text(CONTENT_TYPE)?)
+        ContentType::of_method(method, &self.text(CONTENT_TYPE)?)
     }
 
     /// The Body's rule. Without a good Content-Type it does not matter: that
     /// field has the lower number.
     fn is_body(&self, value: &Value) -> bool {
-        let text = value.string(self.bytes);
         match self.content_type() {
             None => false,
-            Some(ContentType::Plain) => text.is_some(),
-            Some(ContentType::TextImage | ContentType::MessageImage) => {
-                text.is_some_and(rules::is_image)
-            }
-            Some(ContentType::Presence) => {
-                text.is_some_and(|text| rules::is_one_of(&rules::PRESENCES, text))
-            }
+            Some(ContentType::Plain) => value.kind == Kind::String,
+            Some(ContentType::TextImage | ContentType::MessageImage) => value
+                .spelled(self.bytes)
+                .is_some_and(|spelled| rules::is_image(&escapes::beginning(spelled))),
+            Some(ContentType::Presence) => value
+                .text(self.bytes)
+                .is_some_and(|text| rules::is_one_of(&rules::PRESENCES, &text)),
             Some(ContentType::Location) => value.object().is_some(),
-            Some(ContentType::Refer) => text.and_then(rules::parse_status).is_some(),
+            Some(ContentType::Refer) => self.status(value).is_some(),
         }
     }
 
@@ -276,7 +285,7 @@ impl<'a, 'v> Draft<'a, 'v> {
                 .request_agrees(&exchange)
                 .then_some(Message::Request(exchange)),
             _ => {
-                let status = rules::parse_status(self.text(STATUS)?)?;
+                let status = self.status(self.values[STATUS]?)?;
                 let fits = status != 202 || exchange.method == Method::Refer;
                 fits.then_some(Message::Response(exchange, status))
             }
@@ -291,9 +300,9 @@ impl<'a, 'v> Draft<'a, 'v> {
     /// All fields read here have met their rules.
     fn exchange(&self) -> Option<Exchange<'a>> {
         let (number, method) = self.cseq()?;
-        let from = rules::parse_address(self.text(FROM)?)?;
-        let to = rules::parse_address(self.text(TO)?)?;
-        let (side, user, caller_fire, callee_fire) = match (from, to) {
+        let (from, to) = (self.text(FROM)?, self.text(TO)?);
+        let addresses = (rules::parse_address(&from)?, rules::parse_address(&to)?);
+        let (side, user, caller_fire, callee_fire) = match addresses {
             (Address::Caller { user, fire }, Address::Callee { fire: callee }) => {
                 (Side::Caller, user, fire, callee)
             }
@@ -310,9 +319,9 @@ impl<'a, 'v> Draft<'a, 'v> {
             number,
             method,
             from: side,
-            user,
-            caller_fire,
-            callee_fire,
+            user: user.to_vec(),
+            caller_fire: caller_fire.to_vec(),
+            callee_fire: callee_fire.to_vec(),
             call_id: self.text(CALL_ID)?,
             secure: self.values[SECURE_CALL].is_some_and(|value| value.kind == Kind::True),
             values: CopiedValues {
@@ -330,8 +339,8 @@ impl<'a, 'v> Draft<'a, 'v> {
     fn request_agrees(&self, exchange: &Exchange) -> bool {
         match exchange.method {
             Method::Invite => {
-                self.text(REQUEST_SERVICE) != Some(b"callback")
-                    || self.text(CALL_MODE) != Some(b"training")
+                let is = |field: usize, word: &[u8]| self.text(field).as_deref() == Some(word);
+                !is(REQUEST_SERVICE, b"callback") || !is(CALL_MODE, b"training")
             }
             Method::Message => {
                 exchange.from == Side::Caller || self.content_type() == Some(ContentType::Plain)
@@ -362,26 +371,28 @@ fn hops<'a>(bytes: &'a [u8], via: &Value) -> Option<Vec<Hop<'a>>> {
 fn hop<'a>(bytes: &'a [u8], object: &Value) -> Option<Hop<'a>> {
     let members = object.object()?;
     let [host, destination, organization] =
-        rules::HOP_MEMBERS.map(|name| only_text(bytes, members, name.as_bytes()));
-    let (host, destination, organization) = (host?, destination?, organization?);
-    let good = rules::is_host(host)
-        && rules::is_destination(destination)
-        && rules::is_organization(organization);
-    good.then_some(Hop {
+        rules::HOP_MEMBERS.map(|name| only_value(bytes, members, name.as_bytes()));
+    let organization = organization?.text(bytes)?;
+    let hop = Hop {
         end: object.end,
-        host,
-        destination,
-    })
+        host: host?.text(bytes)?,
+        destination: destination?.text(bytes)?,
+        spelled_host: host?.spelled(bytes)?,
+    };
+    let good = rules::is_host(&hop.host)
+        && rules::is_destination(&hop.destination)
+        && rules::is_organization(&organization);
+    good.then_some(hop)
 }
 
-/// The text of the one member of this name: none if it is missing, there
-/// twice, or not a string.
-fn only_text<'a>(bytes: &'a [u8], members: &[Member], name: &[u8]) -> Option<&'a [u8]> {
+/// The value of the one member of this name: none if it is missing or there
+/// twice.
+fn only_value<'v>(bytes: &[u8], members: &'v [Member], name: &[u8]) -> Option<&'v Value> {
     let mut named = members
         .iter()
-        .filter(|member| member.name.text(bytes) == name);
+        .filter(|member| member.name.text(bytes).as_deref() == Some(name));
     match (named.next(), named.next()) {
-        (Some(member), None) => member.value.string(bytes),
+        (Some(member), None) => Some(&member.value),
         _ => None,
     }
 }
@@ -559,13 +570,15 @@ mod tests {
             "[{},\"request\"]",
             "[\"Request\",{}]",
             "[\"request \",{}]",
-            "[\"\\u0072equest\",{}]",
+            "[\"\\u0052equest\",{}]",
+            "[\"request\\ud800\",{}]",
             "[null,{}]",
             "[\"\",{}]",
         ] {
             assert_eq!(verdict(text.as_bytes()), Some((6, 0)), "{text}");
         }
         assert_eq!(verdict(b"[\"request\",{}]"), Some((8, 1)));
+        assert_eq!(verdict(b"[\"\\u0072eque\\u0073t\",{}]"), Some((8, 1)));
         assert_eq!(verdict(b" [ \"ping\" , { } ] "), Some((8, 4)));
     }
 
@@ -574,9 +587,9 @@ mod tests {
         let text = r#"["ping",{"To":1,"x":1,"x":2,"Date":1,"To":2,"Date":2}]"#;
         let place = text.rfind("\"To\"").unwrap();
         assert_eq!(verdict(text.as_bytes()), Some((7, place)));
-        // Unknown names may be doubled, and names are compared raw.
+        // Unknown names may be doubled.
         assert_eq!(of(Sample::ping().and("x", "1").and("x", "1")), None);
-        assert_eq!(of(Sample::ping().and("\\u0044ate", "1")), None);
+        assert_eq!(of(Sample::ping().and("\\u0064ate", "1")), None);
         // Every known name counts, even where the field itself is ignored.
         for name in fields::NAMES {
             let doubled = Sample::ping().without(name).and(name, "1").and(name, "1");
@@ -677,21 +690,32 @@ mod tests {
         rule(
             bye.clone(),
             "CSeq",
-            &["\"4294967295 BYE\"", "\"1 BYE\""],
+            &["\"4294967295 BYE\"", "\"1 BYE\"", "\"1\\u0020B\\u0059E\""],
             &[
                 "\"4294967296 BYE\"",
                 "\"01 BYE\"",
                 "\"0 BYE\"",
                 "1",
                 "null",
-                "\"1 B\\u0059E\"",
+                "\"1 B\\u0079E\"",
+                "\"\\u0030\\u0031 BYE\"",
+                "\"1 BYE\\ud800\"",
             ],
         );
         rule(
             bye.clone(),
             "To",
-            &[CALLEE, "\"net119:fire@a1.callee\""],
-            &["\"net119:u1@kita.callee\"", "{}", "\"\""],
+            &[
+                CALLEE,
+                "\"net119:fire@a1.callee\"",
+                "\"net119:\\u0066ire\\u0040a1.callee\"",
+            ],
+            &[
+                "\"net119:u1@kita.callee\"",
+                "{}",
+                "\"\"",
+                "\"net119:fire@a1\\udc00.callee\"",
+            ],
         );
         rule(
             bye.clone(),
@@ -702,38 +726,70 @@ mod tests {
         rule(
             bye.clone(),
             "Date",
-            &["\"2000-02-29T00:00:00+0000\""],
-            &["\"1900-02-29T00:00:00+0000\"", "0"],
+            &[
+                "\"2000-02-29T00:00:00+0000\"",
+                "\"2000-02-29T00\\u003a00:00\\u002B0000\"",
+            ],
+            &[
+                "\"1900-02-29T00:00:00+0000\"",
+                "0",
+                "\"19\\u00300-02-29T00:00:00+0000\"",
+            ],
         );
         rule(
             bye.clone(),
             "Call-ID",
-            &["\"A1\"", &format!("\"{}\"", "A".repeat(64))],
+            &[
+                "\"A1\"",
+                &quoted(&"A".repeat(64)),
+                "\"A\\u0031\"",
+                &quoted(&"\\u0041".repeat(64)),
+            ],
             &[
                 "\"A.\"",
                 "\"A\"",
-                &format!("\"{}\"", "A".repeat(65)),
-                "\"A\\u0031\"",
+                &quoted(&"A".repeat(65)),
+                "\"A\\u002e\"",
+                &quoted(&"\\u0041".repeat(65)),
+                "\"A\\ud8001\"",
             ],
         );
         rule(
             Sample::response("2 BYE", "200 OK"),
             "Status",
-            &["\"100 \"", "\"699 a\\n\\\"\""],
+            &[
+                "\"100 \"",
+                "\"699 a\\n\\\"\"",
+                "\"2\\u00300\\u0020OK\"",
+                "\"200 \\ud800\"",
+                "\"200\\u0020\\udc00\\ud800\"",
+            ],
             &[
                 "\"099 x\"",
                 "\"700 x\"",
                 "\"200\"",
                 "200",
                 "\"available\"",
-                "\"2\\u00300 OK\"",
+                "\"2\\u004f0 OK\"",
+                "\"200\\ud800 OK\"",
+                "\"\\udc00200 OK\"",
             ],
         );
         rule(
             Sample::pong(),
             "Status",
-            &["\"available\"", "\"unavailable\""],
-            &["\"200 OK\"", "\"Available\"", "true", "\"available \""],
+            &[
+                "\"available\"",
+                "\"unavailable\"",
+                "\"\\u0075n\\u0061vailable\"",
+            ],
+            &[
+                "\"200 OK\"",
+                "\"Available\"",
+                "true",
+                "\"available \"",
+                "\"available\\ud800\"",
+            ],
         );
         rule(
             Sample::pong(),
@@ -767,6 +823,16 @@ mod tests {
             entry("a", "!", "nx"),
             entry(&long(253), &long(64), &long(10)),
             entry("-.", "~[]{}", "a-b"),
+            entry("\\u0068\\u002e1", "\\/queue\\u002Fr", "n\\u002dx"),
+            entry(
+                &"\\u0061".repeat(253),
+                &"\\/".repeat(64),
+                &"\\u0061".repeat(10),
+            ),
+            r#"[{"\u0068ost":"h","destinatio\u006E":"d","organization":"nx"}]"#.into(),
+            // Broken names are no repeat, equal ones neither.
+            r#"[{"host\ud800":1,"host\ud800":1,"host":"h","destination":"d","organization":"nx"}]"#
+                .into(),
             r#" [ { "organization":"nx","x":[],"x":1,"destination":"d","host":"h" } ] "#.into(),
         ];
         let bad = [
@@ -782,6 +848,16 @@ mod tests {
             entry("h", &long(65), "nx"),
             entry("h", "d d", "nx"),
             entry("h", "\\\\", "nx"),
+            entry("h", "\\\"", "nx"),
+            entry("h", "\\u0022", "nx"),
+            entry("h", "d\\u005C", "nx"),
+            entry("h", "d\\u0020", "nx"),
+            entry("h", "d\\u00e9", "nx"),
+            entry(&"\\u0061".repeat(254), "d", "nx"),
+            entry("h", &"\\/".repeat(65), "nx"),
+            entry("h\\ud800", "d", "nx"),
+            entry("h", "\\udc00", "nx"),
+            entry("h", "d", "nx\\udbff"),
             entry("h", "d", "n"),
             entry("h", "d", &long(11)),
             entry("h", "d", "-nx"),
@@ -790,7 +866,8 @@ mod tests {
             r#"[{"host":"h","destination":"d","organization":1}]"#.into(),
             r#"[{"host":"h","host":"h","destination":"d","organization":"nx"}]"#.into(),
             r#"[{"host":"h","destination":"d","organization":"nx"},[]]"#.into(),
-            r#"[{"\u0068ost":"h","destination":"d","organization":"nx"}]"#.into(),
+            r#"[{"host\ud800":"h","destination":"d","organization":"nx"}]"#.into(),
+            r#"[{"host":"h","\u0068ost":"h","destination":"d","organization":"nx"}]"#.into(),
         ];
         let good: Vec<&str> = good.iter().map(|text: &String| text.trim()).collect();
         let bad: Vec<&str> = bad.iter().map(String::as_str).collect();
@@ -823,8 +900,8 @@ mod tests {
         rule(
             invite.clone(),
             "Rescuee",
-            &["\"caller\"", "\"third-party\""],
-            &["\"callee\"", "\"third\\u002dparty\""],
+            &["\"caller\"", "\"third-party\"", "\"third\\u002dparty\""],
+            &["\"callee\"", "\"third\\u005fparty\"", "\"caller\\udfff\""],
         );
         rule(
             invite.clone(),
@@ -847,7 +924,7 @@ mod tests {
         rule(
             invite.clone(),
             "User-Agent",
-            &["\"\"", "\"a\\n\""],
+            &["\"\"", "\"a\\n\"", "\"\\ud800\""],
             &["{}", "1", "null"],
         );
         rule(
@@ -865,8 +942,28 @@ mod tests {
         rule(
             invite,
             "Refer-Memo",
-            &["\"\"", &memo("a", 128), &memo("語", 128), &memo("😀", 128)],
-            &[&memo("a", 129), &memo("語", 129), "\"a\\nb\"", "1"],
+            &[
+                "\"\"",
+                &memo("a", 128),
+                &memo("語", 128),
+                &memo("😀", 128),
+                &memo("\\ud83d\\ude00", 128),
+                &memo("\\u8a9e", 128),
+                "\"a\\t\\b\\\\n\\u0085\\u2028\\u0000\"",
+            ],
+            &[
+                &memo("a", 129),
+                &memo("語", 129),
+                &memo("\\ud83d\\ude00", 129),
+                &memo("\\\\", 129),
+                "\"a\\nb\"",
+                "\"\\r\"",
+                "\"a\\u000a\"",
+                "\"\\u000Da\"",
+                "\"a\\ud83d\"",
+                "\"\\ude00\\ud83d\"",
+                "1",
+            ],
         );
     }
 
@@ -876,30 +973,31 @@ mod tests {
         rule(
             message.clone(),
             "Message-ID",
-            &["\"callee-k_1-Z9\""],
-            &["\"caller-kita-\"", "1", "\"caller-kita-\\u0031\""],
+            &["\"callee-k_1-Z9\"", "\"caller\\u002dkita-\\u0031\""],
+            &["\"caller-kita-\"", "1", "\"caller-kita-\\u002d\""],
         );
         rule(
             message.clone(),
             "Content-Type",
-            &["\"text/plain\""],
+            &["\"text/plain\"", "\"text\\/plain\"", "\"text\\u002Fplain\""],
             &[
                 "\"text/html\"",
                 "\"message/vnd.net119.refer\"",
                 "1",
-                "\"text\\/plain\"",
+                "\"text\\\\/plain\"",
+                "\"text/plain\\ud800\"",
             ],
         );
         rule(
             message.clone(),
             "Body",
-            &["\"\"", "\"a\\n\\u3042\"", "\"https://\""],
+            &["\"\"", "\"a\\n\\u3042\"", "\"https://\"", "\"\\ud800\""],
             &["{}", "1", "null", "[]"],
         );
         rule(
             message,
             "Options",
-            &["[]", "[\"a\",\"\\n\"]"],
+            &["[]", "[\"a\",\"\\n\"]", "[\"\\udc00\"]"],
             &["{}", "[1]", "[\"a\",null]", "\"a\"", "[[]]"],
         );
         let notify = |kind: &str| {
@@ -920,8 +1018,14 @@ mod tests {
         rule(
             notify("presence"),
             "Body",
-            &["\"online\"", "\"offline\""],
-            &["\"Online\"", "\"on\\u006cine\"", "{}", "\"\""],
+            &["\"online\"", "\"offline\"", "\"on\\u006cine\""],
+            &[
+                "\"Online\"",
+                "\"on\\u004cine\"",
+                "\"online\\ud800\"",
+                "{}",
+                "\"\"",
+            ],
         );
         rule(
             notify("location"),
@@ -932,8 +1036,14 @@ mod tests {
         rule(
             notify("refer"),
             "Body",
-            &["\"180 Ringing\"", "\"202 \\n\"", "\"699 \""],
-            &["\"99 x\"", "\"700 x\"", "\"180\"", "180"],
+            &[
+                "\"180 Ringing\"",
+                "\"202 \\n\"",
+                "\"699 \"",
+                "\"\\u0031\\u00380 Ringing\"",
+                "\"180 \\ud800\"",
+            ],
+            &["\"99 x\"", "\"700 x\"", "\"180\"", "180", "\"180\\ud800 \""],
         );
         // A broken Content-Type is the lower field, whatever the Body is.
         let both = notify("x").with("Body", "1");
@@ -947,7 +1057,12 @@ mod tests {
             &["\"a\"", "\"A1\"", "1"],
         );
         rule(refer.clone(), "Referred-By", &["\"a1\""], &["\"a1_\"", "1"]);
-        rule(refer, "Refer-Memo", &["\"\""], &["\"\\\\\"", "null"]);
+        rule(
+            refer,
+            "Refer-Memo",
+            &["\"\"", "\"\\\\\""],
+            &["\"\\n\"", "null"],
+        );
     }
 
     /// Both names of an image, as values.
@@ -965,7 +1080,8 @@ mod tests {
             let callees = image.clone().sent_by_callee();
             assert_eq!(of(image.clone()), None);
             assert_eq!(of(callees.clone()), Some((10, 0)));
-            for good in texts::IMAGES {
+            let spelled = ["https:\\/\\/", "\\u0068ttps:\\u002F/x", "https:/\\/\\udfff"];
+            for good in [texts::IMAGES, &spelled].concat() {
                 rule(image.clone(), "Body", &[&quoted(good)], &[]);
             }
             // 9 before a callee's 10.
@@ -1013,6 +1129,61 @@ mod tests {
                 rule(sample, "Content-Type", &[], &[&quoted(near)]);
             }
         }
+    }
+
+    /// 02 §2: a name spelled two ways is there twice, a broken one is none.
+    #[test]
+    fn names_in_other_letters() {
+        for number in 1..=26 {
+            let name = fields::NAMES[number - 1];
+            let (first, rest) = name.split_at(1);
+            let spelled = format!("\\u{:04x}{rest}", first.as_bytes()[0]);
+            let ping = Sample::ping().without(name);
+            for [one, other] in [[name, &spelled], [&spelled, name], [&spelled, &spelled]] {
+                let doubled = ping.clone().and(one, "1").and(other, "1");
+                let place = doubled.text().rfind(&quoted(other)).unwrap();
+                assert_eq!(of(doubled), Some((7, place)), "{one} {other}");
+            }
+            let broken = format!("{name}\\ud800");
+            let missing = of(ping.clone());
+            let doubled = ping.and(&broken, "1").and(&broken, "1");
+            assert_eq!(of(doubled), missing, "{name}");
+        }
+        let date = "\"2000-02-29T00:00:00+0000\"";
+        let ping = Sample::ping().without("Date");
+        assert_eq!(of(ping.clone().and("Dat\\u0065", date)), None);
+        assert_eq!(of(ping.clone().and("Date\\udc00", date)), Some((8, 4)));
+        let broken = ping.and("\\u0044ate", "1");
+        let place = value_place(&broken, "\\u0044ate");
+        assert_eq!(of(broken), Some((9, place)));
+    }
+
+    #[test]
+    fn row_10_in_other_letters() {
+        let ten = Some((10, 0));
+        let invite = Sample::request("1 INVITE")
+            .with("Request-Service", "\"c\\u0061llback\"")
+            .with("Call-Mode", "\"trainin\\u0067\"");
+        assert_eq!(of(invite), ten);
+        assert_eq!(of(Sample::request("\\u0032 CALLBACK")), ten);
+        let message = Sample::request("1 MESSAGE").sent_by_callee();
+        let plain = message.clone().with("Content-Type", "\"text\\/plain\"");
+        assert_eq!(of(plain), None);
+        let image = message
+            .with("Content-Type", "\"text\\/vnd.net119.uri.image\"")
+            .with("Body", "\"https:\\/\\/x\"");
+        assert_eq!(of(image), ten);
+        assert_eq!(of(Sample::response("1 BYE", "20\\u0032 OK")), ten);
+        let caller = "\"net119:u1@nishi.c\\u0061ller\"";
+        assert_eq!(of(Sample::request("1 BYE").with("To", caller)), ten);
+    }
+
+    /// Call-Test and Secure-Call are no strings.
+    #[test]
+    fn what_is_no_string_has_no_escapes() {
+        let invite = Sample::request("1 INVITE");
+        rule(invite.clone(), "Call-Test", &[], &["\"0\"", "\"\\u0030\""]);
+        rule(invite, "Secure-Call", &[], &["\"tru\\u0065\""]);
     }
 
     #[test]
@@ -1078,6 +1249,33 @@ mod tests {
         assert_eq!(exchange.values.cseq, b"\"7 BYE\"");
         assert_eq!(exchange.via.len(), 1);
         assert_eq!(exchange.via[0].host, b"h1.nx");
+        assert_eq!(exchange.via[0].spelled_host, b"h1.nx");
         assert_eq!(bytes[exchange.via[0].end - 1], b'}');
+    }
+
+    #[test]
+    fn what_is_read_in_other_letters() {
+        let hop = r#"[{"host":"\u00681","destination":"\/q","organization":"nx"}]"#;
+        let bytes = Sample::request("\\u0037 BYE")
+            .with("From", "\"net119:u\\u0031@\\u006eishi.caller\"")
+            .with("To", "\"net119:fire@k\\u0069ta.callee\"")
+            .of_call("A\\u0031.nx")
+            .with("Via", hop)
+            .bytes();
+        let Ok(Message::Request(exchange)) = read(&bytes, CEILING).answer else {
+            panic!("a request");
+        };
+        assert_eq!((exchange.number, exchange.method), (7, Method::Bye));
+        assert_eq!(exchange.from, Side::Caller);
+        assert_eq!(exchange.user, b"u1");
+        assert_eq!(exchange.caller_fire, b"nishi");
+        assert_eq!(exchange.callee_fire, b"kita");
+        assert_eq!(exchange.call_id, b"A1.nx");
+        assert_eq!(exchange.values.cseq, br#""\u0037 BYE""#);
+        assert_eq!(exchange.values.call_id, br#""A\u0031.nx""#);
+        assert_eq!(exchange.values.via, hop.as_bytes());
+        assert_eq!(exchange.via[0].host, b"h1");
+        assert_eq!(exchange.via[0].destination, b"/q");
+        assert_eq!(exchange.via[0].spelled_host, br"\u00681");
     }
 }

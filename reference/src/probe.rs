@@ -4,7 +4,8 @@
 //! Where the description leaves a choice: words are parted by exactly one
 //! space and none is empty; numbers are one or more digits, leading zeros
 //! allowed while the value fits; hex is lower-case and of even length; a tick's
-//! Call-ID, a date and each text of a path have a message's limit.
+//! Call-ID, a date, each text of a path and what `text` decodes have a
+//! message's limit.
 
 use crate::hex;
 use crate::keeper;
@@ -89,6 +90,11 @@ impl Probe {
                 out.push(b' ');
                 hex::encode(result.map_or(&[], |(_, host)| host), out);
             }
+            Command::Text(room, spelled) => {
+                let mut room = vec![FILL; room];
+                let result = writing::text(&spelled, &mut room);
+                put_written(out, result, &room);
+            }
         }
     }
 }
@@ -136,6 +142,7 @@ enum Command {
     Reply(u16, Vec<u8>, usize, Vec<u8>),
     Add(OwnPath, usize, Vec<u8>),
     Remove(OwnPath, usize, Vec<u8>),
+    Text(usize, Vec<u8>),
 }
 
 impl Command {
@@ -172,6 +179,7 @@ impl Command {
                 room_of(room)?,
                 bytes_of(bytes)?,
             ),
+            [b"text", room, spelled] => Command::Text(room_of(room)?, bytes_of(spelled)?),
             _ => return None,
         };
         Some(command)
@@ -341,6 +349,13 @@ mod tests {
             "reply 200 - 40001 -",
             "add - - - 40001 -",
             "remove - - 0 -",
+            "text",
+            "text -",
+            "text 1",
+            "text 5c6e 1",
+            "text 40001 5c",
+            "text 1 5C",
+            "text 1 5c 1",
         ] {
             assert_eq!(answer(line), "?", "{line}");
         }
@@ -443,5 +458,37 @@ mod tests {
             .bytes();
         let off = answer(&format!("remove 61 61 6161 400 {}", hexed(&response)));
         assert!(off.starts_with("ok ") && off.ends_with(" 68312e6e78"));
+    }
+
+    #[test]
+    fn texts() {
+        for (spelled, room, wanted) in [
+            ("", 0, "ok 0 -"),
+            ("", 1, "ok 0 5a"),
+            (r"a\/b", 3, "ok 3 612f62"),
+            (r"a\/b", 5, "ok 3 612f625a5a"),
+            (r"a\/b", 2, "no 33 5a5a"),
+            (r"\ud83d\ude00", 4, "ok 4 f09f9880"),
+            (r"a\ud83d", 2, "no 9 5a5a"),
+            (r"a\ud83d", 0, "no 9 -"),
+            // What begins no escape stands for itself.
+            (r"\x\u12", 6, "ok 6 5c785c753132"),
+        ] {
+            let line = format!("text {room} {}", hexed(spelled.as_bytes()));
+            assert_eq!(answer(&line), wanted, "{spelled}");
+        }
+        assert_eq!(answer("text 2 ff5c6e"), "ok 2 ff0a");
+        let most = |count: usize| format!("text 40000 {}", "5c".repeat(count));
+        assert!(answer(&most(40_000)).starts_with("ok 20000 5c"));
+        assert_eq!(answer(&most(40_001)), "?");
+        // The text is held to a message's length, however it is spelled.
+        let long = |room: usize, spelled: &str, count: usize| {
+            let spelled = hexed(&[spelled.as_bytes(), &vec![b'a'; count]].concat());
+            answer(&format!("text {room} {spelled}"))
+        };
+        assert!(long(40_000, r"\u0061", 32_767).starts_with("ok 32768 61"));
+        assert_eq!(long(1, r"\u0061", 32_767), "no 33 5a");
+        assert_eq!(long(1, r"\u0061", 32_768), "no 39 5a");
+        assert_eq!(long(1, r"\ud83d", 32_768), "no 9 5a");
     }
 }

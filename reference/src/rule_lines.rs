@@ -1,6 +1,6 @@
 //! The rules of 01 Reading one by one, and the constant tables beside them:
-//! each line is `NAME HEX`, a question and the bytes it is asked of. HEX may be
-//! empty; what is not such a line is answered `?`.
+//! each line is `NAME HEX`, a question and the bytes it is asked of: a text as
+//! it is when decoded. HEX may be empty; what is not such a line is answered `?`.
 
 use crate::fields::{self, Tag};
 use crate::hex;
@@ -201,7 +201,8 @@ mod tests {
                 "message/vnd.net119.uri.image",
             ),
             ("image", "https://", "http://x"),
-            ("memo", "a\"b", "a\\b"),
+            ("memo", "a\"b", "a\nb"),
+            ("memo", "a\\b", "a\rb"),
             ("language", "ja", "JA"),
         ] {
             assert_eq!(of(name, good.as_bytes()), "yes", "{name}");

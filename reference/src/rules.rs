@@ -1,6 +1,4 @@
-//! The rules of 01 Reading for single texts: each sees only the raw bytes
-//! between the quotes. No class of bytes below holds a backslash or a quote,
-//! so an escape breaks each of these rules by itself.
+//! The rules of 01 Reading for single texts, whose escapes are decoded (02 §2).
 
 use crate::utf8;
 
@@ -289,9 +287,10 @@ pub fn is_language(text: &[u8]) -> bool {
     made_of(text, 2, 2, |b| b.is_ascii_lowercase())
 }
 
-/// Refer-Memo: free but for its length and for escapes.
+/// Refer-Memo: free but for its length and for line breaks.
 pub fn is_memo(text: &[u8]) -> bool {
-    !text.contains(&b'\\') && utf8::code_points(text) <= MAX_MEMO
+    let one_line = !text.iter().any(|byte| matches!(byte, b'\n' | b'\r'));
+    one_line && utf8::code_points(text) <= MAX_MEMO
 }
 
 /// The Body of an image.
@@ -515,7 +514,10 @@ mod tests {
             assert!(!is_memo(unit.repeat(129).as_bytes()));
         }
         assert!(is_memo(b""));
-        assert!(!is_memo(b"a\\nb"));
+        assert!(is_memo(b"a\\n\"b\t\x0b\x0c\xc2\x85\xe2\x80\xa8"));
+        for bad in ["\n", "\r", "a\nb", "a\r", "\r\n"] {
+            assert!(!is_memo(bad.as_bytes()), "{bad:?}");
+        }
         // Bytes that are no UTF-8 count by their kind.
         assert!(is_memo(&[0x80; 500]));
         assert!(is_memo(&[0xff; 128]));

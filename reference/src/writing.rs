@@ -1,7 +1,9 @@
-//! Writing (01 Writing): replies, and our own Via entry put on and taken off.
-//! Each writer answers the result's length and leaves the bytes past it alone,
-//! or answers a number from 30 to 39 and leaves the whole output alone.
+//! Writing (01 Writing): replies, our own Via entry put on and taken off, and
+//! the text of a part of a message (02 §2). Each writer answers the result's
+//! length and leaves the bytes past it alone, or answers a number and leaves
+//! the whole output alone.
 
+use crate::escapes;
 use crate::message::{self, Exchange, Hop, Message, CEILING, MAX_LENGTH, MAX_VIA};
 use crate::rules::{self, Method};
 
@@ -124,7 +126,7 @@ pub fn add(request: &[u8], path: Path, out: &mut [u8]) -> Result<usize, u8> {
 }
 
 /// Takes our entry off a response. Besides the length it answers the next
-/// host, a part of the message.
+/// host as it stands, a part of the message.
 pub fn remove<'m>(response: &'m [u8], path: Path, out: &mut [u8]) -> Result<(usize, &'m [u8]), u8> {
     if !path.meets_rules() {
         return Err(38);
@@ -140,7 +142,14 @@ pub fn remove<'m>(response: &'m [u8], path: Path, out: &mut [u8]) -> Result<(usi
     }
     let result = [&response[..next.end], &response[last.end..]].concat();
     let length = hand_over(&result, out)?;
-    Ok((length, next.host))
+    Ok((length, next.spelled_host))
+}
+
+/// Decodes what stands between a string's quotes, such as the next host: 9 for
+/// a broken text, then 39 and 33.
+pub fn text(spelled: &[u8], out: &mut [u8]) -> Result<usize, u8> {
+    let text = escapes::text(spelled).ok_or(9)?;
+    hand_over(&text, out)
 }
 
 fn accepted_request(bytes: &[u8]) -> Result<Exchange<'_>, u8> {
@@ -447,6 +456,71 @@ mod tests {
             assert_eq!(remove_from(&other, OURS), Err(36));
         }
         assert!(remove_from(&ok.with_via(15, &[OUR_ENTRY]), OURS).is_ok());
+    }
+
+    /// 02 §2: bytes are copied and shown as they stand, 34 and 36 compare texts.
+    #[test]
+    fn entries_in_other_letters() {
+        let ours = hop(r"\u0072elay.nx", r"\/queue\u002Fr");
+        let bye = Sample::request("7 BYE").with_via(1, &[&ours]);
+        assert_eq!(add_to(&bye, OURS), Err(34));
+        let ok = Sample::response("7 BYE", "200 OK");
+        let next = hop(r"\u00682.nx", "d");
+        let bytes = ok.clone().with_via(0, &[&next, &ours]).bytes();
+        let mut out = vec![0; 1000];
+        let (length, host) = remove(&bytes, OURS, &mut out).unwrap();
+        assert_eq!(out[..length], ok.clone().with_via(0, &[&next]).bytes());
+        assert_eq!(host, br"\u00682.nx");
+        assert!(bytes.as_ptr_range().contains(&host.as_ptr()));
+        let mut room = [0x5a; 6];
+        assert_eq!(text(host, &mut room), Ok(5));
+        assert_eq!(&room, b"h2.nxZ");
+        let other = hop(r"\u0072elay.nx", r"\/queue\u002Fs");
+        assert_eq!(remove_from(&ok.with_via(1, &[&other]), OURS), Err(36));
+        // Our own path has no escapes.
+        let spelled = Path {
+            host: br"\u0072elay.nx",
+            ..OURS
+        };
+        assert_eq!(add_to(&bye, spelled), Err(38));
+    }
+
+    #[test]
+    fn replies_copy_escapes() {
+        let sample = Sample::request("7 \\u0042YE")
+            .of_call(r"A\u0031")
+            .with("To", r#""net119:fire@\u006bita.callee""#);
+        let reply = String::from_utf8(reply_to(&sample, 200, DATE).unwrap()).unwrap();
+        for value in [
+            r#""CSeq":"7 \u0042YE""#,
+            r#""To":"net119:fire@\u006bita.callee""#,
+            r#""Call-ID":"A\u0031""#,
+        ] {
+            assert!(reply.contains(value), "{value}");
+        }
+        assert!(message::read(reply.as_bytes(), CEILING).answer.is_ok());
+    }
+
+    #[test]
+    fn texts_of_parts() {
+        let of = |spelled: &[u8], room: usize| written(room, |out| text(spelled, out));
+        assert_eq!(of(br"\/\u00e9", 3), Ok("/é".into()));
+        assert_eq!(of(br"\/\u00e9", 9), Ok("/é".into()));
+        assert_eq!(of(br"\/\u00e9", 2), Err(33));
+        assert_eq!(of(b"", 0), Ok(Vec::new()));
+        // 9 before 39 before 33.
+        assert_eq!(of(br"\/\ud800", 0), Err(9));
+        assert_eq!(of(br"\/\ud800", 9), Err(9));
+        let long = vec![b'a'; MAX_LENGTH];
+        assert_eq!(of(&long, MAX_LENGTH), Ok(long.clone()));
+        assert_eq!(of(&long, MAX_LENGTH - 1), Err(33));
+        for (end, number) in [("a", 39), (r"\u0061", 39), (r"\ud800", 9)] {
+            let longer = [&long, end.as_bytes()].concat();
+            assert_eq!(of(&longer, 40_000), Err(number));
+            assert_eq!(of(&longer, 0), Err(number));
+        }
+        // It is the text that is too long, not its spelling.
+        assert_eq!(of(&br"\u0061".repeat(MAX_LENGTH), MAX_LENGTH), Ok(long));
     }
 
     #[test]

@@ -43,9 +43,12 @@ fn keep_answers_a_log() {
 fn probe_answers_a_script() {
     let answer = output(
         &["probe"],
-        b"read 5b30315d\nblank 1 176\nwhat\ntick 1 41\nceiling 1\nread 5b30315d",
+        b"read 5b30315d\nblank 1 176\nwhat\ntick 1 41\ntext 2 5c2f\nceiling 1\nread 5b30315d",
     );
-    assert_eq!(answer, b"no 4 2 0\nok\n?\nno 9 0 0\nok\nno 11 1 0\n");
+    assert_eq!(
+        answer,
+        b"no 4 2 0\nok\n?\nno 9 0 0\nok 1 2f5a\nok\nno 11 1 0\n"
+    );
     assert_eq!(output(&["probe"], b""), b"");
 }
 

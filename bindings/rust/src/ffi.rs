@@ -100,4 +100,10 @@ extern "C" {
         organization: *const u8,
         organization_length: usize,
     ) -> RemoveAnswer;
+    pub fn net119_text(
+        output: *mut u8,
+        output_length: usize,
+        spelled: *const u8,
+        spelled_length: usize,
+    ) -> WriteAnswer;
 }

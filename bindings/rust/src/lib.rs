@@ -3,6 +3,10 @@
 //! The caller lends every buffer: the library keeps no state and takes nothing from the heap. Any bytes, any time and any table image may
 //! be handed over. On a refusal the table and the output are what they were. `include/net119.h` says what each number means.
 //!
+//! A message's tag, names and values under a rule are judged by the texts that they spell, escapes decoded, and a table holds decoded texts:
+//! a call is found however a message spells its Call-ID. What is written or shown of a message is its bytes as they stand; [`text`] decodes
+//! a part of it. The other texts that are handed over (a tick's Call-ID, a Date, our own path) are bytes as they are.
+//!
 //! ```
 //! use net119::{blank, message, table_length, tick, State, Word};
 //!
@@ -90,7 +94,7 @@ pub struct Refused {
     pub reply: Option<u16>,
 }
 
-/// A refused writing: a number from 30 to 39.
+/// A refused writing: a number from 30 to 39; for [`text`] 9, 33 or 39.
 #[derive(Debug, Clone, Copy, PartialEq, Eq, Hash)]
 pub struct Unwritten {
     pub number: u8,
@@ -108,7 +112,8 @@ pub struct Path<'p> {
     pub organization: &'p [u8],
 }
 
-/// A response less our entry: its length in the output, and the host that it goes to next, a part of the message itself.
+/// A response less our entry: its length in the output, and the host that it goes to next, a part of the message itself as it stands there. It
+/// may be spelled with escapes: [`text`] decodes it.
 #[derive(Debug, Clone, Copy, PartialEq, Eq)]
 pub struct Removed<'m> {
     pub length: usize,
@@ -179,7 +184,8 @@ pub fn message_within(
     })
 }
 
-/// A tick for a Call-ID at a time: whether a limit has run out.
+/// A tick for a Call-ID at a time: whether a limit has run out. The Call-ID is bytes as they are: one that was taken from a message may be
+/// spelled with escapes, and [`text`] decodes it.
 pub fn tick(table: &mut [u8], time: u64, call_id: &[u8]) -> Result<Accepted, Refused> {
     event(unsafe {
         ffi::net119_tick(
@@ -192,7 +198,8 @@ pub fn tick(table: &mut [u8], time: u64, call_id: &[u8]) -> Result<Accepted, Ref
     })
 }
 
-/// Writes the reply to a request to the front of the output, and answers its length.
+/// Writes the reply to a request to the front of the output, and answers its length. What it has of the request is the request's own bytes,
+/// escapes as they stand.
 pub fn reply(
     output: &mut [u8],
     message: &[u8],
@@ -230,7 +237,7 @@ pub fn add(output: &mut [u8], message: &[u8], path: Path) -> Result<usize, Unwri
     })
 }
 
-/// Writes a response with our Via entry taken off, and answers its length and the next host.
+/// Writes a response with our Via entry taken off, and answers its length and the next host as it stands in the message.
 pub fn remove<'m>(
     output: &mut [u8],
     message: &'m [u8],
@@ -257,6 +264,20 @@ pub fn remove<'m>(
         }),
         number => Err(Unwritten { number }),
     }
+}
+
+/// Writes the text that a part of a message spells, such as the next host, and answers its length. `spelled` is the bytes between a string's
+/// quotes; the text has its escapes decoded, in UTF-8. As much room as `spelled` has bytes is always enough. Refused, the first that holds:
+/// 9, an escape is a lone surrogate; 39, the text is over `LONGEST` bytes; 33, the output is shorter than the text.
+pub fn text(output: &mut [u8], spelled: &[u8]) -> Result<usize, Unwritten> {
+    written(unsafe {
+        ffi::net119_text(
+            output.as_mut_ptr(),
+            output.len(),
+            spelled.as_ptr(),
+            spelled.len(),
+        )
+    })
 }
 
 fn unread(number: u8, place: usize) -> Result<(), Unread> {

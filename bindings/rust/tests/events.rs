@@ -147,3 +147,28 @@ fn a_budget_of_values() {
     let calling = accepted(Word::Pass, Some(State::Calling));
     assert_eq!(message_within(&mut table, 1000, &invite, enough), calling);
 }
+
+/// The table holds the Call-ID's text, however a message spells it; a tick's is bytes as they are.
+#[test]
+fn a_call_in_other_letters() {
+    let (mut table, mut plain) = (blank_table(), blank_table());
+    let invite = made("request", r"\u00411\u002Enx", "1 INVITE", INVITE);
+    let calling = accepted(Word::Pass, Some(State::Calling));
+    assert_eq!(message(&mut table, 1000, &invite), calling);
+    let invite = made("request", "A1.nx", "1 INVITE", INVITE);
+    assert_eq!(message(&mut plain, 1000, &invite), calling);
+    assert_eq!(table, plain);
+    let again = accepted(Word::Repeat, Some(State::Calling));
+    assert_eq!(message(&mut table, 2000, &invite), again);
+    assert_eq!(tick(&mut table, 2000, br"\u00411.nx"), refused(9, 0, None));
+    let nothing = accepted(Word::None, Some(State::Calling));
+    assert_eq!(tick(&mut table, 2000, b"A1.nx"), nothing);
+
+    let twice = made("request", "A1.nx", "1 CANCEL", r#","C\u0053eq":"1 CANCEL""#);
+    let place = twice.len() - br#""C\u0053eq":"1 CANCEL"}]"#.len();
+    assert_eq!(message(&mut table, 2000, &twice), refused(7, place, None));
+    let broken = made("request", "A1.nx", r"1 CANCEL\ud83d", "");
+    let place = br#"["request",{"CSeq":"#.len();
+    assert_eq!(message(&mut table, 2000, &broken), refused(9, place, None));
+    assert_eq!(table, plain);
+}

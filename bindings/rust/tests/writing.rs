@@ -1,6 +1,6 @@
 //! A request goes on with our Via entry, and its reply comes back without it.
 
-use net119::{add, read, remove, reply, well_formed, Path, Unread, Unwritten, LONGEST};
+use net119::{add, read, remove, reply, text, well_formed, Path, Unread, Unwritten, LONGEST};
 
 const BYE: &[u8] = br#"["request",{"CSeq":"7 BYE","To":"net119:u1@nishi.caller","From":"net119:fire@kita.callee","Call-ID":"A1.nx","Date":"2024-02-29T23:59:59+0900","Via":[{"host":"h1.nx","destination":"kita.callee","organization":"nx"}]}]"#;
 const DATE: &[u8] = b"2024-03-01T00:00:00+0900";
@@ -50,4 +50,44 @@ fn refusals_leave_the_output() {
         })
     );
     assert!(!well_formed(&[]));
+}
+
+#[test]
+fn texts_of_parts() {
+    let mut output = [0x5a; 10];
+    assert_eq!(text(&mut output, br"h\u006fst\/x"), Ok(6));
+    assert_eq!(&output, b"host/xZZZZ");
+    assert_eq!(text(&mut output, br"\ud83d\ude92"), Ok(4));
+    assert_eq!(&output, b"\xf0\x9f\x9a\x92/xZZZZ");
+    assert_eq!(text(&mut output, b""), Ok(0));
+    assert_eq!(text(&mut [], b""), Ok(0));
+    assert_eq!(&output, b"\xf0\x9f\x9a\x92/xZZZZ");
+}
+
+#[test]
+fn texts_that_are_refused_leave_the_output() {
+    let mut output = [0x5a; 5];
+    for (spelled, number) in [
+        (&br"h\u006fst\/x"[..], 33),
+        (br"h\ud83d", 9),
+        // 9 before 33.
+        (br"host\/x\ude92", 9),
+        // 39 before 33.
+        (&[b'x'; LONGEST + 1], 39),
+        (&[b'x'; LONGEST], 33),
+    ] {
+        assert_eq!(text(&mut output, spelled), Err(Unwritten { number }));
+        assert_eq!(output, [0x5a; 5]);
+    }
+}
+
+/// A response whose Via is spelled with escapes: our entry is known by its text, and the next host is shown as it stands.
+#[test]
+fn the_next_host_in_other_letters() {
+    const BACK: &[u8] = br#"["response",{"Status":"200 OK","CSeq":"7 BYE","To":"net119:u1@nishi.caller","From":"net119:fire@kita.callee","Call-ID":"A1.nx","Date":"2024-02-29T23:59:59+0900","Via":[{"host":"\u00681.nx","destination":"kita.callee","organization":"nx"},{"host":"relay\u002enx","destination":"nishi.caller","organization":"nx"}]}]"#;
+    let (mut back, mut host) = ([0; LONGEST], [0; LONGEST]);
+    let removed = remove(&mut back, BACK, OURS).unwrap();
+    assert_eq!(removed.next_host, br"\u00681.nx");
+    let length = text(&mut host, removed.next_host).unwrap();
+    assert_eq!(host[..length], *b"h1.nx");
 }

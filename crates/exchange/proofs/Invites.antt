@@ -15,8 +15,9 @@ use Rattle.message.specs.Message.{sameSide, wrongSide, wrongNumber, sidesDisagr
 use Rattle.message.specs.Reading.{agreed, settled, judged, known, shaped, reading, reporting}
 use Rattle.fields.specs.Trail.{trailOf, trailIn, moved}
 use Rattle.message.specs.Shape.{tagAt, tagOf, objectOf}
-use Rattle.fields.specs.Spans.{textAt, spanIn, textSpan}
-use Rattle.fields.specs.Value.{isString, isArray, isObject, textOf, freely, ruled}
+use Rattle.escapes.specs.Rfc7159.{isBroken, letterOf, lettersFrom, lone, spells, spelt, text, took}
+use Rattle.fields.specs.Spans.{spellingAt, spellingSpan, textAt}
+use Rattle.fields.specs.Value.{isString, isArray, isObject, spellingOf, textOf, freely, ruled, wordSpelled}
 use Rattle.fields.specs.Via.{hopPlaces, hopRule, hopKeeps, isHop, viaRule}
 use Rattle.message.specs.declared.facts.Message.{Message}
 use Rattle.message.specs.declared.reading.Reading.the-variants.{Read}
@@ -31,7 +32,7 @@ use Rattle.rules.specs.Pieces as pieces
 use Rattle.rules.specs.Pieces.{runLength, digits, decimalAt, wordNumberFrom, within, reads}
 use Rattle.rules.specs.Sequence as sequence
 use Rattle.rules.specs.Sequence.{sequenceRule, numberEnd, sequenceOf}
-use Rattle.rules.specs.Texts.{callIdRule, hostRule, destinationRule, organizationRule, languageRule, noBackslash}
+use Rattle.rules.specs.Texts.{callIdRule, hostRule, destinationRule, organizationRule, languageRule}
 use Rattle.utf8.specs.Rfc3629.{begins, goesOn, charAt, octets}
 use mathlib.Core.Bool.{true, false}
 use mathlib.Core.List.{List, _++_}
@@ -63,9 +64,11 @@ invite =
       call = 103;
       via = 151;
       callid = record { start = 104; end = 109 };
-      user = record { start = 76; end = 78 };
-      callerfire = record { start = 79; end = 84 };
-      calleefire = record { start = 48; end = 52 };
+      calleraddress = record { start = 69; end = 91 };
+      calleeaddress = record { start = 36; end = 59 };
+      user = record { start = 7; end = 9 };
+      callerfire = record { start = 10; end = 15 };
+      calleefire = record { start = 12; end = 16 };
       trail = record { count = 1; last = 152; end = 216; seam = 151; host = record { start = 151; end = 151 } };
     }
 
@@ -82,9 +85,10 @@ read-above : (c : ℕ) → BothRead (and-more 23 c)
 unfolding among isDigit isLower isUpper isLetter isAlnum all same standsAt begins goesOn charAt octets isWs opens begin due ends step stops walk from point expo
     tour begun json.begins part spaces past isOpen isShut isMark left unmarked size behind closing raw next valueOf follows more memberAt membersFrom members elementsFrom elements
     sequenceRule numberEnd sequenceOf runLength digits decimalAt wordNumberFrom within reads leap daysIn dateRule callerRule calleeRule userEnd callerEnd calleeEnd addressOf
-    callIdRule hostRule destinationRule organizationRule languageRule noBackslash holds isIn tagAsks methodAsks textAt spanIn textSpan numberOf methodOf
+    callIdRule hostRule destinationRule organizationRule languageRule holds isIn tagAsks methodAsks spellingAt textAt spellingSpan numberOf methodOf
     fromCaller toCaller contentAt codeOf secureOf settingOf sameSide wrongSide wrongNumber sidesDisagree callbackTraining requestDisagrees disagrees callerPlace
-    calleePlace messageOf agreed settled judged known shaped reading reporting lacks breaks lowest checked isString isArray isObject textOf freely ruled tagAt tagOf objectOf
+    calleePlace messageOf agreed settled judged known shaped reading reporting lacks breaks lowest checked isString isArray isObject spellingOf textOf freely ruled wordSpelled
+    text spells isBroken spelt lone lettersFrom letterOf took tagAt tagOf objectOf
     oneOf addressRule keeps hopPlaces hopRule hopKeeps isHop viaRule numberAt has note noted repeated pieces.pieceEnd
     pieces.hasPiece sequence.cseqNumber sequence.cseqMethod lastOf prevOf trailOf trailIn moved
 read-above c = (refl, refl)

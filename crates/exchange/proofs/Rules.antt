@@ -11,7 +11,7 @@ use Rattle.call.specs.declared.records.Held.the-variants.{Nothing as Unheld, Is
 use Rattle.exchange.proofs.Parts.{Fit, opened, altered, rule, isAt, ours}
 use Rattle.exchange.specs.Sequence.{Event, message, tick, nameRead, nameOf}
 use Rattle.keeper.proofs.FactLaws.{sound-call, sound-fields, fit-fields, numbered}
-use Rattle.keeper.proofs.StepLaws.{named-used}
+use Rattle.keeper.proofs.TextLaws.{named-used}
 use Rattle.message.proofs.Accepted.{read-named}
 use Rattle.keeper.specs.Facts.{callOf, fieldsFrom, eventOf}
 use Rattle.keeper.specs.inner.Known.{Fitting}

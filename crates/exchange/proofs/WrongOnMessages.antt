@@ -20,7 +20,8 @@ use Rattle.message.proofs.Accepted.{read-named}
 use Rattle.keeper.specs.Facts.{methodOfCode, eventOf, fieldsFrom}
 use Rattle.keeper.specs.Keeping.{Step, recordFor, onMessage}
 use Rattle.fields.specs.Spans.{cut}
-use Rattle.message.specs.Parties.{callIdOf, userOf, callerFireOf, calleeFireOf}
+use Rattle.escapes.specs.Rfc7159.{letterOf, lettersFrom, spelt, text, took}
+use Rattle.message.specs.Parties.{callIdOf, callerAddressOf, calleeAddressOf, userOf, callerFireOf, calleeFireOf}
 use Rattle.message.specs.Reading.{reading, reporting}
 use Rattle.message.specs.declared.reading.Reading.the-variants.{Read}
 use Rattle.octets.specs.Ascii.{ascii}
@@ -119,15 +120,15 @@ w0 = blank-sound 2 (omega arith) (omega arith)
 -- neither Call-ID stands where its INVITE comes, and which record is free then
 searched : ((placeNamed (callIdOf s1 invite) t0 ≡ Nothing) × (freePlace t0 ≡ At 0)) × ((placeNamed (callIdOf s2 invite) t1 ≡ Nothing) × (freePlace t1 ≡ At 1))
 unfolding placeNamed freePlace lowestFound isNamed same blankOf headerOf bytesOf splice recordFor newRecord recordOf fieldsFrom roomText slotOf countsOf timesOf
-    callIdOf userOf callerFireOf calleeFireOf cut part
+    callIdOf callerAddressOf calleeAddressOf userOf callerFireOf calleeFireOf cut part text spelt lettersFrom letterOf took
 searched = ((refl, refl), (refl, refl))
 
 w1 : wellFormed t1 ≡ true
 w1 = well 23 t0 s1 0 w0 (invites-read 23 (omega arith) .0) (searched .0 .0) (searched .0 .1)
 
 handed : Handed t0 1000 [] × (Handed t0 1000 s1 × Handed t1 1000 s2)
-unfolding all blankOf headerOf bytesOf splice recordFor newRecord recordOf fieldsFrom slotOf countsOf timesOf callIdOf userOf callerFireOf calleeFireOf cut
-    part
+unfolding all blankOf headerOf bytesOf splice recordFor newRecord recordOf fieldsFrom slotOf countsOf timesOf callIdOf callerAddressOf calleeAddressOf userOf callerFireOf
+    calleeFireOf cut part text spelt lettersFrom letterOf took
 handed = (
   record { table = each-byte t0 refl; clock = omega arith; text = each-byte [] refl },
   (

@@ -4,6 +4,8 @@ use Rattle.fields.specs.inner.Gathering.{notedOnce, endAt, endsOf, Gathe
 use Prim.Native.Nat.{ℕ, zero, suc, _+_, _-_, _<_}
 use Rattle.json.specs.Places.{behind, raw, valueOf, membersFrom, members}
 use Rattle.fields.specs.Known.{numberAt, empty, has, note, noted, repeated}
+use Rattle.escapes.specs.Rfc7159.{isBroken, text}
+use Rattle.fields.specs.Value.{wordSpelled}
 use Rattle.octets.specs.Text.{same}
 use Rattle.rules.specs.Names.{hopMembers}
 use Rattle.rules.specs.Pieces.{wordNumber, wordNumberFrom}
@@ -54,7 +56,7 @@ pub note-is : (ns : List (List ℕ)) (s at : List ℕ) (q : ℕ) {k v : ℕ} {r 
 unfolding note
 note-is ns s at q e g f = f ∙ rw (e, g)
 
-pub number-is : (ns : List (List ℕ)) (s : List ℕ) (q : ℕ) {x : List ℕ} {k : ℕ} → x ≡ raw s q → k ≡ wordNumber ns x → k ≡ numberAt ns s q
+pub number-is : (ns : List (List ℕ)) (s : List ℕ) (q : ℕ) {x : List ℕ} {k : ℕ} → x ≡ raw s q → k ≡ wordSpelled ns x → k ≡ numberAt ns s q
 unfolding numberAt
 number-is ns s q e f = f ∙ rw e
 
@@ -111,5 +113,9 @@ unfolding wordNumberFrom
 from-few [] k x h = omega arith
 from-few (n ∷ ns) k x h = pick-few (same x n) k (wordNumberFrom ns (k + 1) x) _ (omega arith) (let r = from-few ns (k + 1) x (omega arith) in omega arith)
 
-pub hop-few : (x : List ℕ) → wordNumber hopMembers x < 4
-hop-few x = let r = from-few hopMembers 1 x (omega arith) in omega arith
+pub spelled-few : (ns : List (List ℕ)) (x : List ℕ) → wordSpelled ns x < 1 + length ns
+unfolding wordSpelled
+spelled-few ns x = pick-few (isBroken x) 0 (wordNumber ns (text x)) (1 + length ns) (omega arith) (from-few ns 1 (text x) (omega arith))
+
+pub hop-few : (x : List ℕ) → wordSpelled hopMembers x < 4
+hop-few x = spelled-few hopMembers x

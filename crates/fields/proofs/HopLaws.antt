@@ -9,11 +9,11 @@ use Rattle.json.specs.Places.{part, past, behind, valueOf, more, members, membe
 use Rattle.fields.proofs.GatherLaws.{Sofar, started, over, repeats, goes-on, has-is, note-is, number-is, no-ends, note-ends}
 use Rattle.fields.specs.Hop.{hopOf}
 use Rattle.fields.specs.Known.{empty, noted, numberAt, repeated}
+use Rattle.fields.specs.Value.{wordSpelled}
 use Rattle.fields.specs.Via.{hopPlaces}
 use Rattle.fields.specs.declared.hops.Hop.{Hop}
 use Rattle.fields.specs.declared.hops.Members.{Members}
 use Rattle.rules.specs.Names.{hopMembers}
-use Rattle.rules.specs.Pieces.{wordNumber}
 use borrow.Author.Tests.{eq-eqb, ne-eqb}
 use lib.Dec.{eqb, ltb}
 use lib.ListN.{length, getD, set}
@@ -43,7 +43,7 @@ pub walk-over : {v : List ℕ} {o : ℕ} {m : Members} {n p : ℕ} → Walking v
 walk-over f e = rw (f .none) (over (f .sofar) e, f .ends)
 
 module _ {v : List ℕ} {o : ℕ} {m : Members} {n p : ℕ} (f : Walking v o m n p) (some : 0 < n) {q : ℕ} (at-q : q ≡ past v p) (quote : getD v q 0 ≡ 34) {e a w t : ℕ}
-    (row : Row v q e a w t) {x : List ℕ} {k : ℕ} (called : x ≡ part v (q + 1) (e - 1)) (numbered : k ≡ wordNumber hopMembers x) {r : Bool}
+    (row : Row v q e a w t) {x : List ℕ} {k : ℕ} (called : x ≡ part v (q + 1) (e - 1)) (numbered : k ≡ wordSpelled hopMembers x) {r : Bool}
     (seen : r ≡ (ltb 0 k && ltb 0 (getD (placesIn m) k 0))) (late : 0 < q) where
   number : k ≡ numberAt hopMembers v q
   number = number-is hopMembers v q (called ∙ raw-is v q (closing-is v q (row .named))) numbered

@@ -1,6 +1,7 @@
 -- What the rules with facts answer, one law for each way out of the code, and what their answers say. Assumes nothing.
-use Rattle.fields.proofs.EscapeLaws.{address-safe, ruled-is}
-use Rattle.rules.proofs.EscapeLaws.{Safe, sequence-safe}
+use Rattle.fields.proofs.SpelledLaws.{ruled-is}
+use Rattle.fields.proofs.TriedLaws.{address-plain}
+use Rattle.rules.proofs.PlainLaws.{Plain, sequence-plain}
 use Prim.Native.Nat.{ℕ}
 use Rattle.fields.proofs.FieldLaws.{sequence-broken, caller-kept, callee-kept, address-broken, status-broken}
 use Rattle.fields.specs.Field.{addressRule, keeps}
@@ -29,12 +30,12 @@ use mathlib.Core.List.{List}
 use mathlib.Core.Path.{_≡_, refl, sym, ap, _∙_}
 
 -- a string, or not: what is left of a rule
-module _ (rule : List ℕ → Bool) (safe : Safe rule) (v t : List ℕ) {u : Bool} (is : t ≡ textOf v) (tested : u ≡ isString v) where
+module _ (rule : List ℕ → Bool) (p : Plain rule) (v t : List ℕ) {u : Bool} (is : t ≡ textOf v) (tested : u ≡ isString v) where
   not-ruled : u ≡ false → ruled rule v ≡ false
-  not-ruled e = ruled-is rule safe v t is ∙ rw (sym tested ∙ e)
+  not-ruled e = ruled-is p v ∙ rw (sym tested ∙ e)
 
   by-rule : u ≡ true → ruled rule v ≡ rule t
-  by-rule e = ruled-is rule safe v t is ∙ rw (sym tested ∙ e)
+  by-rule e = ruled-is p v ∙ rw (sym tested ∙ e, is)
 
 -- CSeq
 
@@ -45,33 +46,33 @@ of-sequence false n m n′ m′ e = cc
 module _ (v t : List ℕ) {u : Bool} (is : t ≡ textOf v) (tested : u ≡ isString v) where
   pub cseq-untold : u ≡ false → cseqs.Broken 0 ≡ cseqOf v
   unfolding cseqOf
-  cseq-untold e = rw (not-ruled sequenceRule sequence-safe v t is tested e)
+  cseq-untold e = rw (not-ruled sequenceRule sequence-plain v t is tested e)
 
   pub cseq-kept : (n m : ℕ) → u ≡ true → sequences.Of n m ≡ sequenceOf t → cseqs.Kept n m ≡ cseqOf v
   unfolding cseqOf sequenceOf
-  cseq-kept n m e f = rw (by-rule sequenceRule sequence-safe v t is tested e, ← is) (of-sequence (sequenceRule t) n m (cseqNumber t) (cseqMethod t) f)
+  cseq-kept n m e f = rw (by-rule sequenceRule sequence-plain v t is tested e, ← is) (of-sequence (sequenceRule t) n m (cseqNumber t) (cseqMethod t) f)
 
   pub cseq-broken : u ≡ true → sequences.Broken ≡ sequenceOf t → cseqs.Broken 0 ≡ cseqOf v
   unfolding cseqOf
-  cseq-broken e f = rw (by-rule sequenceRule sequence-safe v t is tested e, ← (sequence-broken t f))
+  cseq-broken e f = rw (by-rule sequenceRule sequence-plain v t is tested e, ← (sequence-broken t f))
 
   -- To and From
   pub party-untold : u ≡ false → parties.Broken 0 ≡ partyOf v
   unfolding partyOf
-  party-untold e = rw (not-ruled addressRule address-safe v t is tested e)
+  party-untold e = rw (not-ruled addressRule address-plain v t is tested e)
 
   module _ (e : u ≡ true) {a : Address} (f : a ≡ addressOf t) where
     pub party-caller : (user fire : ℕ) → a ≡ addresses.Caller user fire → parties.Kept a ≡ partyOf v
     unfolding partyOf
-    party-caller user fire g = rw (by-rule addressRule address-safe v t is tested e, ← is, ← (caller-kept t user fire (sym g ∙ f))) (ap parties.Kept f)
+    party-caller user fire g = rw (by-rule addressRule address-plain v t is tested e, ← is, ← (caller-kept t user fire (sym g ∙ f))) (ap parties.Kept f)
 
     pub party-callee : (fire : ℕ) → a ≡ addresses.Callee fire → parties.Kept a ≡ partyOf v
     unfolding partyOf
-    party-callee fire g = rw (by-rule addressRule address-safe v t is tested e, ← is, ← (callee-kept t fire (sym g ∙ f))) (ap parties.Kept f)
+    party-callee fire g = rw (by-rule addressRule address-plain v t is tested e, ← is, ← (callee-kept t fire (sym g ∙ f))) (ap parties.Kept f)
 
     pub party-broken : a ≡ addresses.Broken → parties.Broken 0 ≡ partyOf v
     unfolding partyOf
-    party-broken g = rw (by-rule addressRule address-safe v t is tested e, ← (address-broken t (sym g ∙ f)))
+    party-broken g = rw (by-rule addressRule address-plain v t is tested e, ← (address-broken t (sym g ∙ f)))
 
 -- Status of a response
 

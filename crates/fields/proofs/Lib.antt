@@ -1,5 +1,6 @@
-pub mod TextLaws
-pub mod EscapeLaws
+pub mod SpellingLaws
+pub mod SpelledLaws
+pub mod TriedLaws
 pub mod ValueLaws
 pub mod FieldLaws
 pub mod ChainLaws

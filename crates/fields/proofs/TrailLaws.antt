@@ -8,7 +8,7 @@ use Rattle.json.specs.inner.Landing.{Cell}
 use Prim.Native.Nat.{ℕ, zero, suc, _+_, _-_, _≤_, _<_}
 use Rattle.json.proofs.PlaceLaws.{past-inner, behind-inner}
 use Rattle.json.specs.Places.{past, behind, bytes, follows, more, elements, elementsFrom, lastOf, prevOf}
-use Rattle.fields.proofs.TextLaws.{bytes-short, span-within}
+use Rattle.fields.proofs.SpellingLaws.{bytes-short, span-within}
 use Rattle.fields.proofs.ViaLaws.{viaFrom, from-first, seventeenth, broken, further, at-end}
 use Rattle.fields.specs.Trail.{hostSpan, hostStart, hostEnd, trailOf, noTrail, trailIn}
 use Rattle.fields.specs.Value.{isArray}

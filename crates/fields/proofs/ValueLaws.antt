@@ -1,22 +1,54 @@
--- A string under a rule, free text, and an array's first byte. Assumes nothing.
+-- A string's text: by its spelling, and that it keeps the rule that the string is under; and an array's first byte. Assumes nothing.
 use Prim.Native.Nat.{ℕ, _<_}
-use Rattle.fields.specs.Value.{isArray, isString, textOf, freely, ruled}
-use Rattle.fields.proofs.EscapeLaws.{ruled-is}
-use Rattle.rules.proofs.EscapeLaws.{Safe}
+use Rattle.escapes.proofs.PlainLaws.{plain-text, plain-whole}
+use Rattle.escapes.specs.Rfc7159.{isBroken, text}
+use Rattle.escapes.specs.Text.{escaped, measureOf}
+use Rattle.escapes.specs.declared.measuring.Measured.{Measured}
+use Rattle.fields.specs.Value.{freely, isArray, isString, ruled, spellingOf, textOf}
+use Rattle.octets.proofs.TestLaws.{and-parts}
+use Rattle.octets.specs.Class.{all}
+use Rattle.rules.specs.Texts.{memoRule, noBreak}
+use lib.Dec.{leb}
 use lib.ListN.{length}
-use mathlib.Core.Bool.{Bool, true, _&&_}
+use mathlib.Core.Bool.{Bool, true, false, not, _&&_}
 use mathlib.Core.List.{List, [], _∷_}
-use mathlib.Core.Path.{_≡_, _∙_, ap, sym}
+use mathlib.Core.Path.{_≡_, refl, ap, _∙_}
 use native.Mathlib.Omega.{arith}
 
--- what `under` answers of a value and whether its text keeps the rule
-pub is-ruled : (rule : List ℕ → Bool) → Safe rule → (v t : List ℕ) (k r : Bool) → t ≡ textOf v → k ≡ rule t → r ≡ (isString v && k) → r ≡ ruled rule v
-is-ruled rule safe v t k r e f g = g ∙ ap (λ (b : Bool). isString v && b) f ∙ sym (ruled-is rule safe v t e)
+-- what the spelling spells
+pub text-is : (v : List ℕ) {w : List ℕ} → w ≡ spellingOf v → text w ≡ textOf v
+unfolding textOf
+text-is v e = ap text e
 
--- what is answered of free text
-pub is-free : (rule : List ℕ → Bool) (v t : List ℕ) (k r : Bool) → t ≡ textOf v → k ≡ rule t → r ≡ (isString v && k) → r ≡ freely rule v
+pub ruled-text : (rule : List ℕ → Bool) (v : List ℕ) → ruled rule v ≡ true → rule (textOf v) ≡ true
+unfolding ruled
+ruled-text rule v e = and-parts (not (isBroken (spellingOf v))) (rule (textOf v)) (and-parts (isString v) _ e .1) .1
+
+pub free-text : (rule : List ℕ → Bool) (v : List ℕ) → freely rule v ≡ true → rule (textOf v) ≡ true
 unfolding freely
-is-free rule v t k r e f g = g ∙ rw (f, e)
+free-text rule v e = and-parts (isString v) (rule (textOf v)) e .1
+
+-- a string and what is told of its text by its spelling
+pub no-string : (v : List ℕ) (b : Bool) → isString v ≡ false → false ≡ (isString v && b)
+no-string v b e = rw e
+
+pub string-text : (rule : List ℕ → Bool) (v : List ℕ) {w : List ℕ} {u k r : Bool} → u ≡ isString v → w ≡ spellingOf v → k ≡ rule (text w) → r ≡ (u && k)
+    → r ≡ (isString v && rule (textOf v))
+string-text rule v e f g h = h ∙ rw (e, g, text-is v f)
+
+not-not : (b : Bool) → not (not b) ≡ b
+not-not true = refl
+not-not false = refl
+
+-- Refer-Memo by its measure
+pub is-memo : (v : List ℕ) {w : List ℕ} {m : Measured} {a b r : Bool} → w ≡ spellingOf v → m ≡ measureOf w → a ≡ (not (m .breaks) && leb (m .points) 128)
+    → b ≡ (not (m .broken) && a) → r ≡ (isString v && b) → r ≡ ruled memoRule v
+unfolding ruled memoRule measureOf textOf
+is-memo v e f g h i = i ∙ rw (h, g, f, e, not-not (all noBreak (text (spellingOf v))))
+
+pub is-plain-memo : (v : List ℕ) {w : List ℕ} {k r : Bool} → w ≡ spellingOf v → escaped w ≡ false → k ≡ memoRule w → r ≡ (isString v && k) → r ≡ ruled memoRule v
+unfolding ruled textOf
+is-plain-memo v {w} e f g h = h ∙ rw (← e, plain-whole w f, plain-text w f, g)
 
 -- an array has a byte
 pub array-there : (v : List ℕ) → isArray v ≡ true → 0 < length v

@@ -4,7 +4,7 @@ use Rattle.fields.specs.inner.Gathering.{Gathered}
 use Prim.Native.Nat.{ℕ, suc, _+_, _≤_}
 use Rattle.json.specs.Places.{past, bytes, elements, elementsFrom}
 use Rattle.fields.specs.Trail.{hostSpan}
-use Rattle.fields.specs.Spans.{textSpan}
+use Rattle.fields.specs.Spans.{spellingSpan}
 use Rattle.fields.specs.Value.{isArray, ruled}
 use Rattle.fields.specs.Via.{hopPlaces, hopRule, hopKeeps, isHop, viaRule}
 use Rattle.octets.proofs.ClassLaws.{in-among, among-high}
@@ -33,7 +33,7 @@ module _ (v : List ℕ) (o : ℕ) where
     unfolding isHop hopPlaces
     once-each z = rw (eq-eqb _ _ e, ← (g .first), eq-eqb _ _ z, ← (g .all z))
 
-    pub host-found : twice ≡ 0 → textSpan v (getD at 1 0) ≡ hostSpan v o
+    pub host-found : twice ≡ 0 → spellingSpan v (getD at 1 0) ≡ hostSpan v o
     unfolding hostSpan hopPlaces
     host-found z = rw (← (g .all z))
 

@@ -2,15 +2,15 @@
 -- fields, and an object of Via, with its three members: ns are the known names, numbered from 1. Assumes nothing.
 use Prim.Native.Nat.{ℕ}
 use Rattle.json.specs.Places.{raw, valueOf}
-use Rattle.rules.specs.Pieces.{wordNumber}
+use Rattle.fields.specs.Value.{wordSpelled}
 use lib.Dec.{eqb, ltb}
 use lib.ListN.{getD, set, replicate}
 use mathlib.Core.Bool.{Bool, _&&_, cond}
 use mathlib.Core.List.{List, [], _∷_}
 
--- the number of the member whose name opens at q, by the raw bytes of its name; 0 for an unknown one
+-- the number of the member whose name opens at q, by the text of its name; 0 for an unknown one
 unfoldable pub numberAt : List (List ℕ) → List ℕ → ℕ → ℕ
-numberAt ns s q = wordNumber ns (raw s q)
+numberAt ns s q = wordSpelled ns (raw s q)
 
 -- the places of values by number, 0 where there is none
 abbrev pub empty : List ℕ

@@ -3,7 +3,7 @@
 -- contracts of `src/vias.rt` and of `message` cite these. Assumes nothing.
 use Prim.Native.Nat.{ℕ, _+_}
 use Rattle.json.specs.Places.{behind, elements, lastOf, prevOf}
-use Rattle.fields.specs.Spans.{nowhere, textSpan}
+use Rattle.fields.specs.Spans.{nowhere, spellingSpan}
 use Rattle.fields.specs.Via.{hopPlaces, viaRule}
 use Rattle.fields.specs.declared.trails.Trail.{Trail}
 use Rattle.fields.specs.declared.spans.Span.{Span}
@@ -13,7 +13,7 @@ use mathlib.Core.List.{List, map}
 
 -- where the host of the object that opens at o stands
 unfoldable pub hostSpan : List ℕ → ℕ → Span
-hostSpan v o = textSpan v (getD (hopPlaces v o) 1 0)
+hostSpan v o = spellingSpan v (getD (hopPlaces v o) 1 0)
 
 -- where it begins, and where it ends
 abbrev pub hostStart : List ℕ → ℕ → ℕ

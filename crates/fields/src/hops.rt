@@ -1,4 +1,5 @@
 // An object of Via: its three members, gathered in one walk; and by its own bytes where its host and its destination stand in it.
+use crate::spelled::hop_member;
 use json::Member;
 use json::member_at;
 use json::part;
@@ -150,7 +151,7 @@ pub fn hop_members(v: &[u8], o: usize) -> Shut
         }
         let x = member_at(v, q);
         let name = x.name;
-        let k = rules::hop_member(part(v, q + 1, name - 1));
+        let k = hop_member(part(v, q + 1, name - 1));
         if has_member(m, k) {
             let twice = repeating(m, q);
             return Shut {

@@ -1,11 +1,17 @@
 // Each known field's rule on its value's own bytes (01 Reading, 'Rules'): kept, with the facts that the value tells, or broken at a place.
+use crate::spelled::address_of;
+use crate::spelled::sequence_of;
+use crate::spelled::status_of;
 use crate::values::is_array;
 use crate::values::is_object;
 use crate::values::is_string;
-use crate::values::own_text;
-use crate::values::under;
+use crate::values::own_spelling;
 use crate::vias::Via;
 use crate::vias::judge_via;
+use escapes::find_text;
+use escapes::is_escaped;
+use escapes::measure;
+use escapes::text_part;
 use json::element_at;
 use json::skip;
 use octets::and;
@@ -38,13 +44,17 @@ use rules::TEXT_IMAGE_CONTENT;
 use rules::USER_AGENT;
 use rules::VIA;
 ghost use Rattle.fields.specs.inner.Asked.{Own};
+ghost use mathlib.Core.Bool.{_&&_};
 ghost use mathlib.Core.Path.{_≡_};
 ghost use Prim.Native.Nat.{_<_};
-ghost use Rattle.fields.specs.Field.{bodyField, contentField, namesImage, statusField, stringsField};
+ghost use Rattle.fields.specs.Field.{namesImage, stringsField};
 ghost use Rattle.fields.specs.inner.Judging.{cseqOf, judgedValue, partyOf, statusIn};
-ghost use Rattle.fields.specs.inner.Chain.{byKind, chain, kindRule, laterRule, textRule};
+ghost use Rattle.fields.specs.inner.Chain.{byKind, chain, kindRule, laterRule, onBody, onStatus, onText, onType, plainRule};
 ghost use Rattle.fields.specs.Via.{viaRule};
+ghost use Rattle.fields.specs.Value.{isString, ruled, textOf};
+ghost use Rattle.escapes.specs.inner.Finding.{textWithin};
 ghost use Rattle.rules.specs.Status.{statusRule};
+ghost use Rattle.rules.specs.Texts.{memoRule};
 
 // What a rule sees besides its value: the tag, the method's code and the Content-Type's number.
 pub struct Setting {
@@ -82,11 +92,11 @@ pub fn judge_cseq(v: &[u8]) -> CSeq
     requires { ⌜ Own (now v) ⌝ }
     ensures { λ r. ⌜ r ≡ cseqOf (now (v .entry)) ⌝ }
 {
-    let t = own_text(v);
+    let w = own_spelling(v);
     if !is_string(v) {
         return CSeq::Broken(0);
     }
-    match rules::sequence_of(t) {
+    match sequence_of(w) {
         rules::Sequence::Of(number, method) => CSeq::Kept(number, method),
         rules::Sequence::Broken => CSeq::Broken(0),
     }
@@ -97,11 +107,11 @@ pub fn judge_party(v: &[u8]) -> Party
     requires { ⌜ Own (now v) ⌝ }
     ensures { λ r. ⌜ r ≡ partyOf (now (v .entry)) ⌝ }
 {
-    let t = own_text(v);
+    let w = own_spelling(v);
     if !is_string(v) {
         return Party::Broken(0);
     }
-    let a = rules::address_of(t);
+    let a = address_of(w);
     match a {
         rules::Address::Caller(_, _) => Party::Kept(a),
         rules::Address::Callee(_) => Party::Kept(a),
@@ -117,7 +127,7 @@ pub fn judge_status(v: &[u8]) -> Status
     if !is_string(v) {
         return Status::Broken(0);
     }
-    match rules::status_of(own_text(v)) {
+    match status_of(own_spelling(v)) {
         rules::Status::Code(code) => Status::Kept(code),
         rules::Status::Broken => Status::Broken(0),
     }
@@ -139,9 +149,6 @@ fn is_later_text(n: usize, t: &[u8]) -> bool
     if n < REFER_MEMO {
         return rules::is_fire_id(t);
     }
-    if n == REFER_MEMO {
-        return rules::is_memo(t);
-    }
     if n == SESSION_ID {
         return rules::is_call_id(t);
     }
@@ -160,9 +167,9 @@ fn is_later_text(n: usize, t: &[u8]) -> bool
     rules::is_desk(t)
 }
 
-// The text of field n, from 4 on.
-fn is_text(n: usize, t: &[u8]) -> bool
-    ensures { λ r. ⌜ r ≡ textRule n (now (t .entry)) ⌝ }
+// The text of field n, from 4 on, if its rule goes by n alone.
+fn is_plain_text(n: usize, t: &[u8]) -> bool
+    ensures { λ r. ⌜ r ≡ plainRule n (now (t .entry)) ⌝ }
 {
     if n == DATE {
         return rules::is_date(t);
@@ -204,12 +211,16 @@ fn is_strings(v: &[u8]) -> bool
 }
 
 // Whether field n is taken by its value's bytes or kind.
-fn is_by_kind(n: usize) -> bool
-    ensures { λ r. ⌜ r ≡ byKind n ⌝ }
+fn is_by_kind(k: Setting, n: usize) -> bool
+    ensures { λ r. ⌜ r ≡ byKind k n ⌝ }
 {
+    let content = k.content;
     or(
-        and(CALL_TEST <= n, n < RESCUEE),
-        and(LOCATIONS <= n, n < DESTINATION),
+        and(n == BODY, content == LOCATION_CONTENT),
+        or(
+            and(CALL_TEST <= n, n < RESCUEE),
+            and(LOCATIONS <= n, n < DESTINATION),
+        ),
     )
 }
 
@@ -231,29 +242,30 @@ fn is_kind(n: usize, v: &[u8]) -> bool
     if n == CALLER {
         return is_object(v);
     }
+    if n == BODY {
+        return is_object(v);
+    }
     is_strings(v)
 }
 
-fn keeps_status(tag: u8, v: &[u8]) -> bool
-    requires { ⌜ Own (now v) ⌝ }
-    ensures { λ r. ⌜ r ≡ statusField tag (now (v .entry)) ⌝ }
+// The text of Status.
+fn is_status_text(tag: u8, t: &[u8]) -> bool
+    ensures { λ r. ⌜ r ≡ onStatus tag (now (t .entry)) ⌝ }
 {
-    let t = own_text(v);
     if tag == PONG {
-        return under(v, 0 < rules::availability(t));
+        return 0 < rules::availability(t);
     }
-    and(is_string(v), is_status(t))
+    is_status(t)
 }
 
-fn keeps_content(method: u8, v: &[u8]) -> bool
-    requires { ⌜ Own (now v) ⌝ }
-    ensures { λ r. ⌜ r ≡ contentField method (now (v .entry)) ⌝ }
+// The text of Content-Type.
+fn is_type_text(method: u8, t: &[u8]) -> bool
+    ensures { λ r. ⌜ r ≡ onType method (now (t .entry)) ⌝ }
 {
-    let t = own_text(v);
     if method == MESSAGE {
-        return under(v, 0 < rules::message_type(t));
+        return 0 < rules::message_type(t);
     }
-    under(v, 0 < rules::notify_type(t))
+    0 < rules::notify_type(t)
 }
 
 // Whether a Content-Type is the image's, under either of its names.
@@ -266,24 +278,77 @@ fn names_image(content: u8) -> bool
     )
 }
 
-fn keeps_body(content: u8, v: &[u8]) -> bool
-    requires { ⌜ Own (now v) ⌝ }
-    ensures { λ r. ⌜ r ≡ bodyField content (now (v .entry)) ⌝ }
+// The text of Body.
+fn is_body_text(content: u8, t: &[u8]) -> bool
+    ensures { λ r. ⌜ r ≡ onBody content (now (t .entry)) ⌝ }
 {
-    let t = own_text(v);
     if content == TEXT_CONTENT {
-        return is_string(v);
+        return true;
     }
     if names_image(content) {
-        return and(is_string(v), rules::is_image(t));
+        return rules::is_image(t);
     }
     if content == PRESENCE_CONTENT {
-        return under(v, 0 < rules::presence(t));
+        return 0 < rules::presence(t);
     }
-    if content == LOCATION_CONTENT {
-        return is_object(v);
+    is_status(t)
+}
+
+// The text of field n, from 4 on.
+fn is_text(k: Setting, n: usize, t: &[u8]) -> bool
+    ensures { λ r. ⌜ r ≡ onText k n (now (t .entry)) ⌝ }
+{
+    let tag = k.tag;
+    let method = k.method;
+    let content = k.content;
+    if n == STATUS {
+        return is_status_text(tag, t);
     }
-    and(is_string(v), is_status(t))
+    if n == CONTENT_TYPE {
+        return is_type_text(method, t);
+    }
+    if n == BODY {
+        return is_body_text(content, t);
+    }
+    is_plain_text(n, t)
+}
+
+fn is_decoded_text(k: Setting, n: usize, w: &[u8]) -> bool
+    ensures { λ r. ⌜ r ≡ onText k n (textWithin 256 (now (w .entry))) ⌝ }
+{
+    let mut room = [0u8; 256];
+    let f = find_text(w, &mut room);
+    is_text(k, n, text_part(w, &room, f))
+}
+
+// A string whose text is that of field n: tried as it is spelled, and decoded only where that fails.
+fn keeps_text(k: Setting, n: usize, v: &[u8]) -> bool
+    requires { ⌜ Own (now v) ⌝ }
+    ensures { λ r. ⌜ r ≡ (isString (now (v .entry)) && onText k n (textOf (now (v .entry)))) ⌝ }
+{
+    if !is_string(v) {
+        return false;
+    }
+    let w = own_spelling(v);
+    if is_text(k, n, w) {
+        return true;
+    }
+    is_decoded_text(k, n, w)
+}
+
+// Refer-Memo, any text of 128 code points without a line break: where it is spelled with escapes it is measured, without a buffer.
+fn keeps_memo(v: &[u8]) -> bool
+    requires { ⌜ Own (now v) ⌝ }
+    ensures { λ r. ⌜ r ≡ ruled memoRule (now (v .entry)) ⌝ }
+{
+    let w = own_spelling(v);
+    if !is_escaped(w) {
+        return and(is_string(v), rules::is_memo(w));
+    }
+    let m = measure(w);
+    let points = m.points;
+    let sound = and(!m.broken, and(!m.breaks, points <= 128));
+    and(is_string(v), sound)
 }
 
 fn is_via(v: &[u8]) -> bool
@@ -300,26 +365,16 @@ fn keeps_rule(k: Setting, n: usize, v: &[u8]) -> bool
     requires { ⌜ Own (now v) ⌝ }
     ensures { λ r. ⌜ r ≡ chain k n (now (v .entry)) ⌝ }
 {
-    let tag = k.tag;
-    let method = k.method;
-    let content = k.content;
     if n == VIA {
         return is_via(v);
     }
-    if n == STATUS {
-        return keeps_status(tag, v);
+    if n == REFER_MEMO {
+        return keeps_memo(v);
     }
-    if n == CONTENT_TYPE {
-        return keeps_content(method, v);
-    }
-    if n == BODY {
-        return keeps_body(content, v);
-    }
-    if is_by_kind(n) {
+    if is_by_kind(k, n) {
         return is_kind(n, v);
     }
-    let t = own_text(v);
-    under(v, is_text(n, t))
+    keeps_text(k, n, v)
 }
 
 // The rule of field n, from 4 on.

@@ -1,16 +1,14 @@
-// A value by its own bytes: its kind, and its text.
+// A value by its own bytes: its kind, and how its text is spelled.
 use json::name_part;
 use json::part;
 use json::value_part;
-use octets::and;
 use octets::byte;
 ghost use Rattle.fields.specs.inner.Asked.{Own};
-ghost use mathlib.Core.Bool.{_&&_};
 ghost use mathlib.Core.Path.{_≡_};
 ghost use Prim.Native.Nat.{_<_};
 ghost use Rattle.json.specs.Places.{behind, bytes};
-ghost use Rattle.fields.specs.Spans.{textAt};
-ghost use Rattle.fields.specs.Value.{isArray, isObject, isString, textOf};
+ghost use Rattle.fields.specs.Spans.{spellingAt};
+ghost use Rattle.fields.specs.Value.{isArray, isObject, isString, spellingOf};
 
 // Whether a value is a string.
 pub fn is_string(v: &[u8]) -> bool
@@ -33,17 +31,17 @@ pub fn is_object(v: &[u8]) -> bool
     byte(v, 0) == b'{'
 }
 
-// The text of a string, as a part of it: the one place where what a value's text is is settled.
-pub fn text_of(v: &[u8]) -> &[u8]
-    ensures { λ r. ⌜ now r ≡ textOf (now (v .entry)) ⌝ }
+// How a string is spelled: the bytes between its quotes, as a part of it.
+pub fn spelling_of(v: &[u8]) -> &[u8]
+    ensures { λ r. ⌜ now r ≡ spellingOf (now (v .entry)) ⌝ }
 {
     name_part(v, 0)
 }
 
 // The same of a value's own bytes, which end with it: nothing is looked for.
-pub fn own_text(v: &[u8]) -> &[u8]
+pub fn own_spelling(v: &[u8]) -> &[u8]
     requires { ⌜ Own (now v) ⌝ }
-    ensures { λ r. ⌜ now r ≡ textOf (now (v .entry)) ⌝ }
+    ensures { λ r. ⌜ now r ≡ spellingOf (now (v .entry)) ⌝ }
 {
     let n = v.len();
     if n < 2 {
@@ -64,18 +62,10 @@ pub fn value_at(s: &[u8], v: usize, e: usize) -> &[u8]
     part(s, v, e)
 }
 
-// The text of the value at v, which ends at e, likewise.
-pub fn text_at(s: &[u8], v: usize, e: usize) -> &[u8]
+// How the text of the value at v is spelled, which ends at e, likewise.
+pub fn spelling_at(s: &[u8], v: usize, e: usize) -> &[u8]
     requires { ⌜ (0 < e → e ≡ behind (now s) v) ⌝ }
-    ensures { λ r. ⌜ now r ≡ textAt (now (s .entry)) v ⌝ }
+    ensures { λ r. ⌜ now r ≡ spellingAt (now (s .entry)) v ⌝ }
 {
-    own_text(value_at(s, v, e))
-}
-
-// A string v under a rule: `kept` says whether its text keeps it. Nobody looks for a backslash, which breaks a text under a rule: the rules
-// have none.
-pub fn under(v: &[u8], kept: bool) -> bool
-    ensures { λ r. ⌜ r ≡ (isString (now (v .entry)) && kept) ⌝ }
-{
-    and(is_string(v), kept)
+    own_spelling(value_at(s, v, e))
 }

@@ -3,12 +3,13 @@
 use crate::hops::Value;
 use crate::hops::hop_members;
 use crate::spans::Span;
-use crate::spans::text_span;
+use crate::spans::spelling_span;
+use crate::spelled::is_hop_text;
 use crate::trails::Trail;
 use crate::trails::no_trail;
 use crate::values::is_array;
-use crate::values::own_text;
-use crate::values::under;
+use crate::values::is_string;
+use crate::values::own_spelling;
 use crate::values::value_at;
 use json::Element;
 use json::element_at;
@@ -22,20 +23,7 @@ ghost use Rattle.json.specs.Places.{behind};
 ghost use Rattle.json.specs.inner.Landing.{Cell};
 ghost use Rattle.fields.specs.inner.Judging.{viaOf};
 ghost use Rattle.fields.specs.Trail.{hostSpan};
-ghost use Rattle.fields.specs.Via.{hopKeeps, hopRule, isHop};
-
-// The rule of member n: 1 host, 2 destination, any other organization.
-fn is_hop_text(n: u8, t: &[u8]) -> bool
-    ensures { λ r. ⌜ r ≡ hopRule n (now (t .entry)) ⌝ }
-{
-    if n == 1 {
-        return rules::is_host(t);
-    }
-    if n == 2 {
-        return rules::is_destination(t);
-    }
-    rules::is_organization(t)
-}
+ghost use Rattle.fields.specs.Via.{hopKeeps, isHop};
 
 // Whether the value x is there and keeps the rule of member n.
 fn keeps_member(v: &[u8], x: Value, n: u8) -> bool
@@ -47,8 +35,7 @@ fn keeps_member(v: &[u8], x: Value, n: u8) -> bool
         return false;
     }
     let w = value_at(v, p, x.end);
-    let t = own_text(w);
-    under(w, is_hop_text(n, t))
+    and(is_string(w), is_hop_text(n, own_spelling(w)))
 }
 
 // Whether an object keeps the rule, and then where its host stands; and where it ends, 0 where the walk over its members does not tell.
@@ -92,7 +79,7 @@ fn object_at(v: &[u8], o: usize) -> Object
                 keeps_member(v, organization, 3),
             ),
         ),
-        host: text_span(v, host.at, host.end),
+        host: spelling_span(v, host.at, host.end),
         end: w.end,
     }
 }

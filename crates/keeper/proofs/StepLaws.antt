@@ -11,39 +11,35 @@ use Rattle.call.specs.declared.records.Held.the-variants.{Nothing as Unheld, Is
 use Rattle.call.specs.declared.records.Outcome.{Outcome}
 use Rattle.keeper.proofs.FactLaws.{sound-call, numbered}
 use Rattle.keeper.proofs.KeepingLaws.{kept-well, taken-well}
+use Rattle.keeper.proofs.TextLaws.{named-used}
 use Rattle.keeper.specs.Facts.{callOf, fieldsFrom, eventOf}
 use Rattle.keeper.specs.inner.Known.{Fitting}
 use Rattle.keeper.specs.Keeping.{Step, tableAfter, callAt, roomFor, recordFor, takenAt, taken, agreesAt, askedAt, tickedAt}
 use Rattle.message.specs.inner.Named.{Named}
 use Rattle.message.specs.Parties.{callIdOf, userOf, callerFireOf, calleeFireOf}
 use Rattle.message.specs.declared.facts.Message.{Message}
-use Rattle.octets.proofs.TestLaws.{and-parts}
 use Rattle.table.proofs.KeepLaws.{fields-of}
 use Rattle.table.proofs.LookupLaws.{found}
 use Rattle.table.specs.Image.{recordCount, recordAt, withRecord}
-use Rattle.table.specs.Record.{recordFields, newRecord, sameParties, isFree, isNamed}
+use Rattle.table.specs.Record.{recordFields, newRecord}
 use Rattle.table.specs.Search.{placeNamed, freePlace}
 use Rattle.table.specs.WellFormed.{wellFormed}
 use Rattle.table.specs.declared.numbers.Fields.{Fields}
 use Rattle.table.specs.declared.searching.Found.the-variants.{At, Nothing}
-use mathlib.Core.Bool.{Bool, true, false, not}
+use mathlib.Core.Bool.{Bool, true, false}
 use mathlib.Core.List.{List}
 use mathlib.Core.Path.{_≡_, refl, sym, ap, _∙_}
 
-pub named-used : (id r : List ℕ) → isNamed id r ≡ true → isFree r ≡ false
-unfolding isNamed
-named-used id r e = go (isFree r) (and-parts (not (isFree r)) _ e .0)
-  where
-    go : (b : Bool) → not b ≡ true → b ≡ false
-    go true p = sym p
-    go false p = refl
+-- the record of a new call, with the texts of its message
+pub opened : (t s : List ℕ) (m : Message) (c : Call) (k : ℕ) {id u x y t′ : List ℕ} {f : Fields} → id ≡ callIdOf s m → u ≡ userOf s m → x ≡ callerFireOf s m
+    → y ≡ calleeFireOf s m → f ≡ fieldsFrom c → t′ ≡ withRecord t k (newRecord id u x y f) → t′ ≡ withRecord t k (recordFor s m c)
+unfolding recordFor
+opened t s m c k p q r v w z = rw (sym p, sym q, sym r, sym v, sym w) z
 
 -- a new call takes record k
-pub taken-found : (t s : List ℕ) (m : Message) (a : Answer) (c : Call) {id u x y t′ : List ℕ} {f : Fields} {k : ℕ} → freePlace t ≡ At k
-    → id ≡ callIdOf s m → u ≡ userOf s m → x ≡ callerFireOf s m → y ≡ calleeFireOf s m → f ≡ fieldsFrom c
-    → t′ ≡ withRecord t k (newRecord id u x y f) → (a ≡ takenAt t s m a c (roomFor t m) .answer) × (t′ ≡ takenAt t s m a c (roomFor t m) .table)
-unfolding recordFor
-taken-found t s m a c place p q r v w z = rw (place, sym p, sym q, sym r, sym v, sym w) (refl, z)
+pub taken-found : (t s : List ℕ) (m : Message) (a : Answer) (c : Call) {t′ : List ℕ} {k : ℕ} → freePlace t ≡ At k → t′ ≡ withRecord t k (recordFor s m c)
+    → (a ≡ takenAt t s m a c (roomFor t m) .answer) × (t′ ≡ takenAt t s m a c (roomFor t m) .table)
+taken-found t s m a c place z = rw place (refl, z)
 
 -- an event on a call's record
 module _ (t id : List ℕ) (now : ℕ) (e : Event) {t′ : List ℕ} {k : ℕ} {f : Fields} {c : Call} {o : Outcome} (w : wellFormed t ≡ true) (place : placeNamed id t ≡ At k)
@@ -65,34 +61,30 @@ module _ (t id : List ℕ) (now : ℕ) (e : Event) {t′ : List ℕ} {k : ℕ} {
       rw (is-t, settled-is) (kept-well t w k inside (named-used id (recordAt t k) (found id t k place .passes)) (decided (Is (callAt t k)) e now .after) sound)
 
 -- a request or a response on its call's record
-pub asked-found : (t s : List ℕ) (m : Message) (now : ℕ) {t′ id u x y : List ℕ} {k : ℕ} {agrees : Bool} {e : Event} {f : Fields} {c : Call} {o : Outcome} → wellFormed t ≡ true
-    → Named s m → id ≡ callIdOf s m → placeNamed id t ≡ At k → u ≡ userOf s m → x ≡ callerFireOf s m → y ≡ calleeFireOf s m
-    → agrees ≡ sameParties u x y (recordAt t k) → f ≡ recordFields (recordAt t k) → c ≡ callOf f → Fitting f → e ≡ eventOf m agrees
+pub asked-found : (t s : List ℕ) (m : Message) (now : ℕ) {t′ : List ℕ} {k : ℕ} {agrees : Bool} {e : Event} {f : Fields} {c : Call} {o : Outcome} → wellFormed t ≡ true
+    → Named s m → placeNamed (callIdOf s m) t ≡ At k → agrees ≡ agreesAt t s m k → f ≡ recordFields (recordAt t k) → c ≡ callOf f → Fitting f → e ≡ eventOf m agrees
     → o ≡ decided (Is c) e now → t′ ≡ tableAfter t k (o .after) → now < 18446744073709551616
     → (o .answer ≡ askedAt t now s m (placeNamed (callIdOf s m) t) .answer) × (t′ ≡ askedAt t now s m (placeNamed (callIdOf s m) t) .table)
     × (wellFormed t′ ≡ true)
-asked-found t s m now {t′} {id} {u} {x} {y} {k} {agrees} {e} {f} {c} {o} w n is-id place is-u is-x is-y is-agrees is-f is-c fit is-e is-o is-t clock =
-    let a : agrees ≡ agreesAt t s m k = rw (sym is-u, sym is-x, sym is-y) is-agrees in
-    let v : e ≡ eventOf m (agreesAt t s m k) = rw (sym a) is-e in
-    let p : placeNamed (callIdOf s m) t ≡ At k = rw (sym is-id) place in
-    let i : o ≡ decided (Is (callAt t k)) (eventOf m (agreesAt t s m k)) now = rw (sym v)
-    (settled-is t id now e w place is-f is-c fit is-o is-t (rw is-e (numbered m agrees (n .number-low) (n .number-high))) clock) in
-    let z : wellFormed t′ ≡ true = settled-well t id now e w place is-f is-c fit is-o is-t (rw is-e (numbered m agrees (n .number-low) (n .number-high))) clock in
-    rw p (ap (λ (o : Outcome). o .answer) i, is-t ∙ ap (λ (o : Outcome). tableAfter t k (o .after)) i, z)
+asked-found t s m now {t′} {k} {agrees} {e} {f} {c} {o} w n place is-agrees is-f is-c fit is-e is-o is-t clock =
+    let v : e ≡ eventOf m (agreesAt t s m k) = rw (sym is-agrees) is-e in
+    let h : Numbered e = rw is-e (numbered m agrees (n .number-low) (n .number-high)) in
+    let i : o ≡ decided (Is (callAt t k)) (eventOf m (agreesAt t s m k)) now = rw (sym v) (settled-is t (callIdOf s m) now e w place is-f is-c fit is-o is-t h clock) in
+    let z : wellFormed t′ ≡ true = settled-well t (callIdOf s m) now e w place is-f is-c fit is-o is-t h clock in
+    rw place (ap (λ (o : Outcome). o .answer) i, is-t ∙ ap (λ (o : Outcome). tableAfter t k (o .after)) i, z)
 
 -- a request or a response that names no call on record
-pub asked-new : (t s : List ℕ) (m : Message) (now : ℕ) {t′ id : List ℕ} {e : Event} {o : Outcome} {r : Answer} → wellFormed t ≡ true
-    → Named s m → id ≡ callIdOf s m → placeNamed id t ≡ Nothing → e ≡ eventOf m false → o ≡ decided Unheld e now
+pub asked-new : (t s : List ℕ) (m : Message) (now : ℕ) {t′ : List ℕ} {e : Event} {o : Outcome} {r : Answer} → wellFormed t ≡ true
+    → Named s m → placeNamed (callIdOf s m) t ≡ Nothing → e ≡ eventOf m false → o ≡ decided Unheld e now
     → (r ≡ taken t s m (o .answer) (o .after) .answer) × (t′ ≡ taken t s m (o .answer) (o .after) .table) → now < 18446744073709551616
     → (r ≡ askedAt t now s m (placeNamed (callIdOf s m) t) .answer) × (t′ ≡ askedAt t now s m (placeNamed (callIdOf s m) t) .table)
     × (wellFormed t′ ≡ true)
-asked-new t s m now {t′} {id} {e} {o} {r} w n is-id place is-e is-o is clock =
-    let p : placeNamed (callIdOf s m) t ≡ Nothing = rw (sym is-id) place in
+asked-new t s m now {t′} {e} {o} {r} w n place is-e is-o is clock =
     let i : o ≡ decided Unheld (eventOf m false) now = rw (sym is-e) is-o in
     let f : Outcome → Step = λ (o : Outcome). taken t s m (o .answer) (o .after) in
-    let z : wellFormed (taken t s m (o .answer) (o .after) .table) ≡ true = taken-well t w s m n p (o .answer) (o .after)
+    let z : wellFormed (taken t s m (o .answer) (o .after) .table) ≡ true = taken-well t w s m n place (o .answer) (o .after)
     (rw i (decided-sound Unheld (eventOf m false) now tt (numbered m false (n .number-low) (n .number-high)) clock)) in
-    rw p (is .0 ∙ ap (λ (o : Outcome). f o .answer) i, is .1 ∙ ap (λ (o : Outcome). f o .table) i, rw (is .1) z)
+    rw place (is .0 ∙ ap (λ (o : Outcome). f o .answer) i, is .1 ∙ ap (λ (o : Outcome). f o .table) i, rw (is .1) z)
 
 -- a tick on its call's record
 pub ticked-found : (t id : List ℕ) (now : ℕ) {t′ : List ℕ} {k : ℕ} {f : Fields} {c : Call} {o : Outcome} → wellFormed t ≡ true

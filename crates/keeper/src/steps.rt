@@ -11,16 +11,22 @@ use call::After;
 use call::Call;
 use call::Event;
 use call::Held;
+use escapes::find_text;
+use escapes::is_escaped;
+use escapes::text_part;
 use message::Message;
 use message::Reading;
+use octets::and;
 use table::Found;
 ghost use mathlib.Core.Bool.{true};
 ghost use mathlib.Core.Path.{_≡_};
-ghost use Prim.Native.Nat.{_<_};
-ghost use Rattle.keeper.specs.Keeping.{askedAt, tableAfter, onMessage, onTick, roomFor, taken, takenAt, tickedAt};
+ghost use Prim.Native.Nat.{_<_, _≤_};
+ghost use lib.ListN.{length};
+ghost use Rattle.escapes.specs.Rfc7159.{text};
+ghost use Rattle.keeper.specs.Keeping.{agreesAt, askedAt, tableAfter, onMessage, onTick, recordFor, roomFor, taken, takenAt, tickedAt};
 ghost use Rattle.message.specs.inner.Named.{Named};
 ghost use Rattle.message.specs.Parties.{callIdOf};
-ghost use Rattle.table.specs.Image.{recordCount};
+ghost use Rattle.table.specs.Image.{recordCount, withRecord};
 ghost use Rattle.table.specs.Search.{placeNamed};
 ghost use Rattle.table.specs.WellFormed.{wellFormed};
 
@@ -36,6 +42,98 @@ fn leave(t: &mut [u8], k: usize, after: After)
     }
 }
 
+// Puts a new call into record k, with the texts that its message spells: a Call-ID has at most 64 bytes, an address 45.
+fn open_at(t: &mut [u8], k: usize, s: &[u8], m: Message, c: Call)
+    requires { ⌜ (k < recordCount (now t)) × Named (now s) m ⌝ }
+    ensures { λ _. ⌜ now (t .exit) ≡ withRecord (now (t .entry)) k (recordFor (now (s .entry)) m c) ⌝ }
+{
+    let w = message::call_id(s, m);
+    let mut named = [0u8; 64];
+    let f = find_text(w, &mut named);
+    let id = text_part(w, &named, f);
+    let x = message::caller_address(s, m);
+    let mut calling = [0u8; 64];
+    let g = find_text(x, &mut calling);
+    let caller = text_part(x, &calling, g);
+    let y = message::callee_address(s, m);
+    let mut called = [0u8; 64];
+    let h = find_text(y, &mut called);
+    let callee = text_part(y, &called, h);
+    let user = message::user(caller, m);
+    let caller_fire = message::caller_fire(caller, m);
+    let callee_fire = message::callee_fire(callee, m);
+    table::open(t, k, id, user, caller_fire, callee_fire, fields_from(c));
+}
+
+// Whether user and both Fire-IDs of a message are those of record k, its addresses decoded.
+fn agrees_decoded(t: &[u8], k: usize, s: &[u8], m: Message) -> bool
+    requires { ⌜ (k < recordCount (now t)) × Named (now s) m ⌝ }
+    ensures { λ r. ⌜ r ≡ agreesAt (now (t .entry)) (now (s .entry)) m k ⌝ }
+{
+    let x = message::caller_address(s, m);
+    let mut calling = [0u8; 64];
+    let g = find_text(x, &mut calling);
+    let caller = text_part(x, &calling, g);
+    let y = message::callee_address(s, m);
+    let mut called = [0u8; 64];
+    let h = find_text(y, &mut called);
+    let callee = text_part(y, &called, h);
+    table::same_parties(
+        t,
+        k,
+        message::user(caller, m),
+        message::caller_fire(caller, m),
+        message::callee_fire(callee, m),
+    )
+}
+
+// The same. An address ends seven bytes behind its Fire-ID: one that is no longer as it is spelled has no escape, and is not decoded.
+fn agrees_at(t: &[u8], k: usize, s: &[u8], m: Message) -> bool
+    requires { ⌜ (k < recordCount (now t)) × Named (now s) m ⌝ }
+    ensures { λ r. ⌜ r ≡ agreesAt (now (t .entry)) (now (s .entry)) m k ⌝ }
+{
+    let caller = message::caller_address(s, m);
+    let callee = message::callee_address(s, m);
+    let a = m.callerfire;
+    let b = m.calleefire;
+    if !and(caller.len() == a.end + 7, callee.len() == b.end + 7) {
+        return agrees_decoded(t, k, s, m);
+    }
+    let user = message::user(caller, m);
+    let caller_fire = message::caller_fire(caller, m);
+    let callee_fire = message::callee_fire(callee, m);
+    table::same_parties(t, k, user, caller_fire, callee_fire)
+}
+
+// The record of the call whose Call-ID w spells.
+fn find_decoded(t: &[u8], w: &[u8]) -> Found
+    requires { ⌜ length (text (now w)) ≤ 64 ⌝ }
+    ensures { λ r. ⌜ r ≡ placeNamed (text (now (w .entry))) (now (t .entry)) ⌝ }
+{
+    let mut named = [0u8; 64];
+    let f = find_text(w, &mut named);
+    table::find(t, text_part(w, &named, f))
+}
+
+// The record of the call that a message names. No Call-ID of a record has a backslash: the bytes are tried as they stand, and decoded only where
+// they are not found.
+fn find_call(t: &[u8], s: &[u8], m: Message) -> Found
+    requires { ⌜ (wellFormed (now t) ≡ true) × Named (now s) m ⌝ }
+    ensures { λ r. ⌜ r ≡ placeNamed (callIdOf (now (s .entry)) m) (now (t .entry)) ⌝ }
+{
+    let w = message::call_id(s, m);
+    let r = table::find(t, w);
+    match r {
+        Found::At(_) => r,
+        Found::Nothing => {
+            if !is_escaped(w) {
+                return r;
+            }
+            find_decoded(t, w)
+        }
+    }
+}
+
 // A new call takes the lowest free record; 27 where there is none.
 fn take_at(t: &mut [u8], s: &[u8], m: Message, a: Answer, c: Call) -> Answer
     requires { ⌜ Named (now s) m ⌝ }
@@ -44,11 +142,7 @@ fn take_at(t: &mut [u8], s: &[u8], m: Message, a: Answer, c: Call) -> Answer
 {
     match table::free_place(t) {
         Found::At(k) => {
-            let id = message::call_id(s, m);
-            let user = message::user(s, m);
-            let caller_fire = message::caller_fire(s, m);
-            let callee_fire = message::callee_fire(s, m);
-            table::open(t, k, id, user, caller_fire, callee_fire, fields_from(c));
+            open_at(t, k, s, m, c);
             a
         }
         Found::Nothing => Answer::Refused(Refusal::Call(Reason::NoRoom, Waiting::Requester)),
@@ -75,12 +169,9 @@ fn ask(t: &mut [u8], time: u64, s: &[u8], m: Message) -> Answer
         × (now (t .exit) ≡ askedAt (now (t .entry)) time (now (s .entry)) m (placeNamed (callIdOf (now (s .entry)) m) (now (t .entry))) .table)
         × (wellFormed (now (t .exit)) ≡ true) ⌝ }
 {
-    match table::find(t, message::call_id(s, m)) {
+    match find_call(t, s, m) {
         Found::At(k) => {
-            let user = message::user(s, m);
-            let caller_fire = message::caller_fire(s, m);
-            let callee_fire = message::callee_fire(s, m);
-            let agrees = table::same_parties(t, k, user, caller_fire, callee_fire);
+            let agrees = agrees_at(t, k, s, m);
             let c = call_of(table::fields_at(t, k));
             let o = call::decide(Held::Is(c), event_of(m, agrees), time);
             let after = o.after;

@@ -3,39 +3,38 @@
 use Prim.Native.Nat.{ℕ, _+_, _≤_, _<_}
 use Rattle.json.specs.Places.{bytes, part}
 use Rattle.fields.proofs.FieldLaws.{address-broken, sequence-broken, status-broken}
-use Rattle.fields.proofs.TextLaws.{whole-cut, span-cut}
+use Rattle.fields.proofs.SpellingLaws.{text-cut}
+use Rattle.fields.proofs.ValueLaws.{free-text, ruled-text}
+use Rattle.message.proofs.PartyLaws.{address-short}
 use Rattle.message.specs.Checks.{checked}
 use Rattle.fields.specs.Field.{addressRule, statusField, keeps}
 use Rattle.message.specs.Message.{firstSetting, numberIn, methodIn, callerIn, codeIn, numberOf, methodOf, fromCaller, toCaller, codeOf, settingOf, sameSide}
 use Rattle.message.specs.Message.{sidesDisagree, disagrees, userSpan, callerSpan, calleeSpan, callerPlace, calleePlace, messageOf}
-use Rattle.fields.specs.Spans.{textAt}
-use Rattle.fields.specs.Spans.{cut}
-use Rattle.message.specs.Parties.{callIdOf, userOf, callerFireOf, calleeFireOf}
+use Rattle.fields.specs.Spans.{cut, textAt}
+use Rattle.message.specs.Parties.{callIdOf, callerAddressOf, calleeAddressOf, userOf, callerFireOf, calleeFireOf}
 use Rattle.message.specs.Reading.{reading}
 use Rattle.message.proofs.AcceptedRows.{good-sound, is-there, is-kept, read-tag, read-taken}
 use Rattle.message.specs.inner.Named.{Named}
-use Rattle.fields.specs.Value.{isString, textOf, freely, ruled}
 use Rattle.message.specs.declared.checking.Check.the-variants.{Good}
 use Rattle.message.specs.declared.facts.Message.{Message}
 use Rattle.message.specs.declared.reading.Reading.the-variants.{Read}
-use Rattle.octets.proofs.TestLaws.{and-parts, or-none}
-use Rattle.octets.specs.Class.{all}
-use Rattle.rules.proofs.PartLaws.{call-id-length, caller-address-parts, callee-address-parts}
+use Rattle.octets.proofs.TestLaws.{or-none}
+use Rattle.rules.proofs.PartLaws.{caller-address-parts, callee-address-parts}
 use Rattle.rules.proofs.SequenceLaws.{Ranges, sequence-ranges}
 use Rattle.rules.proofs.StatusLaws.{status-range}
 use Rattle.rules.specs.Address.{addressOf}
 use Rattle.rules.specs.Asks.{tagAsks, isIn}
 use Rattle.rules.specs.Sequence.{sequenceRule, sequenceOf}
 use Rattle.rules.specs.Status.{statusRule, statusOf}
-use Rattle.rules.specs.Texts.{fireRule, userRule, callIdRule, noBackslash}
+use Rattle.rules.specs.Texts.{fireRule, userRule, callIdRule}
 use Rattle.rules.specs.declared.addresses.Address.the-variants as addresses
 use Rattle.rules.specs.declared.addresses.Address.{Address}
 use Rattle.rules.specs.declared.sequences.Sequence.the-variants as sequences
 use Rattle.rules.specs.declared.sequences.Sequence.{Sequence}
 use Rattle.rules.specs.declared.statuses.Status.the-variants as statuses
 use Rattle.rules.specs.declared.statuses.Status.{Status}
-use lib.ListN.{getD}
-use mathlib.Core.Bool.{Bool, true, false, _&&_}
+use lib.ListN.{getD, length}
+use mathlib.Core.Bool.{Bool, true, false}
 use mathlib.Core.List.{List}
 use mathlib.Core.Logic.{_⊎_, inl, inr}
 use mathlib.Core.Path.{_≡_, refl, sym, ap, subst, _∙_}
@@ -58,37 +57,21 @@ sides true false e = inl (refl, refl)
 sides false true e = inr (refl, refl)
 sides false false e = never e
 
--- the text of a string under a rule keeps it
-ruled-text : (rule : List ℕ → Bool) (v : List ℕ) → ruled rule v ≡ true → rule (textOf v) ≡ true
-unfolding ruled freely
-ruled-text rule v e =
-    let p = and-parts (isString v) (all noBackslash (textOf v) && rule (textOf v)) e in
-    and-parts (all noBackslash (textOf v)) (rule (textOf v)) (p .1) .1
-
-free-text : (rule : List ℕ → Bool) (v : List ℕ) → freely rule v ≡ true → rule (textOf v) ≡ true
-unfolding freely
-free-text rule v e = and-parts (isString v) (rule (textOf v)) e .1
-
 -- what texts that keep their rules say
 
-module _ (s : List ℕ) (v : ℕ) (rule : addressRule (textAt s v) ≡ true) where
-  caller-side : (a : Address) → addressOf (textAt s v) ≡ a → callerIn a ≡ true → (userRule (cut s (userSpan v a)) ≡ true) × (fireRule (cut s (callerSpan v a)) ≡ true)
-  unfolding part
-  caller-side (addresses.Caller u f) e h =
-      let p = caller-address-parts (textAt s v) u f e in (
-        ap userRule (span-cut s v 7 u (omega (arith, p .starts)) (omega (arith, p .goes-on, p .ends))) ∙ p .user,
-        ap fireRule (span-cut s v (u + 1) f (omega (arith, p .goes-on)) (omega (arith, p .ends))) ∙ p .fire,
-      )
+module _ (t : List ℕ) (rule : addressRule t ≡ true) where
+  caller-side : (a : Address) → addressOf t ≡ a → callerIn a ≡ true
+      → (userRule (cut t (userSpan a)) ≡ true) × ((fireRule (cut t (callerSpan a)) ≡ true) × (callerSpan a .end + 7 ≡ length t))
+  unfolding cut part
+  caller-side (addresses.Caller u f) e h = let p = caller-address-parts t u f e in (p .user, (p .fire, p .ends))
   caller-side (addresses.Callee f) e h = never (sym h)
   caller-side addresses.Broken e h = never (sym h)
 
-  callee-side : (a : Address) → addressOf (textAt s v) ≡ a → callerIn a ≡ false → fireRule (cut s (calleeSpan v a)) ≡ true
-  unfolding part
+  callee-side : (a : Address) → addressOf t ≡ a → callerIn a ≡ false → (fireRule (cut t (calleeSpan a)) ≡ true) × (calleeSpan a .end + 7 ≡ length t)
+  unfolding cut part
   callee-side (addresses.Caller u f) e h = never h
-  callee-side (addresses.Callee f) e h =
-      let p = callee-address-parts (textAt s v) f e in
-      ap fireRule (span-cut s v 12 f (omega (arith, p .goes-on)) (omega (arith, p .ends))) ∙ p .fire
-  callee-side addresses.Broken e h = never (sym rule ∙ sym (address-broken (textAt s v) (sym e)))
+  callee-side (addresses.Callee f) e h = let p = callee-address-parts t f e in (p .fire, p .ends)
+  callee-side addresses.Broken e h = never (sym rule ∙ sym (address-broken t (sym e)))
 
 numbered : (t : List ℕ) → sequenceRule t ≡ true → (q : Sequence) → sequenceOf t ≡ q → Ranges (numberIn q) (methodIn q)
 numbered t rule (sequences.Of n m) e = sequence-ranges t n m e
@@ -97,6 +80,13 @@ numbered t rule sequences.Broken e = never (sym rule ∙ sym (sequence-broken t 
 coded : (t : List ℕ) → statusRule t ≡ true → (q : Status) → statusOf t ≡ q → (100 ≤ codeIn q) × (codeIn q ≤ 699)
 coded t rule (statuses.Code n) e = status-range t n e
 coded t rule statuses.Broken e = never (sym rule ∙ sym (status-broken t (sym e)))
+
+-- where the addresses end, how long they are at most, and that what they name keeps its rule
+abbrev Sides : List ℕ → Message → Type 0
+Sides s m =
+    ((m .callerfire .end + 7 ≡ length (callerAddressOf s m)) × (m .calleefire .end + 7 ≡ length (calleeAddressOf s m)))
+    × (((length (callerAddressOf s m) ≤ 64) × (length (calleeAddressOf s m) ≤ 64))
+    × ((userRule (userOf s m) ≡ true) × ((fireRule (callerFireOf s m) ≡ true) × (fireRule (calleeFireOf s m) ≡ true))))
 
 -- A request or a response that passed the run of its tag, and whose sides differ.
 
@@ -148,26 +138,25 @@ module _ (s : List ℕ) (tag : ℕ) (t : List ℕ) (two : (tag ≡ 1) ⊎ (tag �
   it = messageOf s (settingOf s tag t) t
 
   -- which of the two addresses is the caller's
-  parties : ((fromCaller s t ≡ true) × (toCaller s t ≡ false)) ⊎ ((fromCaller s t ≡ false) × (toCaller s t ≡ true))
-      → (userRule (userOf s it) ≡ true) × ((fireRule (callerFireOf s it) ≡ true) × (fireRule (calleeFireOf s it) ≡ true))
-  unfolding messageOf userOf callerFireOf calleeFireOf callerPlace calleePlace fromCaller toCaller
+  parties : ((fromCaller s t ≡ true) × (toCaller s t ≡ false)) ⊎ ((fromCaller s t ≡ false) × (toCaller s t ≡ true)) → Sides s it
+  unfolding messageOf callerAddressOf calleeAddressOf userOf callerFireOf calleeFireOf callerPlace calleePlace fromCaller toCaller
   parties (inl e) =
       let v = getD t 3 0 in
       let w = getD t 2 0 in
-      let p = caller-side s v from-kept (addressOf (textAt s v)) refl (e .0) in
-      rw (e .0) (p .0, (p .1, callee-side s w to-kept (addressOf (textAt s w)) refl (e .1)))
+      let p = caller-side (textAt s v) from-kept (addressOf (textAt s v)) refl (e .0) in
+      let q = callee-side (textAt s w) to-kept (addressOf (textAt s w)) refl (e .1) in
+      rw (e .0, text-cut s v, text-cut s w) ((p .1 .1, q .1), ((address-short (textAt s v) from-kept, address-short (textAt s w) to-kept), (p .0, (p .1 .0, q .0))))
   parties (inr e) =
       let v = getD t 3 0 in
       let w = getD t 2 0 in
-      let p = caller-side s w to-kept (addressOf (textAt s w)) refl (e .1) in
-      rw (e .0) (p .0, (p .1, callee-side s v from-kept (addressOf (textAt s v)) refl (e .0)))
+      let p = caller-side (textAt s w) to-kept (addressOf (textAt s w)) refl (e .1) in
+      let q = callee-side (textAt s v) from-kept (addressOf (textAt s v)) refl (e .0) in
+      rw (e .0, text-cut s v, text-cut s w) ((p .1 .1, q .1), ((address-short (textAt s w) to-kept, address-short (textAt s v) from-kept), (p .0, (p .1 .0, q .0))))
 
-  -- the Call-ID stands where its value's text does
+  -- the Call-ID is its value's text
   call-named : callIdRule (callIdOf s it) ≡ true
   unfolding messageOf callIdOf
-  call-named =
-      let n = call-id-length (textAt s (getD t 5 0)) call-kept in
-      ap callIdRule (whole-cut s (getD t 5 0) (omega arith)) ∙ call-kept
+  call-named = ap callIdRule (text-cut s (getD t 5 0)) ∙ call-kept
 
   is-named : sameSide (fromCaller s t) (toCaller s t) ≡ false → Named s it
   unfolding messageOf settingOf numberOf methodOf
@@ -177,9 +166,13 @@ module _ (s : List ℕ) (tag : ℕ) (t : List ℕ) (two : (tag ≡ 1) ⊎ (tag �
       let r = numbered x sequence-kept (sequenceOf x) refl in
       record {
         call-id = call-named;
-        user = p .0;
-        caller-fire = p .1 .0;
-        callee-fire = p .1 .1;
+        caller-ends = p .0 .0;
+        callee-ends = p .0 .1;
+        caller-short = p .1 .0 .0;
+        callee-short = p .1 .0 .1;
+        user = p .1 .1 .0;
+        caller-fire = p .1 .1 .1 .0;
+        callee-fire = p .1 .1 .1 .1;
         number-low = r .positive;
         number-high = omega (arith, r .small);
         method-low = r .coded;

@@ -9,7 +9,7 @@ use Rattle.fields.specs.Field.{keeps}
 use Rattle.fields.specs.Known.{empty, noted, repeated}
 use Rattle.message.specs.Message.{methodOf, numberOf, fromCaller, toCaller, contentAt, codeIn, codeOf, secureOf, settingOf, sidesDisagree, callbackTraining, requestDisagrees}
 use Rattle.message.specs.Message.{responseDisagrees, disagrees, messageOf, firstSetting}
-use Rattle.fields.specs.Spans.{textAt}
+use Rattle.fields.specs.Spans.{spellingAt, textAt}
 use Rattle.message.specs.Shape.{tagOf, objectOf}
 use Rattle.fields.specs.Via.{viaRule}
 use Rattle.message.specs.declared.facts.Message.{Message}
@@ -144,7 +144,7 @@ module _ {s t s′ t′ : List ℕ} {tag : ℕ} (a : Accepted s tag t) (l : Alik
   same-to = rw (same-bytes 2 (omega arith) (omega arith))
 
   content-by : AlikeAt s t s′ t′ 9 → contentAt s′ (getD t′ 9 0) ≡ contentAt s (getD t 9 0)
-  unfolding contentAt textAt
+  unfolding contentAt spellingAt
   content-by (neither x y) = rw (x, y)
   content-by (both x y f) = rw (ne-eqb (getD t 9 0) 0 (λ e. omega arith), ne-eqb (getD t′ 9 0) 0 (λ e. omega arith), f (λ e. omega arith))
 
@@ -171,7 +171,7 @@ module _ {s t s′ t′ : List ℕ} {tag : ℕ} (a : Accepted s tag t) (l : Alik
     same-truth = text-by s t s′ t′ 17 (λ e. omega arith) (is-there sound₂ 17 (omega arith) (omega arith) (invite-asks _ invite .secure)) (l 17 (omega arith) (omega arith))
 
     same-training : callbackTraining s′ (getD t′ 19 0) (getD t′ 15 0) ≡ callbackTraining s (getD t 19 0) (getD t 15 0)
-    unfolding callbackTraining textAt
+    unfolding callbackTraining spellingAt
     same-training = rw (same-mode, same-service)
 
   request-by : tag ≡ 1 → (u : Bool) → eqb (settingOf s tag t .method) 1 ≡ u → (f : Bool) → requestDisagrees s′ (settingOf s tag t) t′ f ≡ requestDisagrees s (settingOf s tag t) t f

@@ -1,12 +1,12 @@
 -- Row 9 on the fields that a request or a response must have: each kept field passes it on, a broken one ends it; and what each tells. Assumes nothing.
-use Rattle.octets.proofs.TestLaws.{and-parts}
 use Prim.Native.Nat.{ℕ, zero, suc, _+_, _≤_, _<_}
 use Rattle.fields.proofs.JudgingLaws.{cseq-tells, party-tells, status-tells, via-tells}
 use Rattle.fields.specs.Field.{keeps, statusField}
 use Rattle.fields.specs.inner.Judging.{cseqOf, partyOf, statusIn, viaOf}
 use Rattle.fields.specs.Spans.{textAt}
 use Rattle.fields.specs.Trail.{trailIn}
-use Rattle.fields.specs.Value.{freely, isString, ruled, textOf}
+use Rattle.fields.proofs.ValueLaws.{free-text, ruled-text}
+use Rattle.fields.specs.Value.{freely, textOf}
 use Rattle.fields.specs.declared.judging.CSeq.the-variants as cseqs
 use Rattle.fields.specs.declared.judging.Party.the-variants as parties
 use Rattle.fields.specs.declared.judging.Setting.{Setting}
@@ -28,17 +28,15 @@ use Rattle.message.specs.declared.envelopes.Told.the-variants as tolds
 use Rattle.message.specs.declared.envelopes.Told.{Told}
 use Rattle.message.specs.declared.facts.Facts.{Facts}
 use Rattle.message.specs.inner.Facts.{Asked, EnvelopeSays, FactsOf, OpeningSays, SentSays, ToldSays, faulty, nineFrom}
-use Rattle.octets.specs.Class.{all}
 use Rattle.rules.specs.Address.{addressOf}
 use Rattle.rules.specs.Asks.{isIn, tagAsks}
 use Rattle.rules.specs.Sequence.{sequenceOf, sequenceRule}
 use Rattle.rules.specs.Status.{statusOf, statusRule}
-use Rattle.rules.specs.Texts.{noBackslash}
 use Rattle.rules.specs.declared.addresses.Address.{Address}
 use borrow.Author.Tests.{eq-eqb, eqb-false, lt-ltb, ne-eqb}
 use lib.Dec.{eqb, ltb}
 use lib.ListN.{getD}
-use mathlib.Core.Bool.{true, false, _&&_, and-false}
+use mathlib.Core.Bool.{true, false, and-false}
 use mathlib.Core.List.{List}
 use mathlib.Core.Path.{_≡_, refl, ap, _∙_}
 use native.Mathlib.Omega.{arith}
@@ -54,18 +52,14 @@ module _ (s : List ℕ) (k : Setting) (t : List ℕ) (n : ℕ) (low : 0 < n) (hi
 
 -- What the fields tell.
 module _ (s : List ℕ) (t : List ℕ) where
-  sequence-is : (u : List ℕ) → ruled sequenceRule u ≡ true → sequenceRule (textOf u) ≡ true
-  unfolding ruled freely
-  sequence-is u e = and-parts (all noBackslash (textOf u)) (sequenceRule (textOf u)) (and-parts (isString u) (all noBackslash (textOf u) && sequenceRule (textOf u)) e .1) .1
-
   module _ {v : List ℕ} (is : v ≡ bytes s (getD t 1 0)) {n m : ℕ} (e : cseqs.Kept n m ≡ cseqOf v) where
     pub number-told : n ≡ numberOf s t
     unfolding numberOf textAt sequenceOf
-    number-told = let a = cseq-tells v e in a .1 .0 ∙ rw (← is, sequence-is v (a .0))
+    number-told = let a = cseq-tells v e in a .1 .0 ∙ rw (← is, ruled-text sequenceRule v (a .0))
 
     pub method-told : m ≡ methodOf s t
     unfolding methodOf textAt sequenceOf
-    method-told = let a = cseq-tells v e in a .1 .1 ∙ rw (← is, sequence-is v (a .0))
+    method-told = let a = cseq-tells v e in a .1 .1 ∙ rw (← is, ruled-text sequenceRule v (a .0))
 
   pub party-told : (n : ℕ) {v : List ℕ} → v ≡ bytes s (getD t n 0) → {a : Address} → parties.Kept a ≡ partyOf v → a ≡ addressOf (fieldText s t n)
   unfolding textAt
@@ -74,13 +68,9 @@ module _ (s : List ℕ) (t : List ℕ) where
   pub trail-told : {v : List ℕ} → v ≡ bytes s (getD t 6 0) → {r : Trail} → vias.Kept r ≡ viaOf v → r ≡ trailIn (bytes s (getD t 6 0))
   trail-told {v} is e = via-tells v e .1 ∙ ap trailIn is
 
-  status-is : (u : List ℕ) → freely statusRule u ≡ true → statusRule (textOf u) ≡ true
-  unfolding freely
-  status-is u e = and-parts (isString u) (statusRule (textOf u)) e .1
-
   pub code-told : {tag : ℕ} → tag ≡ 2 → {v : List ℕ} → v ≡ bytes s (getD t 7 0) → {c : ℕ} → statuses.Kept c ≡ statusIn v → c ≡ codeOf s tag (getD t 7 0)
   unfolding codeOf textAt statusOf
-  code-told two {v} is e = let a = status-tells v e in a .1 ∙ rw (two, ← is, status-is v (a .0))
+  code-told two {v} is e = let a = status-tells v e in a .1 ∙ rw (two, ← is, free-text statusRule v (a .0))
 
   pub no-code : {tag : ℕ} → (tag ≡ 2 → ⊥) → 0 ≡ codeOf s tag (getD t 7 0)
   unfolding codeOf

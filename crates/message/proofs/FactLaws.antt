@@ -1,13 +1,14 @@
 -- What is read of a message: the bounds of a method's code, the tag of a setting, and the message by its parts. Assumes nothing.
 use Prim.Native.Nat.{ℕ, _+_, _<_}
 use Rattle.fields.proofs.GatherLaws.{from-few}
-use Rattle.message.proofs.PartyLaws.{sorted-is}
+use Rattle.message.proofs.PartyLaws.{sorted-is, sorted-span}
 use Rattle.message.specs.Message.{methodIn, settingOf, callerIn, fromCaller}
 use Rattle.message.specs.Message.{secureOf, callerPlace, calleePlace, messageOf}
 use Rattle.fields.specs.Trail.{moved}
-use Rattle.fields.specs.Spans.{textAt, textSpan}
+use Rattle.fields.specs.Spans.{spellingSpan, textAt}
 use Rattle.message.specs.declared.facts.Facts.{Facts}
 use Rattle.message.specs.declared.facts.Message.{Message}
+use Rattle.message.specs.declared.facts.Parties.{Parties}
 use Rattle.message.specs.inner.Facts.{FactsOf, PartiesOf}
 use Rattle.fields.specs.declared.trails.Trail.{Trail}
 use Rattle.fields.specs.declared.spans.Span.{Span}
@@ -42,10 +43,11 @@ setting-tag s tag t e = rw e
 
 -- The message by its parts.
 module _ (s : List ℕ) (k : Setting) (t : List ℕ) {x : Facts} (h : FactsOf s (k .tag) t x) where
-  module _ {caller secure : Bool} {callid u f g : Span} {trail : Trail} where
-    pub message-is : caller ≡ callerIn (x .from) → secure ≡ secureOf s k (getD t 17 0) → callid ≡ textSpan s (getD t 5 0)
-        → PartiesOf (cond (callerIn (x .from)) (getD t 3 0) (getD t 2 0)) (cond (callerIn (x .from)) (x .from) (x .to))
-        (cond (callerIn (x .from)) (getD t 2 0) (getD t 3 0)) (cond (callerIn (x .from)) (x .to) (x .from)) u f g
+  module _ {caller secure : Bool} {callid v w : Span} {p : Parties} {trail : Trail} where
+    pub message-is : caller ≡ callerIn (x .from) → secure ≡ secureOf s k (getD t 17 0) → callid ≡ spellingSpan s (getD t 5 0)
+        → v ≡ spellingSpan s (getD t 3 0) → w ≡ spellingSpan s (getD t 2 0)
+        → PartiesOf (cond (callerIn (x .from)) v w) (cond (callerIn (x .from)) (x .from) (x .to))
+        (cond (callerIn (x .from)) w v) (cond (callerIn (x .from)) (x .to) (x .from)) p
         → trail ≡ moved (getD t 6 0) (x .trail)
         → _≡_ {A = Message} (record {
           tag = k .tag;
@@ -60,14 +62,37 @@ module _ (s : List ℕ) (k : Setting) (t : List ℕ) {x : Facts} (h : FactsOf s 
           call = getD t 5 0;
           via = getD t 6 0;
           callid = callid;
-          user = u;
-          callerfire = f;
-          calleefire = g;
+          calleraddress = p .calleraddress;
+          calleeaddress = p .calleeaddress;
+          user = p .user;
+          callerfire = p .callerfire;
+          calleefire = p .calleefire;
           trail = trail;
         }) (messageOf s k t)
     unfolding messageOf fromCaller callerPlace calleePlace
-    message-is a b c p m =
-        let v = getD t 3 0 in
-        let w = getD t 2 0 in
-        let y = callerIn (addressOf (textAt s v)) in
-        rw (m, h .trailed, a, b, c, p .users, p .callers, p .callees, h .numbered, h .coded, h .sent, h .meant, sorted-is s y v w, sorted-is s y w v)
+    message-is a b c d e q m =
+        let i = getD t 3 0 in
+        let j = getD t 2 0 in
+        let y = callerIn (addressOf (textAt s i)) in
+        rw (
+          m,
+          h .trailed,
+          a,
+          b,
+          c,
+          q .caller,
+          q .callee,
+          q .users,
+          q .callers,
+          q .callees,
+          d,
+          e,
+          h .numbered,
+          h .coded,
+          h .sent,
+          h .meant,
+          sorted-span s y i j,
+          sorted-span s y j i,
+          sorted-is s y i j,
+          sorted-is s y j i,
+        )

@@ -5,10 +5,9 @@ use Rattle.json.specs.Places.{bytes, members, spell}
 use Rattle.fields.proofs.GatherLaws.{hop-few as hop-three}
 use Rattle.message.proofs.PairLaws.{found, valueIn, doubled, late-members, by-once, once-by, noted-none, noted-by}
 use Rattle.fields.specs.Known.{empty, noted, repeated}
-use Rattle.fields.specs.Value.{ruled}
+use Rattle.fields.specs.Value.{ruled, wordSpelled}
 use Rattle.fields.specs.Via.{hopPlaces, hopRule, hopKeeps, isHop}
 use Rattle.rules.specs.Names.{hopMembers}
-use Rattle.rules.specs.Pieces.{wordNumber}
 use borrow.Author.Tests.{eq-eqb, lt-ltb, eqb-true, ltb-true}
 use lib.Dec.{eqb, ltb}
 use lib.ListN.{getD}
@@ -23,7 +22,7 @@ pub record HopBy (ms : List (List ℕ × List ℕ)) : Type 0 where
   pub there : (n : ℕ) → 1 ≤ n → n ≤ 3 → found hopMembers n ms ≡ true
   pub kept : (n : ℕ) → 1 ≤ n → n ≤ 3 → ruled (hopRule n) (valueIn hopMembers n ms) ≡ true
 
-pub hop-few : (x : List ℕ) → wordNumber hopMembers x < 27
+pub hop-few : (x : List ℕ) → wordSpelled hopMembers x < 27
 hop-few x = omega (arith, hop-three x)
 
 pub three : (P : ℕ → Type 0) → P 1 → P 2 → P 3 → (n : ℕ) → 1 ≤ n → n ≤ 3 → P n

@@ -1,7 +1,7 @@
 -- Marks of the reading (01 Reading), each a whole message on one side of a row or on both, computed from the definitions. Assumes nothing.
 use Rattle.json.specs.inner.Begun as json
 use Rattle.json.specs.inner.Begun.{begun}
-use Rattle.json.specs.inner.Machine.{begin, ends, expo, from, opens, point, step, stops, walk}
+use Rattle.json.specs.inner.Machine.{begin, ends, expo, from, hexes, isEsc, isHexDigit, opens, point, step, stops, walk}
 use Rattle.json.specs.inner.Tour.{tour}
 use Prim.Native.Nat.{ℕ, zero, suc}
 use Rattle.json.specs.Places.{behind, closing, elements, elementsFrom, follows, isMark, isOpen, isShut, left, memberAt, members, membersFrom, more, next, part, isWs}
@@ -13,8 +13,11 @@ use Rattle.message.specs.Message.{contentAt, disagrees, fromCaller, meth
 use Rattle.message.specs.Message.{wrongNumber, wrongSide}
 use Rattle.message.specs.Reading.{agreed, ample, judged, known, reading, reporting, settled, shaped}
 use Rattle.message.specs.Shape.{objectOf, tagAt, tagOf}
-use Rattle.fields.specs.Spans.{textAt}
-use Rattle.fields.specs.Value.{freely, isArray, isString, ruled, textOf}
+use Rattle.escapes.specs.Encoding.{encoded}
+use Rattle.escapes.specs.Rfc7159 as strings
+use Rattle.escapes.specs.Rfc7159.{escapeOf, isBroken, isHigh, isLow, isSurrogate, joined, letterOf, lettersFrom, lone, nibble, quad, spelt, text, took, unit}
+use Rattle.fields.specs.Spans.{spellingAt, textAt}
+use Rattle.fields.specs.Value.{freely, isArray, isString, ruled, spellingOf, textOf, wordSpelled}
 use Rattle.fields.specs.Via.{hopKeeps, hopPlaces, hopRule, isHop, viaRule}
 use Rattle.message.specs.declared.reading.Reading.the-variants.{Read, Refused}
 use Rattle.message.specs.declared.reading.Reading.{Reading}
@@ -30,7 +33,7 @@ use Rattle.rules.specs.Pieces.{digits, wordNumberFrom, reads, runLength, decima
 use Rattle.rules.specs.Sequence as sequence
 use Rattle.rules.specs.Sequence.{numberEnd, sequenceOf, sequenceRule}
 use Rattle.rules.specs.Status.{statusRule}
-use Rattle.rules.specs.Texts.{callIdRule, destinationRule, hostRule, imageRule, messageIdRule, noBackslash, organizationRule}
+use Rattle.rules.specs.Texts.{beginsPoint, callIdRule, destinationRule, fireRule, hostRule, imageRule, memoRule, messageIdRule, noBreak, organizationRule, points}
 use Rattle.utf8.specs.Rfc3629.{begins, charAt, goesOn, octets}
 use lib.ListN.{replicate}
 use mathlib.Core.Bool.{Bool, false, true}
@@ -100,13 +103,59 @@ pub rows :
 unfolding reading reporting octets charAt begins goesOn tour begun json.begins from walk step isWs begin opens point expo ends stops shaped tagOf tagAt objectOf elements
     elementsFrom more follows past spaces
     behind size left unmarked isMark isOpen isShut raw closing part wordNumberFrom same standsAt members membersFrom memberAt valueOf next known repeated has numberAt note noted
-    judged checked lacks breaks lowest tagAsks methodAsks isIn keeps ruled freely isString isArray textOf textAt viaRule isHop hopPlaces hopRule hopKeeps
-    addressRule statusField statusRule dateRule daysIn leap callerRule calleeRule sequenceRule callIdRule destinationRule hostRule organizationRule noBackslash reads runLength
+    judged checked lacks breaks lowest tagAsks methodAsks isIn keeps ruled freely isString isArray spellingOf textOf spellingAt textAt wordSpelled text isBroken spelt lone
+    lettersFrom letterOf took viaRule isHop hopPlaces hopRule hopKeeps
+    addressRule statusField statusRule dateRule daysIn leap callerRule calleeRule sequenceRule callIdRule destinationRule hostRule organizationRule reads runLength
     decimalAt
     digits within holds all among isAlnum isDigit isLetter isLower isUpper pieces.hasPiece pieces.pieceEnd settingOf methodOf numberOf contentAt sequenceOf numberEnd
     sequence.cseqNumber sequence.cseqMethod settled agreed disagrees sidesDisagree sameSide fromCaller toCaller addressOf userEnd callerEnd calleeEnd
     messageIdRule contentField oneOf bodyField namesImage imageRule wrongSide wrongNumber requestDisagrees
 rows = (refl, refl, refl, refl, refl, refl, refl, refl, refl, refl, refl, refl, refl)
+
+-- a request of this Call-ID, whose value begins at 193
+abbrev called : List ℕ → List ℕ
+called id =
+    ascii "[\"request\",{\"CSeq\":\"7 BYE\",\"From\":\"net119:u1@nishi.caller\",\"To\":\"net119:fire@kita.callee\",\"Date\":\"2024-02-29T23:59:59+0900\""
+    ++ (ascii ",\"Via\":[{\"host\":\"h\",\"destination\":\"d\",\"organization\":\"og\"}],\"Call-ID\":\""
+    ++ (id
+    ++ ascii "\"}]"))
+
+-- a callee's REFER with this Refer-Memo, whose value begins at 64
+abbrev referred : List ℕ → List ℕ
+referred memo = told (ascii "[\"request\",{\"Refer-To\":\"kita\",\"Referred-By\":\"kita\",\"Refer-Memo\":\"" ++ (memo ++ ascii "\",")) (ascii "REFER") callee caller
+
+-- 02 §2
+pub spelled :
+    -- BYE and a Call-ID spelled with escapes
+    (isRead (reading ample (told (ascii "[\"re\\u0071uest\",{") (ascii "\\u0042YE") caller callee)) ≡ true)
+    × (isRead (reading ample (called (ascii "A\\u0031"))) ≡ true)
+    -- row 9: a lone surrogate in a Call-ID, and a pair
+    × (reading ample (called (ascii "A1\\uD800")) ≡ Refused 9 193)
+    × (reading ample (called (ascii "A1\\uD83D\\uDE00")) ≡ Refused 9 193)
+    -- row 7: a name spelled two ways, at the opening quote of the second; a broken name is none, so row 8
+    × (reading ample (ascii "[\"ping\",{\"Date\":0,\"D\\u0061te\":0}]") ≡ Refused 7 18)
+    × (reading ample (ascii "[\"ping\",{\"Date\":0,\"Date\\uD800\":0,\"Date\\uD800\":0}]") ≡ Refused 8 6)
+    -- `text\/plain`, and a broken Body, which is free
+    × (isRead (reading ample (sent (ascii "text\\/plain") (ascii "\"\\uDC00\"") (ascii "MESSAGE") caller callee)) ≡ true)
+    -- an image's Body: eight characters are judged, decoded
+    × (isRead (reading ample (image (ascii "\"https:\\/\\/\\uDC00\"") (ascii "MESSAGE") caller callee)) ≡ true)
+    × (reading ample (image (ascii "\"https:\\/\\uDC00\"") (ascii "MESSAGE") caller callee) ≡ Refused 9 95)
+    -- Refer-Memo: a pair is let through, a line break is not
+    × (isRead (reading ample (referred (ascii "\\uD83D\\uDE00"))) ≡ true)
+    × (reading ample (referred (ascii "a\\rb")) ≡ Refused 9 64)
+unfolding reading reporting octets charAt begins goesOn tour begun json.begins from walk step isWs begin opens point expo ends stops shaped tagOf tagAt objectOf elements
+    elementsFrom more follows past spaces
+    behind size left unmarked isMark isOpen isShut raw closing part wordNumberFrom same standsAt members membersFrom memberAt valueOf next known repeated has numberAt note noted
+    judged checked lacks breaks lowest tagAsks methodAsks isIn keeps ruled freely isString isArray spellingOf textOf spellingAt textAt wordSpelled text isBroken spelt lone
+    lettersFrom letterOf took isHexDigit isEsc hexes memoRule noBreak points beginsPoint fireRule escapeOf strings.short unit quad nibble joined strings.pair isHigh isLow
+    isSurrogate encoded viaRule isHop hopPlaces hopRule
+    hopKeeps
+    addressRule statusField statusRule dateRule daysIn leap callerRule calleeRule sequenceRule callIdRule destinationRule hostRule organizationRule reads runLength
+    decimalAt
+    digits within holds all among isAlnum isDigit isLetter isLower isUpper pieces.hasPiece pieces.pieceEnd settingOf methodOf numberOf contentAt sequenceOf numberEnd
+    sequence.cseqNumber sequence.cseqMethod settled agreed disagrees sidesDisagree sameSide fromCaller toCaller addressOf userEnd callerEnd calleeEnd
+    messageIdRule contentField oneOf bodyField namesImage imageRule wrongSide wrongNumber requestDisagrees
+spelled = (refl, refl, refl, refl, refl, refl, refl, refl, refl, refl, refl)
 
 -- 02 §9: six values, an array, its tag, its object and the object's three; the count stands with an 8, and is 0 with an 11, at the first value too many
 abbrev six : List ℕ
@@ -119,7 +168,8 @@ pub counts :
 unfolding reporting octets charAt begins goesOn tour begun json.begins from walk step isWs begin opens point expo ends stops shaped tagOf tagAt objectOf elements elementsFrom more
     follows past spaces
     behind size left unmarked isMark isOpen isShut raw closing part wordNumberFrom same standsAt members membersFrom memberAt valueOf next known repeated has numberAt note noted
-    judged checked lacks breaks lowest tagAsks methodAsks isIn keeps ruled freely isString isArray textOf textAt among
+    judged checked lacks breaks lowest tagAsks methodAsks isIn keeps ruled freely isString isArray spellingOf textOf textAt wordSpelled text isBroken spelt lone lettersFrom
+    letterOf took among
 counts = (refl, refl, refl)
 
 -- so many objects of Via, and a comma behind each
@@ -134,6 +184,7 @@ viaOf n = ascii "[" ++ (hops n ++ ascii "{\"host\":\"h\",\"destination\":\"d\",\
 -- Via: 1–16 objects
 pub via-counts : (viaRule (ascii "[]") ≡ false) × (viaRule (viaOf 0) ≡ true) × (viaRule (viaOf 15) ≡ true) × (viaRule (viaOf 16) ≡ false)
 unfolding viaRule isArray elements elementsFrom more follows past spaces behind size left isOpen isShut isWs isHop hopPlaces hopRule hopKeeps noted repeated has note numberAt
-    members membersFrom memberAt valueOf next raw closing part wordNumberFrom same ruled freely isString textOf noBackslash hostRule destinationRule organizationRule reads
+    members membersFrom memberAt valueOf next raw closing part wordNumberFrom same ruled freely isString spellingOf textOf wordSpelled text isBroken spelt lone lettersFrom
+    letterOf took hostRule destinationRule organizationRule reads
     pieces.hasPiece pieces.pieceEnd runLength within holds among all isAlnum isDigit isLetter isLower isUpper
 via-counts = (refl, refl, refl, refl)

@@ -2,10 +2,10 @@
 use Rattle.octets.proofs.TestLaws.{and-parts}
 use Prim.Native.Nat.{ℕ, _≤_, _<_}
 use Rattle.json.specs.Places.{past, raw, members, elements, spell}
-use Rattle.fields.proofs.GatherLaws.{from-few}
+use Rattle.fields.proofs.GatherLaws.{spelled-few}
 use Rattle.message.specs.Shape.{pair, tagAt, tagOf, objectOf}
 use Rattle.rules.specs.Names.{fields, tags}
-use Rattle.rules.specs.Pieces.{wordNumber}
+use Rattle.fields.specs.Value.{wordSpelled}
 use Rattle.message.proofs.AcceptedRows.{Accepted}
 use Rattle.message.proofs.AlikeLaws.{field-there}
 use Rattle.message.proofs.PairLaws.{doubled, Where, late-members, once-by, where-is}
@@ -17,8 +17,8 @@ use mathlib.Core.List.{List, [], _∷_, map}
 use mathlib.Core.Path.{_≡_, refl, subst}
 use native.Mathlib.Omega.{arith}
 
-pub fields-few : (x : List ℕ) → wordNumber fields x < 27
-fields-few x = omega (arith, from-few fields 1 x (omega arith))
+pub fields-few : (x : List ℕ) → wordSpelled fields x < 27
+fields-few x = spelled-few fields x
 
 -- the shape of row 6
 pub record Paired (s : List ℕ) (tag : ℕ) : Type 0 where
@@ -28,7 +28,7 @@ pub record Paired (s : List ℕ) (tag : ℕ) : Type 0 where
   pub two : elements s (past s 0) ≡ x ∷ (y ∷ [])
   pub string : getD s x 0 ≡ 34
   pub object : getD s y 0 ≡ 123
-  pub name : wordNumber tags (raw s x) ≡ tag
+  pub name : wordSpelled tags (raw s x) ≡ tag
   pub at : objectOf s ≡ y
 
 picked : (b : Bool) (a tag : ℕ) → 1 ≤ tag → cond b a 0 ≡ tag → (b ≡ true) × (a ≡ tag)
@@ -47,9 +47,9 @@ two-of s (x ∷ []) tag h e = absurd (omega arith)
 two-of s (x ∷ y ∷ []) tag h e = record { x = x; y = y; two = refl; tagged = e }
 two-of s (x ∷ y ∷ z ∷ zs) tag h e = absurd (omega arith)
 
-tag-parts : (s : List ℕ) (x y tag : ℕ) → 1 ≤ tag → tagAt s x y ≡ tag → ((eqb (getD s x 0) 34 && eqb (getD s y 0) 123) ≡ true) × (wordNumber tags (raw s x) ≡ tag)
+tag-parts : (s : List ℕ) (x y tag : ℕ) → 1 ≤ tag → tagAt s x y ≡ tag → ((eqb (getD s x 0) 34 && eqb (getD s y 0) 123) ≡ true) × (wordSpelled tags (raw s x) ≡ tag)
 unfolding tagAt
-tag-parts s x y tag h e = picked (eqb (getD s x 0) 34 && eqb (getD s y 0) 123) (wordNumber tags (raw s x)) tag h e
+tag-parts s x y tag h e = picked (eqb (getD s x 0) 34 && eqb (getD s y 0) 123) (wordSpelled tags (raw s x)) tag h e
 
 outer : (s : List ℕ) (tag : ℕ) → 1 ≤ tag → tagOf s ≡ tag → (eqb (getD s (past s 0) 0) 91 ≡ true) × (pair (elements s (past s 0)) (tagAt s) ≡ tag)
 unfolding tagOf
@@ -77,7 +77,7 @@ paired s tag h e =
     }
 
 -- back
-pub tag-of : (s : List ℕ) (x y tag : ℕ) → getD s (past s 0) 0 ≡ 91 → elements s (past s 0) ≡ x ∷ (y ∷ []) → getD s x 0 ≡ 34 → getD s y 0 ≡ 123 → wordNumber tags (raw s x) ≡ tag
+pub tag-of : (s : List ℕ) (x y tag : ℕ) → getD s (past s 0) 0 ≡ 91 → elements s (past s 0) ≡ x ∷ (y ∷ []) → getD s x 0 ≡ 34 → getD s y 0 ≡ 123 → wordSpelled tags (raw s x) ≡ tag
     → (tagOf s ≡ tag) × (objectOf s ≡ y)
 unfolding tagOf tagAt
 tag-of s x y tag a b c d e = (rw (eq-eqb _ 91 a, b, eq-eqb _ 34 c, eq-eqb _ 123 d, e), object-is s x y b)

@@ -6,7 +6,7 @@ use Prim.Native.Nat.{ℕ, zero, suc, _+_, _<_}
 use Rattle.json.proofs.PlaceLaws.{past-low, behind-low, next-low}
 use Rattle.json.specs.Places.{bytes, raw, past, next, behind, valueOf, follows, more, memberAt, membersFrom, members, spell}
 use Rattle.fields.specs.Known.{numberAt, empty, has, note, noted, repeated}
-use Rattle.rules.specs.Pieces.{wordNumber}
+use Rattle.fields.specs.Value.{wordSpelled}
 use borrow.Author.Tests.{eq-eqb, ne-eqb, lt-ltb, eqb-true, eqb-false, ltb-true}
 use lib.Dec.{eqb, ltb}
 use lib.ListN.{length, getD, set, replicate, length-set}
@@ -23,17 +23,17 @@ Read = List ℕ × List ℕ
 -- one of these has number k
 unfoldable pub found : List (List ℕ) → ℕ → List Read → Bool
 found ns k [] = false
-found ns k (p ∷ ps) = eqb (wordNumber ns (p .0)) k || found ns k ps
+found ns k (p ∷ ps) = eqb (wordSpelled ns (p .0)) k || found ns k ps
 
 -- the value of the first that has it
 unfoldable pub valueIn : List (List ℕ) → ℕ → List Read → List ℕ
 valueIn ns k [] = []
-valueIn ns k (p ∷ ps) = cond (eqb (wordNumber ns (p .0)) k) (p .1) (valueIn ns k ps)
+valueIn ns k (p ∷ ps) = cond (eqb (wordSpelled ns (p .0)) k) (p .1) (valueIn ns k ps)
 
 -- two of them have one number
 unfoldable pub doubled : List (List ℕ) → List Read → Bool
 doubled ns [] = false
-doubled ns (p ∷ ps) = (ltb 0 (wordNumber ns (p .0)) && found ns (wordNumber ns (p .0)) ps) || doubled ns ps
+doubled ns (p ∷ ps) = (ltb 0 (wordSpelled ns (p .0)) && found ns (wordSpelled ns (p .0)) ps) || doubled ns ps
 
 none-or : (a b : Bool) → a ≡ false → b ≡ false → (a || b) ≡ false
 none-or a b e f = rw (e, f)
@@ -69,28 +69,28 @@ value-late s q h =
 -- member n of these, counted from 0, has number k
 abbrev pub Nth : List (List ℕ) → ℕ → ℕ → List Read → Type 0
 Nth ns k n [] = ⊥
-Nth ns k zero (p ∷ ps) = wordNumber ns (p .0) ≡ k
+Nth ns k zero (p ∷ ps) = wordSpelled ns (p .0) ≡ k
 Nth ns k (suc n) (p ∷ ps) = Nth ns k n ps
 
 pub nth-found : (ns : List (List ℕ)) (k n : ℕ) (ps : List Read) → Nth ns k n ps → found ns k ps ≡ true
 unfolding found
 nth-found ns k n [] h = absurd h
 nth-found ns k zero (p ∷ ps) h = rw (eq-eqb _ k h)
-nth-found ns k (suc n) (p ∷ ps) h = rw (nth-found ns k n ps h) (or-true (eqb (wordNumber ns (p .0)) k))
+nth-found ns k (suc n) (p ∷ ps) h = rw (nth-found ns k n ps h) (or-true (eqb (wordSpelled ns (p .0)) k))
 
-not-twice : (ns : List (List ℕ)) (k n : ℕ) (p : Read) (ps : List Read) → 0 < k → wordNumber ns (p .0) ≡ k → Nth ns k n ps → doubled ns (p ∷ ps) ≡ false → ⊥
+not-twice : (ns : List (List ℕ)) (k n : ℕ) (p : Read) (ps : List Read) → 0 < k → wordSpelled ns (p .0) ≡ k → Nth ns k n ps → doubled ns (p ∷ ps) ≡ false → ⊥
 unfolding doubled
 not-twice ns k n p ps h e f d =
-    let g : found ns (wordNumber ns (p .0)) ps ≡ true = rw e (nth-found ns k n ps f) in
-    let w : (ltb 0 (wordNumber ns (p .0)) && found ns (wordNumber ns (p .0)) ps) ≡ true = rw (g, lt-ltb 0 (wordNumber ns (p .0)) (omega arith)) in
-    let r = or-none (ltb 0 (wordNumber ns (p .0)) && found ns (wordNumber ns (p .0)) ps) (doubled ns ps) d in
+    let g : found ns (wordSpelled ns (p .0)) ps ≡ true = rw e (nth-found ns k n ps f) in
+    let w : (ltb 0 (wordSpelled ns (p .0)) && found ns (wordSpelled ns (p .0)) ps) ≡ true = rw (g, lt-ltb 0 (wordSpelled ns (p .0)) (omega arith)) in
+    let r = or-none (ltb 0 (wordSpelled ns (p .0)) && found ns (wordSpelled ns (p .0)) ps) (doubled ns ps) d in
     let y : _≡_ {A = Bool} true false = sym w ∙ r .0 in
     let z : _≡_ {A = ℕ} 0 1 = cc in
     omega arith
 
 rest-once : (ns : List (List ℕ)) (p : Read) (ps : List Read) → doubled ns (p ∷ ps) ≡ false → doubled ns ps ≡ false
 unfolding doubled
-rest-once ns p ps d = or-none (ltb 0 (wordNumber ns (p .0)) && found ns (wordNumber ns (p .0)) ps) (doubled ns ps) d .1
+rest-once ns p ps d = or-none (ltb 0 (wordSpelled ns (p .0)) && found ns (wordSpelled ns (p .0)) ps) (doubled ns ps) d .1
 
 pub nth-one : (ns : List (List ℕ)) (k n n′ : ℕ) (ps : List Read) → 0 < k → doubled ns ps ≡ false → Nth ns k n ps → Nth ns k n′ ps → n ≡ n′
 nth-one ns k n n′ [] h d a b = absurd a
@@ -106,22 +106,22 @@ pub record Where (ns : List (List ℕ)) (s : List ℕ) (k : ℕ) (qs : List ℕ)
   pub nth : Nth ns k n (map (spell s) qs)
   pub is : at ≡ valueOf s (getD qs n 0)
 
-module _ (ns : List (List ℕ)) (few : (x : List ℕ) → wordNumber ns x < 27) (s : List ℕ) where
+module _ (ns : List (List ℕ)) (few : (x : List ℕ) → wordSpelled ns x < 27) (s : List ℕ) where
   num : ℕ → ℕ
-  num q = wordNumber ns (raw s q)
+  num q = wordSpelled ns (raw s q)
 
   other-by : (t : List ℕ) (q k : ℕ) (b : Bool) → (k ≡ num q → ⊥) → getD (cond b t (set t (num q) (valueOf s q))) k 0 ≡ getD t k 0
   unfolding num
   other-by t q k true ne = refl
-  other-by t q k false ne = getD-set-other t (wordNumber ns (raw s q)) k (valueOf s q) 0 ne
+  other-by t q k false ne = getD-set-other t (wordSpelled ns (raw s q)) k (valueOf s q) 0 ne
 
   note-other : (t : List ℕ) (q k : ℕ) → (k ≡ num q → ⊥) → getD (note ns s t q) k 0 ≡ getD t k 0
   unfolding note numberAt num
-  note-other t q k ne = other-by t q k (eqb (wordNumber ns (raw s q)) 0) ne
+  note-other t q k ne = other-by t q k (eqb (wordSpelled ns (raw s q)) 0) ne
 
   note-same : (t : List ℕ) (q : ℕ) → length t ≡ 27 → 0 < num q → getD (note ns s t q) (num q) 0 ≡ valueOf s q
   unfolding note numberAt num
-  note-same t q l h = rw (ne-eqb (wordNumber ns (raw s q)) 0 (λ e. omega arith)) (getD-set-same t (wordNumber ns (raw s q)) (valueOf s q) 0 (omega (arith, few (raw s q))))
+  note-same t q l h = rw (ne-eqb (wordSpelled ns (raw s q)) 0 (λ e. omega arith)) (getD-set-same t (wordSpelled ns (raw s q)) (valueOf s q) 0 (omega (arith, few (raw s q))))
 
   long-by : (t : List ℕ) (q : ℕ) (b : Bool) → length t ≡ 27 → length (cond b t (set t (num q) (valueOf s q))) ≡ 27
   long-by t q true l = l
@@ -129,26 +129,26 @@ module _ (ns : List (List ℕ)) (few : (x : List ℕ) → wordNumber ns x < 27) 
 
   note-long : (t : List ℕ) (q : ℕ) → length t ≡ 27 → length (note ns s t q) ≡ 27
   unfolding note numberAt num
-  note-long t q l = long-by t q (eqb (wordNumber ns (raw s q)) 0) l
+  note-long t q l = long-by t q (eqb (wordSpelled ns (raw s q)) 0) l
 
   -- t holds nothing that these members name
   abbrev Apart : List ℕ → List Read → Type 0
   Apart t ps = (k : ℕ) → 0 < k → 0 < getD t k 0 → found ns k ps ≡ false
 
-  found-not : (p : Read) (ps : List Read) (k : ℕ) → found ns k (p ∷ ps) ≡ false → (wordNumber ns (p .0) ≡ k → ⊥) × (found ns k ps ≡ false)
+  found-not : (p : Read) (ps : List Read) (k : ℕ) → found ns k (p ∷ ps) ≡ false → (wordSpelled ns (p .0) ≡ k → ⊥) × (found ns k ps ≡ false)
   unfolding found
-  found-not p ps k e = let r = or-none (eqb (wordNumber ns (p .0)) k) (found ns k ps) e in (eqb-false (wordNumber ns (p .0)) k (r .0), r .1)
+  found-not p ps k e = let r = or-none (eqb (wordSpelled ns (p .0)) k) (found ns k ps) e in (eqb-false (wordSpelled ns (p .0)) k (r .0), r .1)
 
-  not-found : (p : Read) (ps : List Read) (k : ℕ) → (wordNumber ns (p .0) ≡ k → ⊥) → found ns k ps ≡ false → found ns k (p ∷ ps) ≡ false
+  not-found : (p : Read) (ps : List Read) (k : ℕ) → (wordSpelled ns (p .0) ≡ k → ⊥) → found ns k ps ≡ false → found ns k (p ∷ ps) ≡ false
   unfolding found
-  not-found p ps k ne e = none-or _ _ (ne-eqb (wordNumber ns (p .0)) k ne) e
+  not-found p ps k ne e = none-or _ _ (ne-eqb (wordSpelled ns (p .0)) k ne) e
 
   -- has, by its two tests
   has-not : (t : List ℕ) (q : ℕ) → (0 < num q → 0 < getD t (num q) 0 → ⊥) → has ns s t q ≡ false
   unfolding has numberAt num
-  has-not t q h = by (ltb 0 (wordNumber ns (raw s q))) (ltb 0 (getD t (wordNumber ns (raw s q)) 0)) refl refl
+  has-not t q h = by (ltb 0 (wordSpelled ns (raw s q))) (ltb 0 (getD t (wordSpelled ns (raw s q)) 0)) refl refl
     where
-      by : (a b : Bool) → ltb 0 (wordNumber ns (raw s q)) ≡ a → ltb 0 (getD t (wordNumber ns (raw s q)) 0) ≡ b → (a && b) ≡ false
+      by : (a b : Bool) → ltb 0 (wordSpelled ns (raw s q)) ≡ a → ltb 0 (getD t (wordSpelled ns (raw s q)) 0) ≡ b → (a && b) ≡ false
       by true true e f = absurd (h (ltb-true 0 _ e) (ltb-true 0 _ f))
       by true false e f = refl
       by false b e f = refl
@@ -157,17 +157,17 @@ module _ (ns : List (List ℕ)) (few : (x : List ℕ) → wordNumber ns x < 27) 
   unfolding has numberAt num
   has-so t q h g = rw (lt-ltb 0 _ h, lt-ltb 0 _ g)
 
-  doubled-parts : (p : Read) (ps : List Read) → doubled ns (p ∷ ps) ≡ false → (0 < wordNumber ns (p .0) → found ns (wordNumber ns (p .0)) ps ≡ false) × (doubled ns ps ≡ false)
+  doubled-parts : (p : Read) (ps : List Read) → doubled ns (p ∷ ps) ≡ false → (0 < wordSpelled ns (p .0) → found ns (wordSpelled ns (p .0)) ps ≡ false) × (doubled ns ps ≡ false)
   unfolding doubled
   doubled-parts p ps e =
-      let r = or-none (ltb 0 (wordNumber ns (p .0)) && found ns (wordNumber ns (p .0)) ps) (doubled ns ps) e in
-      (λ h. rw (lt-ltb 0 (wordNumber ns (p .0)) h) at (r .0), r .1)
+      let r = or-none (ltb 0 (wordSpelled ns (p .0)) && found ns (wordSpelled ns (p .0)) ps) (doubled ns ps) e in
+      (λ h. rw (lt-ltb 0 (wordSpelled ns (p .0)) h) at (r .0), r .1)
 
-  parts-doubled : (p : Read) (ps : List Read) → (0 < wordNumber ns (p .0) → found ns (wordNumber ns (p .0)) ps ≡ false) → doubled ns ps ≡ false → doubled ns (p ∷ ps) ≡ false
+  parts-doubled : (p : Read) (ps : List Read) → (0 < wordSpelled ns (p .0) → found ns (wordSpelled ns (p .0)) ps ≡ false) → doubled ns ps ≡ false → doubled ns (p ∷ ps) ≡ false
   unfolding doubled
-  parts-doubled p ps f e = by (ltb 0 (wordNumber ns (p .0))) refl
+  parts-doubled p ps f e = by (ltb 0 (wordSpelled ns (p .0))) refl
     where
-      by : (a : Bool) → ltb 0 (wordNumber ns (p .0)) ≡ a → ((a && found ns (wordNumber ns (p .0)) ps) || doubled ns ps) ≡ false
+      by : (a : Bool) → ltb 0 (wordSpelled ns (p .0)) ≡ a → ((a && found ns (wordSpelled ns (p .0)) ps) || doubled ns ps) ≡ false
       by true h = rw (f (ltb-true 0 _ h), e)
       by false h = e
 

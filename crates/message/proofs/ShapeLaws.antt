@@ -3,11 +3,10 @@ use Rattle.json.proofs.TurnLaws.{no-elements, some-elements, one-element, comma
 use Rattle.message.specs.inner.Shaping.{openAt, openOf, Shaped}
 use Prim.Native.Nat.{ℕ, _+_, _-_, _≤_, _<_}
 use Rattle.json.specs.Places.{past, follows, more, raw, elements, elementsFrom}
-use Rattle.fields.proofs.GatherLaws.{from-few}
+use Rattle.fields.proofs.GatherLaws.{spelled-few}
 use Rattle.message.specs.Shape.{pair, tagAt, tagOf, objectOf}
-use Rattle.rules.proofs.NameLaws.{place-below}
 use Rattle.rules.specs.Names.{tags}
-use Rattle.rules.specs.Pieces.{wordNumber}
+use Rattle.fields.specs.Value.{wordSpelled}
 use borrow.Author.Tests.{eq-eqb, ne-eqb}
 use lib.Dec.{eqb}
 use lib.ListN.{length, getD}
@@ -104,14 +103,14 @@ module _ (s : List ℕ) {o : ℕ} (at-o : o ≡ past s 0) where
                   nil-cons (sym (tail-of (tail-of (sym two-listed ∙ e)))
                   ∙ comma s (elementsFrom (n - 1 - 1) s) y at-z f ∙ one-element s (n - 1 - 1) (z + 1) g refl))
 
-              pub a-pair : getD s o 0 ≡ 91 → getD s y 0 ≡ 123 → (getD s z 0 ≡ 44 → ⊥) → y < length s → {name : List ℕ} {tag : ℕ} → name ≡ raw s x → tag ≡ wordNumber tags name
+              pub a-pair : getD s o 0 ≡ 91 → getD s y 0 ≡ 123 → (getD s z 0 ≡ 44 → ⊥) → y < length s → {name : List ℕ} {tag : ℕ} → name ≡ raw s x → tag ≡ wordSpelled tags name
                   → Shaped s tag y
               unfolding tagOf tagAt openOf openAt
               a-pair array object ne inside {name} {tag} e f =
                   let two : elements s o ≡ x ∷ y ∷ [] = two-listed ∙ ap (λ (l : List ℕ). x ∷ y ∷ l) (no-comma s (elementsFrom (n - 1 - 1) s) y at-z ne) in
                   record {
                     is = f ∙ rw (← at-o, eq-eqb _ _ array, two, eq-eqb _ _ string, eq-eqb _ _ object, e);
-                    few = omega (arith, from-few tags 1 name (omega arith));
+                    few = omega (arith, f, spelled-few tags name);
                     opens = rw (← at-o, eq-eqb _ _ array, two, eq-eqb _ _ string, eq-eqb _ _ object);
                     inside = λ h. inside;
                   }
@@ -123,7 +122,7 @@ pair-opens s [] h = refl
 pair-opens s (x ∷ []) h = refl
 pair-opens s (x ∷ y ∷ []) h = by (eqb (getD s x 0) 34 && eqb (getD s y 0) 123) h
   where
-    by : (b : Bool) → 0 < cond b (wordNumber tags (raw s x)) 0 → cond b y 0 ≡ y
+    by : (b : Bool) → 0 < cond b (wordSpelled tags (raw s x)) 0 → cond b y 0 ≡ y
     by true g = refl
     by false g = absurd (omega arith)
 pair-opens s (x ∷ y ∷ z ∷ zs) h = refl
@@ -151,4 +150,5 @@ pub tag-few : (s : List ℕ) → tagOf s ≤ 4
 unfolding tagOf tagAt
 tag-few s =
     pick-le (eqb (getD s (past s 0) 0) 91) (pair (elements s (past s 0)) (tagAt s)) 4
-    (few-pair (elements s (past s 0)) (tagAt s) (λ x y. pick-le (eqb (getD s x 0) 34 && eqb (getD s y 0) 123) (wordNumber tags (raw s x)) 4 (place-below tags (raw s x))))
+    (few-pair (elements s (past s 0)) (tagAt s)
+    (λ x y. pick-le (eqb (getD s x 0) 34 && eqb (getD s y 0) 123) (wordSpelled tags (raw s x)) 4 (omega (arith, spelled-few tags (raw s x)))))

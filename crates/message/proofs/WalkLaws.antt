@@ -34,7 +34,7 @@ use Rattle.message.specs.declared.reading.Reading.{Reading}
 use Rattle.message.specs.declared.reading.Report.{Report}
 use Rattle.message.specs.inner.Walk.{isOnce, isUsual, roomIn, fieldPlaces, isListed, Opening, Begun, Listed, Usual}
 use Rattle.rules.specs.Names.{fields, tags}
-use Rattle.rules.specs.Pieces.{wordNumber}
+use Rattle.fields.specs.Value.{wordSpelled}
 use borrow.Author.Tests.{ne-eqb, lt-ltb, lt-leb, le-leb, eqb-true}
 use lib.Dec.{eqb, leb, ltb}
 use lib.ListN.{length, getD, set}
@@ -112,7 +112,7 @@ module _ {s : List ℕ} {o room : ℕ} {at end : List ℕ} {n p spare : ℕ} (f 
     no-member e = stuck s o room (ap isEnd to-name ∙ e)
 
     module _ (more-turns : 0 < n) (late : 0 < p) (quote : getD s q 0 ≡ 34) {e v w t spare′ : ℕ} (m : PassedMember s q 6 spare e v w t spare′)
-        {x : List ℕ} {k : ℕ} (called : x ≡ part s (q + 1) (e - 1)) (numbered : k ≡ wordNumber fields x) {r : Bool} (seen : r ≡ (ltb 0 k && ltb 0 (getD at k 0))) where
+        {x : List ℕ} {k : ℕ} (called : x ≡ part s (q + 1) (e - 1)) (numbered : k ≡ wordSpelled fields x) {r : Bool} (seen : r ≡ (ltb 0 k && ltb 0 (getD at k 0))) where
       number : k ≡ numberAt fields s q
       number = number-is fields s q (called ∙ raw-is s q (closing-is s q (m .row .named))) numbered
 
@@ -265,7 +265,7 @@ module _ (s : List ℕ) {o : ℕ} (at-o : o ≡ past s 0) where
                 let h = there s c 43 more-one in
                 untagged s (no-object s at-o at-x (length s) refl (omega arith) quote at-follow more-one (let l = early in omega arith) at-y ne .untagged)
 
-            module _ (object : getD s y 0 ≡ 123) {u : List ℕ} {tag : ℕ} (called : u ≡ part s (x + 1) (e - 1)) (numbered : tag ≡ wordNumber tags u) where
+            module _ (object : getD s y 0 ≡ 123) {u : List ℕ} {tag : ℕ} (called : u ≡ part s (x + 1) (e - 1)) (numbered : tag ≡ wordSpelled tags u) where
               begun : Begun s tag y
               begun =
                   let h = there s c 43 more-one in

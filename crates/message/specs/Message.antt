@@ -3,7 +3,9 @@
 use Prim.Native.Nat.{ℕ, _+_}
 use Rattle.json.specs.Places.{bytes}
 use Rattle.fields.specs.Trail.{noTrail, trailIn, moved}
-use Rattle.fields.specs.Spans.{textAt, spanIn, nowhere, textSpan}
+use Rattle.escapes.specs.Rfc7159.{spells}
+use Rattle.fields.specs.Spans.{spellingAt, textAt, nowhere, spellingSpan}
+use Rattle.fields.specs.Value.{wordSpelled}
 use Rattle.message.specs.declared.facts.Message.{Message}
 use Rattle.fields.specs.declared.spans.Span.{Span}
 use Rattle.fields.specs.declared.judging.Setting.{Setting}
@@ -12,7 +14,6 @@ use Rattle.octets.specs.Ascii.{ascii}
 use Rattle.octets.specs.Text.{same}
 use Rattle.rules.specs.Numbers.{contentText, fieldCSeq, fieldCallId, fieldCallMode, fieldContentType, fieldFrom, fieldRequestService, fieldSecureCall, fieldStatus, fieldTo}
 use Rattle.rules.specs.Numbers.{fieldVia, methodAck, methodCallback, methodCancel, methodInvite, methodMessage, methodNotify, methodRefer, tagRequest, tagResponse}
-use Rattle.rules.specs.Pieces.{wordNumber}
 use Rattle.rules.specs.Sequence.{sequenceOf}
 use Rattle.rules.specs.Status.{statusOf}
 use Rattle.rules.specs.Words.{contentTypes}
@@ -65,7 +66,7 @@ toCaller s t = callerIn (addressOf (fieldText s t fieldTo))
 
 -- the number of the Content-Type at v, 0 where there is none
 unfoldable pub contentAt : List ℕ → ℕ → ℕ
-contentAt s v = cond (eqb v 0) 0 (wordNumber contentTypes (textAt s v))
+contentAt s v = cond (eqb v 0) 0 (wordSpelled contentTypes (spellingAt s v))
 
 -- the code of the Status at v, of a response; a request has none
 unfoldable pub codeOf : List ℕ → ℕ → ℕ → ℕ
@@ -105,7 +106,7 @@ sidesDisagree m n from to = sameSide from to || (wrongSide m from || wrongNumber
 
 -- the Request-Service at v is `callback`, and the Call-Mode at w `training`
 unfoldable pub callbackTraining : List ℕ → ℕ → ℕ → Bool
-callbackTraining s v w = same (textAt s v) (ascii "callback") && same (textAt s w) (ascii "training")
+callbackTraining s v w = spells (spellingAt s v) (ascii "callback") && spells (spellingAt s w) (ascii "training")
 
 -- what only a request can have: an INVITE with these two; a callee's MESSAGE not `text/plain`
 unfoldable pub requestDisagrees : List ℕ → Setting → List ℕ → Bool → Bool
@@ -126,21 +127,21 @@ disagrees s k t =
 
 -- Where the texts stand that name the parties.
 
--- the user, the caller's Fire-ID and the callee's in the address at v; nowhere in an address of the other side
-abbrev pub userSpan : ℕ → Address → Span
-userSpan v (addresses.Caller user fire) = spanIn v 7 user
-userSpan v (addresses.Callee fire) = nowhere
-userSpan v addresses.Broken = nowhere
+-- the user, the caller's Fire-ID and the callee's, in the text of an address; nowhere in an address of the other side
+abbrev pub userSpan : Address → Span
+userSpan (addresses.Caller user fire) = record { start = 7; end = user }
+userSpan (addresses.Callee fire) = nowhere
+userSpan addresses.Broken = nowhere
 
-abbrev pub callerSpan : ℕ → Address → Span
-callerSpan v (addresses.Caller user fire) = spanIn v (user + 1) fire
-callerSpan v (addresses.Callee fire) = nowhere
-callerSpan v addresses.Broken = nowhere
+abbrev pub callerSpan : Address → Span
+callerSpan (addresses.Caller user fire) = record { start = user + 1; end = fire }
+callerSpan (addresses.Callee fire) = nowhere
+callerSpan addresses.Broken = nowhere
 
-abbrev pub calleeSpan : ℕ → Address → Span
-calleeSpan v (addresses.Caller user fire) = nowhere
-calleeSpan v (addresses.Callee fire) = spanIn v 12 fire
-calleeSpan v addresses.Broken = nowhere
+abbrev pub calleeSpan : Address → Span
+calleeSpan (addresses.Caller user fire) = nowhere
+calleeSpan (addresses.Callee fire) = record { start = 12; end = fire }
+calleeSpan addresses.Broken = nowhere
 
 -- where the caller's address stands, From if the message is from a caller, else To; and the callee's, the other one
 unfoldable pub callerPlace : Bool → List ℕ → ℕ
@@ -149,8 +150,8 @@ callerPlace from t = cond from (getD t fieldFrom 0) (getD t fieldTo 0)
 unfoldable pub calleePlace : Bool → List ℕ → ℕ
 calleePlace from t = cond from (getD t fieldTo 0) (getD t fieldFrom 0)
 
--- The message: the facts that the keeper and the writer go by, the places of the five values that a reply copies, where the texts stand
--- that name the call and its parties, and the trail, by places of the message.
+-- The message: the facts that the keeper and the writer go by, the places of the five values that a reply copies, where the Call-ID and the two
+-- addresses are spelled, and the trail, all by places of the message; and by places of the addresses' texts the user and the Fire-IDs.
 
 unfoldable pub messageOf : List ℕ → Setting → List ℕ → Message
 messageOf s k t =
@@ -166,10 +167,12 @@ messageOf s k t =
       from = getD t fieldFrom 0;
       call = getD t fieldCallId 0;
       via = getD t fieldVia 0;
-      callid = textSpan s (getD t fieldCallId 0);
-      user = userSpan (callerPlace (fromCaller s t) t) (addressOf (textAt s (callerPlace (fromCaller s t) t)));
-      callerfire = callerSpan (callerPlace (fromCaller s t) t) (addressOf (textAt s (callerPlace (fromCaller s t) t)));
-      calleefire = calleeSpan (calleePlace (fromCaller s t) t) (addressOf (textAt s (calleePlace (fromCaller s t) t)));
+      callid = spellingSpan s (getD t fieldCallId 0);
+      calleraddress = spellingSpan s (callerPlace (fromCaller s t) t);
+      calleeaddress = spellingSpan s (calleePlace (fromCaller s t) t);
+      user = userSpan (addressOf (textAt s (callerPlace (fromCaller s t) t)));
+      callerfire = callerSpan (addressOf (textAt s (callerPlace (fromCaller s t) t)));
+      calleefire = calleeSpan (addressOf (textAt s (calleePlace (fromCaller s t) t)));
       trail = moved (getD t fieldVia 0) (trailIn (bytes s (getD t fieldVia 0)));
     }
 
@@ -189,6 +192,8 @@ probeOf tag =
       call = 0;
       via = 0;
       callid = nowhere;
+      calleraddress = nowhere;
+      calleeaddress = nowhere;
       user = nowhere;
       callerfire = nowhere;
       calleefire = nowhere;

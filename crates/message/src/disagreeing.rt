@@ -1,11 +1,11 @@
 // 01 Reading, row 10: where fields disagree.
 use crate::facts::Facts;
 use crate::facts::side_of;
+use escapes::spells;
 use fields::Setting;
-use fields::text_at;
+use fields::spelling_at;
 use octets::and;
 use octets::or;
-use octets::same;
 use rules::ACK;
 use rules::CALL_MODE;
 use rules::CALLBACK;
@@ -57,11 +57,11 @@ fn is_callback_training(s: &[u8], at: &[usize; 27], end: &[usize; 27]) -> bool
     ensures { λ r. ⌜ r ≡ callbackTraining (now (s .entry)) (getD (now (at .entry)) 19 0) (getD (now (at .entry)) 15 0) ⌝ }
 {
     and(
-        same(
-            text_at(s, at[REQUEST_SERVICE], end[REQUEST_SERVICE]),
+        spells(
+            spelling_at(s, at[REQUEST_SERVICE], end[REQUEST_SERVICE]),
             b"callback",
         ),
-        same(text_at(s, at[CALL_MODE], end[CALL_MODE]), b"training"),
+        spells(spelling_at(s, at[CALL_MODE], end[CALL_MODE]), b"training"),
     )
 }
 

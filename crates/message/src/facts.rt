@@ -3,7 +3,7 @@ use fields::Setting;
 use fields::Span;
 use fields::Trail;
 use fields::no_trail;
-use fields::text_span;
+use fields::spelling_span;
 use fields::value_at;
 use octets::and;
 use octets::same;
@@ -37,7 +37,7 @@ pub struct Facts {
 
 // The facts that the keeper and the writer go by: the tag, the method's code, CSeq's number, a
 // response's status code, whether it is from a caller, Secure-Call of an INVITE, where the five values stand that a reply copies, where
-// the texts stand that name the call and its parties, and the trail.
+// the Call-ID and the two addresses are spelled, where the user and the Fire-IDs stand in the addresses' texts, and the trail.
 pub struct Message {
     pub tag: u8,
     pub method: u8,
@@ -51,6 +51,8 @@ pub struct Message {
     pub call: usize,
     pub via: usize,
     pub callid: Span,
+    pub calleraddress: Span,
+    pub calleeaddress: Span,
     pub user: Span,
     pub callerfire: Span,
     pub calleefire: Span,
@@ -81,74 +83,76 @@ fn secure_of(s: &[u8], k: Setting, v: usize, e: usize) -> bool
     false
 }
 
-// The user in the address a at v.
-fn user_span(v: usize, a: rules::Address) -> Span
-    requires { ⌜ Placed v a ⌝ }
-    ensures { λ r. ⌜ r ≡ userSpan v a ⌝ }
+// The user in an address.
+fn user_span(a: rules::Address) -> Span
+    ensures { λ r. ⌜ r ≡ userSpan a ⌝ }
 {
     match a {
         rules::Address::Caller(user, _) => Span {
-            start: v + 1 + 7,
-            end: v + 1 + user,
+            start: 7,
+            end: user,
         },
         rules::Address::Callee(_) => Span { start: 0, end: 0 },
         rules::Address::Broken => Span { start: 0, end: 0 },
     }
 }
 
-// The caller's Fire-ID in the address a at v.
-fn caller_span(v: usize, a: rules::Address) -> Span
-    requires { ⌜ Placed v a ⌝ }
-    ensures { λ r. ⌜ r ≡ callerSpan v a ⌝ }
+// The caller's Fire-ID in an address.
+fn caller_span(a: rules::Address) -> Span
+    requires { ⌜ Placed a ⌝ }
+    ensures { λ r. ⌜ r ≡ callerSpan a ⌝ }
 {
     match a {
         rules::Address::Caller(user, fire) => Span {
-            start: v + 1 + (user + 1),
-            end: v + 1 + fire,
+            start: user + 1,
+            end: fire,
         },
         rules::Address::Callee(_) => Span { start: 0, end: 0 },
         rules::Address::Broken => Span { start: 0, end: 0 },
     }
 }
 
-// The callee's Fire-ID in the address a at v.
-fn callee_span(v: usize, a: rules::Address) -> Span
-    requires { ⌜ Placed v a ⌝ }
-    ensures { λ r. ⌜ r ≡ calleeSpan v a ⌝ }
+// The callee's Fire-ID in an address.
+fn callee_span(a: rules::Address) -> Span
+    ensures { λ r. ⌜ r ≡ calleeSpan a ⌝ }
 {
     match a {
         rules::Address::Callee(fire) => Span {
-            start: v + 1 + 12,
-            end: v + 1 + fire,
+            start: 12,
+            end: fire,
         },
         rules::Address::Caller(_, _) => Span { start: 0, end: 0 },
         rules::Address::Broken => Span { start: 0, end: 0 },
     }
 }
 
-// Where the texts of the two parties stand.
+// Where the two addresses are spelled, and where in their texts the parties stand.
 struct Parties {
+    calleraddress: Span,
+    calleeaddress: Span,
     user: Span,
     callerfire: Span,
     calleefire: Span,
 }
 
-// The parties of the caller's address a at v and the callee's b at w.
-fn parties_of(v: usize, a: rules::Address, w: usize, b: rules::Address) -> Parties
-    requires { ⌜ Placed v a × Placed w b ⌝ }
-    ensures { λ r. ⌜ PartiesOf v a w b (r .user) (r .callerfire) (r .calleefire) ⌝ }
+// The parties of the caller's address a, spelled at v, and the callee's b at w.
+fn parties_of(v: Span, a: rules::Address, w: Span, b: rules::Address) -> Parties
+    requires { ⌜ Placed a ⌝ }
+    ensures { λ r. ⌜ PartiesOf v a w b r ⌝ }
 {
     Parties {
-        user: user_span(v, a),
-        callerfire: caller_span(v, a),
-        calleefire: callee_span(w, b),
+        calleraddress: v,
+        calleeaddress: w,
+        user: user_span(a),
+        callerfire: caller_span(a),
+        calleefire: callee_span(b),
     }
 }
 
-// The parties of From's address at v and To's at w: the caller's is From's where the message is from a caller.
-fn sorted(from: rules::Address, to: rules::Address, v: usize, w: usize) -> Parties
-    requires { ⌜ Placed v from × Placed w to ⌝ }
-    ensures { λ r. ⌜ PartiesOf (cond (callerIn from) v w) (cond (callerIn from) from to) (cond (callerIn from) w v) (cond (callerIn from) to from) (r .user) (r .callerfire) (r .calleefire) ⌝ }
+// The parties of From's address, spelled at v, and To's at w: the caller's is From's where the message is from a caller.
+fn sorted(from: rules::Address, to: rules::Address, v: Span, w: Span) -> Parties
+    requires { ⌜ Placed from × Placed to ⌝ }
+    ensures { λ r. ⌜ PartiesOf (cond (callerIn from) v w) (cond (callerIn from) from to) (cond (callerIn from) w v) (cond (callerIn from) to from) r ⌝ }
 {
     if side_of(from) {
         return parties_of(v, from, w, to);
@@ -186,8 +190,12 @@ pub fn message_of(s: &[u8], k: Setting, f: Facts, at: &[usize; 27], end: &[usize
     let trail = f.trail;
     let caller = side_of(from);
     let secure = secure_of(s, k, at[SECURE_CALL], end[SECURE_CALL]);
-    let callid = text_span(s, at[CALL_ID], end[CALL_ID]);
-    let p = sorted(from, to, at[FROM], at[TO]);
+    let callid = spelling_span(s, at[CALL_ID], end[CALL_ID]);
+    let v = spelling_span(s, at[FROM], end[FROM]);
+    let w = spelling_span(s, at[TO], end[TO]);
+    let p = sorted(from, to, v, w);
+    let calleraddress = p.calleraddress;
+    let calleeaddress = p.calleeaddress;
     let user = p.user;
     let callerfire = p.callerfire;
     let calleefire = p.calleefire;
@@ -205,6 +213,8 @@ pub fn message_of(s: &[u8], k: Setting, f: Facts, at: &[usize; 27], end: &[usize
         call: at[CALL_ID],
         via: at[VIA],
         callid,
+        calleraddress,
+        calleeaddress,
         user,
         callerfire,
         calleefire,
@@ -230,6 +240,8 @@ pub fn probe_of(tag: u8) -> Message
         call: 0,
         via: 0,
         callid: nowhere,
+        calleraddress: nowhere,
+        calleeaddress: nowhere,
         user: nowhere,
         callerfire: nowhere,
         calleefire: nowhere,

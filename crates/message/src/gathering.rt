@@ -53,7 +53,7 @@ pub fn gather(s: &[u8], o: usize) -> Places
         }
         let m = member_at(s, q);
         let name = m.name;
-        let k = rules::field(part(s, q + 1, name - 1));
+        let k = fields::field(part(s, q + 1, name - 1));
         if is_noted(&at, k) {
             return Places { twice: q, at: at };
         }

@@ -15,7 +15,9 @@ mod walking;
 
 pub use facts::Message;
 pub use parties::call_id;
+pub use parties::callee_address;
 pub use parties::callee_fire;
+pub use parties::caller_address;
 pub use parties::caller_fire;
 pub use parties::user;
 pub use reading::AMPLE;

@@ -1,6 +1,7 @@
 // What the rules of a request or a response see besides their value: tag, method and Content-Type (01 Reading, 'Rules').
 use fields::Setting;
-use fields::text_at;
+use fields::content_type;
+use fields::spelling_at;
 use rules::CONTENT_TYPE;
 ghost use Rattle.fields.specs.inner.Gathering.{Ended};
 ghost use mathlib.Core.Path.{_≡_};
@@ -16,7 +17,7 @@ fn content_at(s: &[u8], v: usize, e: usize) -> u8
     if v == 0 {
         return 0;
     }
-    rules::content_type(text_at(s, v, e))
+    content_type(spelling_at(s, v, e))
 }
 
 // What the rules of a request or a response see besides their value.

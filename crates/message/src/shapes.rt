@@ -43,7 +43,7 @@ pub fn shape_of(s: &[u8]) -> Shape
         return none();
     }
     Shape {
-        tag: rules::tag(name_part(s, x)),
+        tag: fields::tag(name_part(s, x)),
         object: y,
     }
 }

@@ -50,7 +50,7 @@ fn begin(s: &[u8]) -> Beginning
         return no_beginning();
     }
     Beginning {
-        tag: rules::tag(part(s, x + 1, e - 1)),
+        tag: fields::tag(part(s, x + 1, e - 1)),
         object: y,
     }
 }
@@ -100,7 +100,7 @@ fn walk_fields(s: &[u8], o: usize, room: usize) -> Fields
         if then == 0 {
             return no_fields();
         }
-        let k = rules::field(part(s, q + 1, name - 1));
+        let k = fields::field(part(s, q + 1, name - 1));
         if is_noted(&at, k) {
             return no_fields();
         }

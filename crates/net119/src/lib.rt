@@ -25,6 +25,7 @@ ghost use Rattle.writing.specs.Adding.{adding};
 ghost use Rattle.writing.specs.Outcome.{answered, outputLeft};
 ghost use Rattle.writing.specs.Removing.{hostIn, removing, hostShown};
 ghost use Rattle.writing.specs.Reply.{replying};
+ghost use Rattle.writing.specs.Texting.{texting};
 
 // Reads a message, at the program's ceiling.
 #[no_mangle]
@@ -132,4 +133,13 @@ pub extern "C" fn net119_remove(
         × (now (out .exit) ≡ outputLeft (now (out .entry)) (removing (now (message .entry)) (now (host .entry)) (now (destination .entry)) (now (organization .entry)))) ⌝ }
 {
     flat_removed(writing::remove(out, message, host, destination, organization))
+}
+
+// Writes the text that a part of a message spells.
+#[no_mangle]
+pub extern "C" fn net119_text(out: &mut [u8], spelled: &[u8]) -> WriteAnswer
+    ensures { λ r. ⌜ (r ≡ flatWritten (answered (length (now (out .entry))) (texting (now (spelled .entry)))))
+        × (now (out .exit) ≡ outputLeft (now (out .entry)) (texting (now (spelled .entry)))) ⌝ }
+{
+    flat_written(writing::text(out, spelled))
 }

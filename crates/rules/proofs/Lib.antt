@@ -1,7 +1,7 @@
 pub mod PieceLaws
 pub mod Table
 pub mod NameLaws
-pub mod EscapeLaws
+pub mod PlainLaws
 pub mod StatusLaws
 pub mod SequenceLaws
 pub mod AddressLaws

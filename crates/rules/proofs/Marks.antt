@@ -1,6 +1,6 @@
 -- The marks of document 01 that are about a text alone ('Both sides of the mark'), and the bounds of its rules on both sides ('Rules' and
 -- 'Required' of 01 Reading), computed from the definitions. Assumes nothing.
-use Prim.Native.Nat.{_+_, _-_, ℕ}
+use Prim.Native.Nat.{_+_, _-_, suc, zero, ℕ}
 use lib.ListN.{replicate}
 use mathlib.Core.Bool.{Bool, false, true}
 use mathlib.Core.List.{List, _∷_, []}
@@ -20,7 +20,7 @@ use Rattle.rules.specs.Words.{contentTypes}
 use Rattle.rules.specs.Pieces.{wordNumber, pieceEnd, digits, hasPiece, wordNumberFrom, reads, runLength, decimalAt, within}
 use Rattle.rules.specs.Sequence.{sequenceRule}
 use Rattle.rules.specs.Status.{statusRule}
-use Rattle.rules.specs.Texts.{beginsPoint, callIdRule, destinationRule, fireRule, hostRule, languageRule, memoRule, organizationRule, points, noBackslash, userRule}
+use Rattle.rules.specs.Texts.{beginsPoint, callIdRule, destinationRule, fireRule, hostRule, languageRule, memoRule, organizationRule, points, noBreak, userRule}
 
 -- Call-ID `A1` yes, `A.` no
 pub call-ids : (callIdRule (ascii "A1") ≡ true) × (callIdRule (ascii "A.") ≡ false)
@@ -84,10 +84,22 @@ pub statuses :
 unfolding statusRule reads hasPiece pieceEnd digits decimalAt same standsAt among isDigit
 statuses = (refl, refl, refl, refl)
 
--- Refer-Memo: at most 128 code points
-pub memos : (memoRule (replicate 128 97) ≡ true) × (memoRule (replicate 129 97) ≡ false)
-unfolding memoRule all noBackslash points beginsPoint among
-memos = (refl, refl)
+-- so many of one character of three bytes
+abbrev kana : ℕ → List ℕ
+kana zero = []
+kana (suc n) = 0xE3 ∷ 0x81 ∷ 0x82 ∷ kana n
+
+-- Refer-Memo: at most 128 code points, no line break
+pub memos :
+    (memoRule (replicate 128 97) ≡ true)
+    × (memoRule (replicate 129 97) ≡ false)
+    × (memoRule (kana 128) ≡ true)
+    × (memoRule (kana 129) ≡ false)
+    × (memoRule (0x61 ∷ 0x0A ∷ []) ≡ false)
+    × (memoRule (0x61 ∷ 0x0D ∷ []) ≡ false)
+    × (memoRule (0x61 ∷ 0x09 ∷ []) ≡ true)
+unfolding memoRule all noBreak points beginsPoint among
+memos = (refl, refl, refl, refl, refl, refl, refl)
 
 -- a ping requires 25 and not 26, a pong 26 and not 25; REFER requires 12 and takes 13, INVITE takes both
 pub fields :

@@ -1,12 +1,12 @@
 -- The pieces' laws: a run, a digit and a code point at a time for the loops, and what one byte at a place means. Assumes nothing.
 use Prim.Native.Nat.{_*_, _+_, _-_, _<_, _≤_, suc, zero, ℕ}
-use mathlib.Core.Bool.{Bool, and-false, and-true, false, true, cond}
+use mathlib.Core.Bool.{Bool, _||_, and-false, and-true, false, true, cond}
 use mathlib.Core.List.{List, _∷_, []}
 use mathlib.Core.Path.{_∙_, _≡_, ap, refl, sym}
 use native.Mathlib.Nat.{zero-add}
 use native.Mathlib.Numerals.{add-one}
 use native.Mathlib.Omega.{arith}
-use borrow.Author.Tests.{eq-eqb, eqb-false, eqb-true, le-leb, lt-leb, ne-eqb}
+use borrow.Author.Tests.{eqb-false, eqb-true, le-leb, lt-leb, ne-eqb}
 use lib.Dec.{eqb, leb}
 use lib.ListN.{drop, drop-of-length-le, getD, length}
 use lib.Seq.{drop-cons, drop-nil}
@@ -16,7 +16,7 @@ use Rattle.octets.specs.Class.{all, among, isDigit}
 use Rattle.octets.specs.Text.{same, standsAt}
 use Rattle.rules.specs.Classes.{holds}
 use Rattle.rules.specs.Pieces.{digits, runLength, decimalAt}
-use Rattle.rules.specs.Texts.{beginsPoint, memoRule, points, noBackslash}
+use Rattle.rules.specs.Texts.{beginsPoint, memoRule, noBreak, points}
 use Rattle.rules.specs.declared.classes.Class.{Class}
 
 module _ (k : Class) (s : List ℕ) (i : ℕ) where
@@ -118,17 +118,18 @@ module _ (s : List ℕ) (i n : ℕ) (h : i < length s) (t : Bool) (e : t ≡ amo
   unfolding points beginsPoint
   points-more f k q = q ∙ rw (add-one i, drop-cons s i 0, ← e, f) (omega arith)
 
-module _ (s : List ℕ) (i : ℕ) (q : all noBackslash s ≡ all noBackslash (drop i s)) where
-  pub memo-more : i < length s → (getD s i 0 ≡ 92 → ⊥) → all noBackslash s ≡ all noBackslash (drop (i + 1) s)
-  unfolding noBackslash
-  memo-more h e = q ∙ all-more noBackslash s i h (rw (ne-eqb (getD s i 0) 92 e))
+-- no line break, or one
+module _ (s : List ℕ) (i : ℕ) (q : all noBreak s ≡ all noBreak (drop i s)) (t : Bool) (b : t ≡ (eqb (getD s i 0) 10 || eqb (getD s i 0) 13)) where
+  pub memo-more : i < length s → t ≡ false → all noBreak s ≡ all noBreak (drop (i + 1) s)
+  unfolding noBreak
+  memo-more h e = q ∙ all-more noBreak s i h (rw (← b, e))
 
-  pub memo-stops : i < length s → getD s i 0 ≡ 92 → false ≡ memoRule s
-  unfolding memoRule noBackslash
-  memo-stops h e = rw (q, all-stops noBackslash s i h (rw (eq-eqb (getD s i 0) 92 e)))
+  pub memo-stops : i < length s → t ≡ true → false ≡ memoRule s
+  unfolding memoRule noBreak
+  memo-stops h e = rw (q, all-stops noBreak s i h (rw (← b, e)))
 
-  pub memo-ends : (n : ℕ) → length s ≤ i → points s ≡ n + points (drop i s) → leb n 128 ≡ memoRule s
-  unfolding memoRule
-  memo-ends n h p =
-      let z : points s ≡ n = p ∙ rw (drop-of-length-le s h) (no-points n) in
-      rw (q, all-ends noBackslash s i h, z)
+pub memo-ends : (s : List ℕ) (i n : ℕ) → all noBreak s ≡ all noBreak (drop i s) → length s ≤ i → points s ≡ n + points (drop i s) → leb n 128 ≡ memoRule s
+unfolding memoRule
+memo-ends s i n q h p =
+    let z : points s ≡ n = p ∙ rw (drop-of-length-le s h) (no-points n) in
+    rw (q, all-ends noBreak s i h, z)

@@ -1,5 +1,4 @@
 -- The rules of single texts, in the order of 01 Reading, 'Rules': what the contracts of `src/texts.rt` cite. Assumes nothing.
-use Prim.Native.Char.{code}
 use Prim.Native.Nat.{suc, ℕ}
 use mathlib.Core.Bool.{Bool, _&&_, _||_, cond, not}
 use mathlib.Core.List.{List, _∷_, []}
@@ -70,14 +69,13 @@ unfoldable pub points : List ℕ → ℕ
 points [] = 0
 points (x ∷ xs) = cond (beginsPoint x) (suc (points xs)) (points xs)
 
--- no backslash: it breaks a text under a rule. The rules made of classes and words exclude it by themselves; Status after its space and an
--- image's Body are free
-unfoldable pub noBackslash : ℕ → Bool
-noBackslash b = not (eqb b (code "\\"))
+-- a byte that is no line break: U+000A and U+000D are one byte each
+unfoldable pub noBreak : ℕ → Bool
+noBreak b = not (eqb b 0x0A || eqb b 0x0D)
 
--- 13 Refer-Memo: at most 128 code points, none of them a backslash
+-- 13 Refer-Memo: at most 128 code points, none of them a line break (02 §2)
 unfoldable pub memoRule : List ℕ → Bool
-memoRule s = all noBackslash s && leb (points s) 128
+memoRule s = all noBreak s && leb (points s) 128
 
 -- 20 Language: two letters a to z
 unfoldable pub languageRule : List ℕ → Bool

@@ -103,14 +103,14 @@ pub fn is_image(s: &[u8]) -> bool
     stands_at(s, 0, b"https://")
 }
 
-// Refer-Memo.
+// Refer-Memo: any text but for its line breaks, which are single bytes in UTF-8.
 pub fn is_memo(s: &[u8]) -> bool
     ensures { λ r. ⌜ r ≡ memoRule (now (s .entry)) ⌝ }
 {
     let mut n: usize = 0;
     let mut i: usize = 0;
     while i < s.len() {
-        if s[i] == b'\\' {
+        if or(s[i] == b'\n', s[i] == b'\r') {
             return false;
         }
         if among(128, 191, s[i]) {

@@ -5,7 +5,7 @@ use Rattle.octets.specs.Text.{same}
 use Rattle.showing.specs.Asked.{askedText}
 use Rattle.showing.specs.Readings.{readText}
 use Rattle.showing.specs.Shown.{unknown}
-use Rattle.showing.specs.Writers.{editText, replyLine}
+use Rattle.showing.specs.Writers.{editText, replyLine, textLine}
 use mathlib.Core.Bool.{true, false}
 use mathlib.Core.List.{List}
 use mathlib.Core.Path.{_≡_}
@@ -28,7 +28,12 @@ module _ (c : ℕ) (name words : List ℕ) where
   unfolding askedText
   asks-remove a b d e = simp (a, b, d, e)
 
-  pub asks-else : same name (ascii "read") ≡ false → same name (ascii "reply") ≡ false → same name (ascii "add") ≡ false → same name (ascii "remove") ≡ false
-      → unknown ≡ askedText c name words
+  pub asks-text : same name (ascii "read") ≡ false → same name (ascii "reply") ≡ false → same name (ascii "add") ≡ false → same name (ascii "remove") ≡ false
+      → same name (ascii "text") ≡ true → textLine words ≡ askedText c name words
   unfolding askedText
-  asks-else a b d e = simp (a, b, d, e)
+  asks-text a b d e f = simp (a, b, d, e, f)
+
+  pub asks-else : same name (ascii "read") ≡ false → same name (ascii "reply") ≡ false → same name (ascii "add") ≡ false → same name (ascii "remove") ≡ false
+      → same name (ascii "text") ≡ false → unknown ≡ askedText c name words
+  unfolding askedText
+  asks-else a b d e f = simp (a, b, d, e, f)

@@ -12,13 +12,14 @@ use Rattle.showing.proofs.WordLaws.{got-false, got-front, got-true, hal
 use Rattle.showing.specs.Shown.{Puts, hexed, unknown}
 use Rattle.showing.specs.Words.{hexBytes, firstWord, hasSpace, isBytes, numberTo, rest}
 use Rattle.showing.specs.inner.Got.{Got}
-use Rattle.showing.specs.Writers.{editText, edited, filled, headOf, isFirst, isLast, isNumber, onCode, onFirst, onLast, replyLine, tookLine, tookText, wroteLine, wroteText}
-use Rattle.showing.specs.Writers.{writtenOf}
+use Rattle.showing.specs.Writers.{editText, edited, filled, headOf, isFirst, isLast, isNumber, onCode, onFirst, onLast, replyLine, textLine, tookLine, tookText, wroteLine}
+use Rattle.showing.specs.Writers.{writtenOf, wroteText}
 use Rattle.message.proofs.AcceptedVia.{part-short}
 use Rattle.writing.specs.Adding.{adding}
 use Rattle.writing.specs.Outcome.{Outcome, Writes, answered, outputLeft}
 use Rattle.writing.specs.Removing.{Took, hostIn, nextHop, removing, hostShown}
 use Rattle.writing.specs.Reply.{replying}
+use Rattle.writing.specs.Texting.{texting}
 use Rattle.writing.specs.declared.answers.Removed.the-variants.{Done, Refused}
 use Rattle.writing.specs.declared.answers.Removed.{Removed}
 use Rattle.writing.specs.declared.answers.Written.{Written}
@@ -359,3 +360,15 @@ module _ (o : List ℕ) {k : ℕ} {o′ : List ℕ} (adds : Bool) where
   pub edit-refused : (words : List ℕ) → ((f : List ℕ → List ℕ → List ℕ) → onFirst words f ≡ unknown) → Puts o unknown k o′ → Puts o (editText adds words) k o′
   unfolding editText
   edit-refused words e p = says o (sym (e _)) p
+
+-- `text`: the bytes that spell it end at e.
+
+module _ (o : List ℕ) {k : ℕ} {o′ : List ℕ} (words : List ℕ) where
+  pub text-last : {b : List ℕ} {e : ℕ} {b′ : List ℕ} {n : ℕ} → Last words b 0 e b′ → n ≡ numberTo 40000 (firstWord words) → Puts o (wroteLine n (texting (take (e - 0) b′))) k o′
+      → Puts o (textLine words) k o′
+  unfolding textLine
+  text-last l q p = let f : ℕ → List ℕ → List ℕ = λ n s. wroteLine n (texting s) in says o (rw (q, l .taken) refl ∙ sym (l .on f)) p
+
+  pub text-refused : ((f : ℕ → List ℕ → List ℕ) → onLast words f ≡ unknown) → Puts o unknown k o′ → Puts o (textLine words) k o′
+  unfolding textLine
+  text-refused e p = says o (sym (e _)) p

@@ -4,7 +4,7 @@ use Rattle.octets.specs.Ascii.{ascii}
 use Rattle.octets.specs.Text.{same}
 use Rattle.showing.specs.Readings.{readText}
 use Rattle.showing.specs.Shown.{unknown}
-use Rattle.showing.specs.Writers.{editText, replyLine}
+use Rattle.showing.specs.Writers.{editText, replyLine, textLine}
 use mathlib.Core.Bool.{true, false, cond}
 use mathlib.Core.List.{List}
 
@@ -15,4 +15,5 @@ askedText c name words =
     (cond (same name (ascii "reply")) (replyLine words)
     (cond (same name (ascii "add")) (editText true words)
     (cond (same name (ascii "remove")) (editText false words)
-    unknown)))
+    (cond (same name (ascii "text")) (textLine words)
+    unknown))))

@@ -1,4 +1,4 @@
--- What `reply`, `add` and `remove` show for the words behind their names; `?` where a word is not what it should be. Cited by the
+-- What `reply`, `add`, `remove` and `text` show for the words behind their names; `?` where a word is not what it should be. Cited by the
 -- contracts of `src/writers.rt`. Assumes nothing.
 use Prim.Native.Nat.{ℕ}
 use Rattle.message.specs.Reading.{ample, reading}
@@ -10,6 +10,7 @@ use Rattle.writing.specs.Adding.{adding}
 use Rattle.writing.specs.Outcome.{Outcome, answered, outputLeft, writingNumber}
 use Rattle.writing.specs.Removing.{hostIn, nextHop, removing, hostShown}
 use Rattle.writing.specs.Reply.{replying}
+use Rattle.writing.specs.Texting.{texting}
 use Rattle.writing.specs.declared.answers.Removed.the-variants as removals
 use Rattle.writing.specs.declared.answers.Removed.{Removed}
 use Rattle.writing.specs.declared.answers.Written.the-variants.{Done, Refused}
@@ -96,3 +97,7 @@ editText adds words =
     onFirst words₁ (λ destination words₂.
     onFirst words₂ (λ organization words₃.
     onLast words₃ (λ n s. edited adds n s host destination organization))))
+
+-- `text ROOM HEX`
+unfoldable pub textLine : List ℕ → List ℕ
+textLine words = onLast words (λ n s. wroteLine n (texting s))

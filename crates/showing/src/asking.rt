@@ -3,6 +3,7 @@ use crate::readings::read;
 use crate::shown::put_unknown;
 use crate::writers::edit;
 use crate::writers::reply;
+use crate::writers::text;
 use octets::same;
 ghost use Prim.Native.Nat.{_≤_};
 ghost use lib.ListN.{length};
@@ -32,6 +33,9 @@ pub fn ask(
     }
     if same(name, b"remove") {
         return edit(out, bytes, room, false, words);
+    }
+    if same(name, b"text") {
+        return text(out, bytes, room, words);
     }
     put_unknown(out)
 }

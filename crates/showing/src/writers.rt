@@ -1,4 +1,4 @@
-// `reply`, `add` and `remove`: the room is filled with 5a before, and shown whole afterwards.
+// `reply`, `add`, `remove` and `text`: the room is filled with 5a before, and shown whole afterwards.
 // The words' bytes stand one behind the other at the front of `bytes`; a place over 85,000 says that a word is not what it should be.
 use crate::shown::put_hex;
 use crate::shown::put_number;
@@ -22,11 +22,12 @@ ghost use Rattle.octets.specs.Splice.{splice};
 ghost use Rattle.showing.specs.Shown.{Puts, hexed};
 ghost use Rattle.showing.specs.Words.{hexBytes, firstWord, numberTo, rest};
 ghost use Rattle.showing.specs.inner.Got.{Got};
-ghost use Rattle.showing.specs.Writers.{editText, edited, filled, headOf, isFirst, isLast, onFirst, onLast, replyLine, tookLine, tookText, wroteLine, wroteText, writtenOf};
+ghost use Rattle.showing.specs.Writers.{editText, edited, filled, headOf, isFirst, isLast, onFirst, onLast, replyLine, textLine, tookLine, tookText, wroteLine, wroteText, writtenOf};
 ghost use Rattle.writing.specs.Adding.{adding};
 ghost use Rattle.writing.specs.Outcome.{Writes};
 ghost use Rattle.writing.specs.Removing.{Took, hostIn, removing};
 ghost use Rattle.writing.specs.Reply.{replying};
+ghost use Rattle.writing.specs.Texting.{texting};
 
 // Takes the bytes of the first word.
 fn take_first(bytes: &mut [u8; 85000], at: usize, words: &[u8]) -> usize
@@ -128,7 +129,7 @@ fn put_removed(out: &mut [u8; 160100], r: Removed, room: &[u8; 40000], n: usize,
     put(out, p, b"\n")
 }
 
-// Into the first n bytes of the room, and so the next two.
+// Into the first n bytes of the room, and so the next three.
 fn reply_into(room: &mut [u8], n: usize, s: &[u8], code: u16, date: &[u8]) -> Written
     requires { ⌜ n ≤ length (now room) ⌝ }
     ensures { λ r. ⌜ Writes (take n (now (room .entry))) (replying (now (s .entry)) code (now (date .entry))) r (take n (now (room .exit))) ⌝ }
@@ -162,6 +163,13 @@ fn remove_into(
     ensures { λ r. ⌜ Took (take n (now (room .entry))) (hostIn (reading ample (now (s .entry)))) (removing (now (s .entry)) (now (host .entry)) (now (destination .entry)) (now (organization .entry))) r (take n (now (room .exit))) ⌝ }
 {
     writing::remove(&mut room[0..n], s, host, destination, organization)
+}
+
+fn text_into(room: &mut [u8], n: usize, s: &[u8]) -> Written
+    requires { ⌜ n ≤ length (now room) ⌝ }
+    ensures { λ r. ⌜ Writes (take n (now (room .entry))) (texting (now (s .entry))) r (take n (now (room .exit))) ⌝ }
+{
+    writing::text(&mut room[0..n], s)
 }
 
 // The line of a reply, into a room of n bytes.
@@ -215,6 +223,16 @@ fn write_remove(
     fill(room);
     let r = remove_into(room, n, s, host, destination, organization);
     put_removed(out, r, room, n, s)
+}
+
+// The line of a text, into a room of n bytes.
+fn write_text(out: &mut [u8; 160100], room: &mut [u8; 40000], n: usize, s: &[u8]) -> usize
+    requires { ⌜ n ≤ 40000 ⌝ }
+    ensures { λ r. ⌜ Puts (now (out .entry)) (wroteLine n (texting (now (s .entry)))) r (now (out .exit)) ⌝ }
+{
+    fill(room);
+    let w = text_into(room, n, s);
+    put_written(out, w, room, n)
 }
 
 // The one or the other.
@@ -374,4 +392,23 @@ pub fn edit(
         return put_unknown(out);
     }
     edit_destination(out, bytes, room, adds, a, rest(words))
+}
+
+// `text ROOM HEX`.
+pub fn text(
+    out: &mut [u8; 160100],
+    bytes: &mut [u8; 85000],
+    room: &mut [u8; 40000],
+    words: &[u8],
+) -> usize
+    requires { ⌜ length (now words) ≤ 170000 ⌝ }
+    ensures { λ r. ⌜ Puts (now (out .entry)) (textLine (now (words .entry))) r (now (out .exit)) ⌝ }
+{
+    let e = take_last(bytes, 0, words);
+    if 85000 < e {
+        return put_unknown(out);
+    }
+    let n = room_in(words) as usize;
+    let b: &[u8] = bytes;
+    write_text(out, room, n, &b[0..e])
 }

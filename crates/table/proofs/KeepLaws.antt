@@ -17,9 +17,11 @@ use Rattle.table.proofs.SlotLaws.{length-slot}
 use Rattle.table.proofs.SoundLaws.{record-used}
 use Rattle.table.specs.Blank.{blankOf}
 use Rattle.table.specs.Image.{recordCount, headerOf, recordAt, withRecord, freeRecord, recordSize, headerSize}
-use Rattle.table.specs.Record.{recordCallId, recordUser, recordCallerFire, recordCalleeFire, roomText, recordFields, textsOf, slotOf, withFields, newRecord}
+use Rattle.table.specs.Record.{callIdAt, callIdRoom, recordCallId, recordUser, recordCallerFire, recordCalleeFire, roomText, recordFields, textsOf, slotOf, withFields}
+use Rattle.table.specs.Record.{newRecord}
 use Rattle.table.specs.Record.{isFree, isNamed, sameParties}
-use Rattle.table.specs.WellFormed.{slotSound, textsSound, fieldsSound, spareSound, usedSound, recordSound, apart, apartBefore, distinct, frameSound, recordsSound, wellFormed}
+use Rattle.table.specs.WellFormed.{padded, slotSound, textsSound, fieldsSound, spareSound, usedSound, recordSound, apart, apartBefore, distinct, frameSound, recordsSound}
+use Rattle.table.specs.WellFormed.{wellFormed}
 use Rattle.table.specs.declared.numbers.Fields.{Fields}
 use borrow.Author.Tests.{eq-eqb, ne-eqb}
 use lib.Dec.{eqb}
@@ -316,6 +318,13 @@ module _ (t : List ℕ) (w : wellFormed t ≡ true) where
   pub fields-of : (k : ℕ) → k < recordCount t → isFree (recordAt t k) ≡ false → fieldsSound (recordFields (recordAt t k)) ≡ true
   unfolding usedSound
   fields-of k h e = and-left (fieldsSound (recordFields (recordAt t k))) _ (sound-used (recordAt t k) (record-of k h) e)
+
+  pub call-id-of : (k : ℕ) → k < recordCount t → isFree (recordAt t k) ≡ false → callIdRule (recordCallId (recordAt t k)) ≡ true
+  unfolding usedSound textsSound slotSound
+  call-id-of k h e =
+      let r = recordAt t k in
+      let x : textsSound r ≡ true = and-right (spareSound r) _ (and-right (fieldsSound (recordFields r)) _ (sound-used r (record-of k h) e)) in
+      and-right (padded callIdAt callIdRoom r) _ (and-left (slotSound callIdRule callIdAt callIdRoom r) _ x)
 
 -- A record replaced.
 

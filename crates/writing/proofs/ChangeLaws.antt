@@ -1,15 +1,15 @@
 -- An accepted message with another Via in its place, one that keeps Via's rule, is accepted again, with the same facts (`via-changed`): frame says that
 -- the text is JSON, with its tag and all other members as they were, and the reading goes by those alone. Assumes nothing.
-use Rattle.fields.proofs.TextLaws.{left-cut}
+use Rattle.fields.proofs.SpellingLaws.{left-cut}
 use Prim.Native.Nat.{ℕ, zero, suc, _+_, _-_, _≤_, _<_}
 use Rattle.frame.proofs.Forwarding.{Changed}
 use Rattle.frame.proofs.MessageShape.{swapRead}
 use Rattle.json.specs.Places.{part, bytes, raw, closing, behind, size, left, quoted, valueOf, members, spell}
 use Rattle.fields.specs.Known.{empty, noted}
 use Rattle.message.specs.Shape.{tagOf, objectOf}
+use Rattle.fields.specs.Value.{wordSpelled}
 use Rattle.fields.specs.Via.{viaRule}
 use Rattle.rules.specs.Names.{fields, tags}
-use Rattle.rules.specs.Pieces.{wordNumber}
 use Rattle.utf8.specs.Rfc3629.{verdict}
 use Rattle.utf8.specs.declared.Verdict.the-variants as verdicts
 use Rattle.message.proofs.AcceptedRows.{Accepted}
@@ -93,7 +93,7 @@ module _ {s : List ℕ} {tag : ℕ} {t : List ℕ} (a : Accepted s tag t) (s′ 
   shape-again : (tagOf s′ ≡ tag) × (objectOf s′ ≡ shape a .y)
   shape-again =
       let g = same-raw s s′ (shape a .x) (shape a .string) (c .tag) in
-      tag-of s′ (shape a .x) (shape a .y) tag (c .again .array) (c .again .two) (g .0) (c .again .object) (ap (wordNumber tags) (g .1) ∙ shape a .name)
+      tag-of s′ (shape a .x) (shape a .y) tag (c .again .array) (c .again .two) (g .0) (c .again .object) (ap (wordSpelled tags) (g .1) ∙ shape a .name)
 
   read-again : membersOf s′ ≡ swapRead (via-where a .n) v (membersOf s)
   read-again = ap (λ (o : ℕ). map (spell s′) (members s′ o)) (shape-again .1) ∙ c .same

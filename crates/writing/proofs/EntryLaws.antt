@@ -1,12 +1,14 @@
 -- Our entry is an object that stands by itself (`entry-piece`), and it is an object of Via with our three texts (`entry-hop`). Assumes nothing.
 use Rattle.octets.proofs.TestLaws.{and-parts}
 use Prim.Native.Nat.{ℕ}
+use Rattle.escapes.proofs.PlainLaws.{plain-text, plain-whole}
+use Rattle.escapes.specs.Rfc7159.{isBroken, letterOf, lettersFrom, lone, spelt, text, took}
 use Rattle.frame.proofs.Compact.{Pair, Sounds, told, compact, pairText, pairsText, compact-members, compact-piece}
 use Rattle.frame.proofs.Standing.{Piece}
 use Rattle.frame.proofs.Written.{plainly, inQuotes, text-piece, plain-name}
 use Rattle.json.proofs.Listing.{name-is}
 use Rattle.json.specs.Places.{members, spell}
-use Rattle.fields.specs.Value.{isString, textOf, freely, ruled}
+use Rattle.fields.specs.Value.{isString, spellingOf, textOf, ruled, wordSpelled}
 use Rattle.fields.specs.Via.{hopRule, isHop}
 use Rattle.octets.specs.Ascii.{ascii}
 use Rattle.octets.specs.Text.{same}
@@ -15,12 +17,12 @@ use Rattle.rules.specs.Pieces.{wordNumberFrom}
 use Rattle.rules.specs.Texts.{hostRule, destinationRule, organizationRule}
 use Rattle.message.proofs.HopPairs.{HopBy, three, pairs-hop}
 use Rattle.message.proofs.PairLaws.{found, valueIn, doubled}
-use Rattle.writing.proofs.PlainLaws.{Plain, plain-plainly, plain-no-backslash, host-plain, destination-plain, organization-plain}
+use Rattle.writing.proofs.PlainLaws.{Plain, plain-plainly, plain-unescaped, host-plain, destination-plain, organization-plain}
 use Rattle.writing.specs.Adding.{entry, pathRule}
 use lib.ListN.{getD}
 use mathlib.Core.Bool.{Bool, true, _&&_}
 use mathlib.Core.List.{List, [], _∷_, _++_, append-assoc, map}
-use mathlib.Core.Path.{_≡_, refl, sym, subst}
+use mathlib.Core.Path.{_≡_, refl, sym, ap, subst, _∙_}
 
 -- Our entry.
 abbrev hostPair : List ℕ → Pair
@@ -40,13 +42,17 @@ unfolding entry pairsText pairText
 entry-compact h d o = rw (quoted h, quoted d, quoted o)
 
 -- a plain text in quotes, read
-pub quoted-text : (x : List ℕ) → plainly x ≡ true → textOf (inQuotes x) ≡ x
+quoted-spelling : (x : List ℕ) → Plain x → spellingOf (inQuotes x) ≡ x
+unfolding spellingOf
+quoted-spelling x p = name-is (inQuotes x) x [] 0 (plain-name x (plain-plainly x p) .listed) refl
+
+pub quoted-text : (x : List ℕ) → Plain x → textOf (inQuotes x) ≡ x
 unfolding textOf
-quoted-text x h = name-is (inQuotes x) x [] 0 (plain-name x h .listed) refl
+quoted-text x p = ap text (quoted-spelling x p) ∙ plain-text x (plain-unescaped x p)
 
 pub quoted-ruled : (rule : List ℕ → Bool) (x : List ℕ) → Plain x → rule x ≡ true → ruled rule (inQuotes x) ≡ true
-unfolding ruled freely isString
-quoted-ruled rule x p e = let q = quoted-text x (plain-plainly x p) in rw (q, plain-no-backslash x p, e)
+unfolding ruled isString
+quoted-ruled rule x p e = rw (quoted-text x p, quoted-spelling x p, plain-whole x (plain-unescaped x p), e)
 
 module _ (h d o : List ℕ) (k : pathRule h d o ≡ true) where
   rules-kept : (hostRule h ≡ true) × ((destinationRule d ≡ true) × (organizationRule o ≡ true))
@@ -73,7 +79,7 @@ module _ (h d o : List ℕ) (k : pathRule h d o ≡ true) where
   entry-members = compact-members 4 (hostPair h) (destinationPair d ∷ organizationPair o ∷ []) sounds (entry h d o) [] 0 (sym (entry-compact h d o))
 
   entry-by : HopBy (map told (hostPair h ∷ destinationPair d ∷ organizationPair o ∷ []))
-  unfolding doubled found valueIn wordNumberFrom same hopRule
+  unfolding doubled found valueIn wordSpelled isBroken lone text spelt lettersFrom letterOf took wordNumberFrom same hopRule
   entry-by =
       let p = plain-path in
       let r = rules-kept in

@@ -16,6 +16,7 @@ pub mod TrailLaws
 pub mod SeamLaws
 pub mod StandingLaws
 pub mod SwapLaws
+pub mod TextingLaws
 pub mod WayLaws
 pub mod WordLaws
 pub mod Marks

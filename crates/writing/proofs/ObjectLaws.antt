@@ -12,8 +12,8 @@ use Rattle.json.proofs.Listing.{Item, items, values, readAll, at-byte, at-next,
 use Rattle.json.proofs.ScanLaws.{Opener, Opened}
 use Rattle.json.specs.Places.{behind, bytes, past, follows, members, elementsFrom, elements, spell}
 use Rattle.fields.specs.Hop.{hopOf, hostOf}
-use Rattle.fields.specs.Spans.{textAt}
-use Rattle.fields.specs.Value.{isArray, isString, textOf, freely, ruled}
+use Rattle.fields.specs.Spans.{spellingAt}
+use Rattle.fields.specs.Value.{isArray, isString, spellingOf, ruled}
 use Rattle.fields.specs.Via.{hopPlaces, hopRule, isHop, viaRule}
 use Rattle.octets.proofs.ClassLaws.{among-in, in-among}
 use Rattle.octets.proofs.TestLaws.{and-parts}
@@ -128,26 +128,26 @@ host-value : (s : List ℕ) (q : ℕ) → HopBy (map (spell s) (members s q)) �
 unfolding hopPlaces
 host-value s q b = noted-by hopMembers hop-few s (members s q) 1 (late-members s q) (omega arith) (b .once) (b .there 1 (omega arith) (omega arith)) .1
 
-host-as : (v : List ℕ) → HopBy (map (spell v) (members v 0)) → hostOf v ≡ textOf (valueIn hopMembers 1 (map (spell v) (members v 0)))
-unfolding hostOf hopOf textAt
-host-as v b = rw (by-once hopMembers hop-few v (members v 0) (b .once)) (ap textOf (host-value v 0 b))
+host-as : (v : List ℕ) → HopBy (map (spell v) (members v 0)) → hostOf v ≡ spellingOf (valueIn hopMembers 1 (map (spell v) (members v 0)))
+unfolding hostOf hopOf spellingAt
+host-as v b = rw (by-once hopMembers hop-few v (members v 0) (b .once)) (ap spellingOf (host-value v 0 b))
 
 string-there : (s : List ℕ) (p : ℕ) (n : ℕ) → ruled (hopRule n) (bytes s p) ≡ true → p < length s
-unfolding ruled freely isString
+unfolding ruled isString
 string-there s p n e = there s p 33 (first-byte s p (behind s p) 33 (eqb-true _ 34 (and-parts (eqb (getD (bytes s p) 0 0) 34) _ e .0)))
 
 module _ (d : ℕ) (s : List ℕ) (q : ℕ) (w : Stands d s q) (h : isHop s q ≡ true) where
-  host-by : (r : List ℕ) → w .v ≡ 123 ∷ r → textAt s (getD (hopPlaces s q) 1 0) ≡ hostOf (w .v)
-  unfolding textAt
+  host-by : (r : List ℕ) → w .v ≡ 123 ∷ r → spellingAt s (getD (hopPlaces s q) 1 0) ≡ hostOf (w .v)
+  unfolding spellingAt
   host-by r e =
       let b = hop-pairs s q h .1 in
       let i : drop q s ≡ (123 ∷ r) ++ w .t = w .is ∙ ap (λ (v : List ℕ). v ++ w .t) e in
       let n = full s r (w .t) q i (not-none s q 0 (some-there s (members s q) (b .there 1 (omega arith) (omega arith)))) in
       let o = own-read d r (subst (Piece d) e (w .piece)) n s (w .t) q i in
-      ap textOf (host-value s q b ∙ ap (valueIn hopMembers 1) o) ∙ sym (ap hostOf e ∙ host-as (123 ∷ r) (subst HopBy o b))
+      ap spellingOf (host-value s q b ∙ ap (valueIn hopMembers 1) o) ∙ sym (ap hostOf e ∙ host-as (123 ∷ r) (subst HopBy o b))
 
   -- the host, wherever the object stands
-  pub host-own : textAt s (getD (hopPlaces s q) 1 0) ≡ hostOf (bytes s q)
+  pub host-own : spellingAt s (getD (hopPlaces s q) 1 0) ≡ hostOf (bytes s q)
   host-own =
       let b = braced (w .v) (front-byte (w .v) (w .t) s q (w .piece .opened) (w .is) ∙ hop-pairs s q h .0) in
       rw (own-bytes d s q w) (host-by (b .0) (b .1))

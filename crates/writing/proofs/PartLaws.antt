@@ -1,5 +1,5 @@
 -- Parts of parts: a part of a value stands in the message where the value does; and the last but one of a list. Assumes nothing.
-use Rattle.fields.proofs.TextLaws.{take-own}
+use Rattle.fields.proofs.SpellingLaws.{take-own}
 use Prim.Native.Nat.{ℕ, zero, suc, _+_, _-_, _≤_}
 use Rattle.frame.proofs.ArrayEdits.{butLast}
 use Rattle.json.specs.Places.{part, bytes, behind, prevOf}

@@ -1,6 +1,7 @@
 -- Texts under the rules of hosts, destinations, organizations and Dates are plain: ASCII, with no quote, backslash or control byte among them.
 -- Assumes nothing.
 use Prim.Native.Nat.{ℕ, suc, _+_, _≤_}
+use Rattle.escapes.specs.Text.{escaped}
 use Rattle.frame.proofs.Written.{plainly}
 use Rattle.octets.proofs.ClassLaws.{among-in, digit-in}
 use Rattle.octets.proofs.TestLaws.{and-parts, or-split}
@@ -8,7 +9,7 @@ use Rattle.octets.specs.Class.{all, among, isDigit, isLower, isUpper, isLetter,
 use Rattle.rules.specs.Classes.{holds}
 use Rattle.rules.specs.Pieces as pieces
 use Rattle.rules.specs.Pieces.{run, runLength, within, reads}
-use Rattle.rules.specs.Texts.{noBackslash, hostRule, destinationRule, organizationRule}
+use Rattle.rules.specs.Texts.{hostRule, destinationRule, organizationRule}
 use Rattle.rules.specs.declared.classes.Class.the-variants.{Alnum, Graphic, Label, Name}
 use Rattle.rules.specs.declared.classes.Class.{Class}
 use borrow.Author.Tests.{ne-eqb, le-ltb, le-leb, eqb-true, eqb-false, not-true}
@@ -40,10 +41,10 @@ unfolding all
 plain-ascii [] h = refl
 plain-ascii (b ∷ s) h = rw (le-leb b 127 (omega (arith, h .0 .high))) (plain-ascii s (h .1))
 
-pub plain-no-backslash : (s : List ℕ) → Plain s → all noBackslash s ≡ true
-unfolding all noBackslash
-plain-no-backslash [] h = refl
-plain-no-backslash (b ∷ s) h = rw (ne-eqb b 92 (h .0 .slash)) (plain-no-backslash s (h .1))
+pub plain-unescaped : (s : List ℕ) → Plain s → escaped s ≡ false
+unfolding escaped
+plain-unescaped [] h = refl
+plain-unescaped (b ∷ s) h = rw (ne-eqb b 92 (h .0 .slash)) (plain-unescaped s (h .1))
 
 plain-in : (b : ℕ) → 93 ≤ b → b ≤ 126 → PlainByte b
 plain-in b h g = record { low = omega arith; high = g; quote = λ e. omega arith; slash = λ e. omega arith }

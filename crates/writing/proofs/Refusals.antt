@@ -1,5 +1,5 @@
--- THEOREM on refusals: whichever of the three writers is asked, and whatever it is given, where it refuses, by any number, the output is byte for
--- byte what it was. Over the public contracts of `reply`, `add` and `remove`. Assumes nothing.
+-- THEOREM on refusals: whichever of the four writers is asked, and whatever it is given, where it refuses, by any number, the output is byte for
+-- byte what it was. Over the public contracts of `reply`, `add`, `remove` and `text`. Assumes nothing.
 use Prim.Native.Nat.{ℕ}
 use Rattle.message.specs.Reading.{ample, reading}
 use Rattle.fields.specs.declared.spans.Span.{Span}
@@ -7,6 +7,7 @@ use Rattle.writing.specs.Adding.{adding}
 use Rattle.writing.specs.Outcome.{Outcome, refuse, write, fitted, answered, put, outputLeft, Writes}
 use Rattle.writing.specs.Removing.{removing, hostIn, hostShown, Took}
 use Rattle.writing.specs.Reply.{replying}
+use Rattle.writing.specs.Texting.{texting}
 use Rattle.writing.specs.declared.answers.Refusal.the-variants.{Long, Room}
 use Rattle.writing.specs.declared.answers.Refusal.{Refusal}
 use Rattle.writing.specs.declared.answers.Removed.the-variants as removals
@@ -20,17 +21,19 @@ use mathlib.Core.List.{List}
 use mathlib.Core.Path.{_≡_, refl, ap, _∙_}
 use native.Mathlib.Omega.{arith}
 
--- what a writer is asked: a reply to a message, with a code and a Date; our entry added to one, or taken off
+-- what a writer is asked: a reply to a message, with a code and a Date; our entry added to one, or taken off; the text of a part of one
 pub data Asked : Type 0 where
   reply : (s : List ℕ) → (code : ℕ) → (date : List ℕ) → Asked
   add : (s host destination organization : List ℕ) → Asked
   remove : (s host destination organization : List ℕ) → Asked
+  text : (s : List ℕ) → Asked
 
 -- the contract of that writer allows that it refuses so, and leaves o′ of the output o
 abbrev pub Refuses : Asked → Refusal → List ℕ → List ℕ → Type 0
 Refuses (reply s code date) f o o′ = Writes o (replying s code date) (Refused f) o′
 Refuses (add s h d g) f o o′ = Writes o (adding s h d g) (Refused f) o′
 Refuses (remove s h d g) f o o′ = Took o (hostIn (reading ample s)) (removing s h d g) (removals.Refused f) o′
+Refuses (text s) f o o′ = Writes o (texting s) (Refused f) o′
 
 -- 39 and 33, which go by the result's length
 too-much : (o w : List ℕ) (f : Refusal) (a b : Bool) → ltb 32768 (length w) ≡ a → ltb (length o) (length w) ≡ b
@@ -55,3 +58,4 @@ refused-leaves (reply s code date) f o o′ w = w .output ∙ stays o (replying 
 refused-leaves (add s h d g) f o o′ w = w .output ∙ stays o (adding s h d g) f (w .answer)
 refused-leaves (remove s h d g) f o o′ w =
     w .output ∙ stays o (removing s h d g) f (refused-of (hostIn (reading ample s)) (answered (length o) (removing s h d g)) f (w .answer))
+refused-leaves (text s) f o o′ w = w .output ∙ stays o (texting s) f (w .answer)

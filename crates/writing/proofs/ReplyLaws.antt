@@ -2,6 +2,8 @@
 -- accepted request end by themselves and are good UTF-8 (`copied`). Assumes nothing.
 use Rattle.octets.proofs.TestLaws.{and-parts}
 use Prim.Native.Nat.{ℕ, _≤_, _<_}
+use Rattle.escapes.specs.Rfc7159 as strings
+use Rattle.escapes.specs.Rfc7159.{isBroken, letterOf, lettersFrom, lone, text, took}
 use Rattle.frame.proofs.Forwarding.{value-apart, value-followed, value-piece}
 use Rattle.frame.proofs.MessageShape.{Fronts, Around, AroundFine, message, head, upTo, beyond, tail, message-accepted, message-start, message-elements, message-members}
 use Rattle.frame.proofs.MessageShape.{value-there, message-split}
@@ -14,12 +16,12 @@ use Rattle.json.specs.Places.{bytes, behind, past, raw, valueOf, members, eleme
 use Rattle.json.specs.declared.Walked.the-variants.{End}
 use Rattle.fields.specs.Field.{addressRule, keeps}
 use Rattle.message.specs.Shape.{tagOf, objectOf}
-use Rattle.fields.specs.Value.{isString, freely, ruled}
+use Rattle.fields.specs.Value.{isString, ruled, wordSpelled}
 use Rattle.fields.specs.declared.judging.Setting.{Setting}
 use Rattle.octets.specs.Ascii.{ascii}
 use Rattle.octets.specs.Text.{same}
 use Rattle.rules.specs.Names.{tags}
-use Rattle.rules.specs.Pieces.{wordNumberFrom, wordNumber}
+use Rattle.rules.specs.Pieces.{wordNumberFrom}
 use Rattle.utf8.specs.Rfc3629.{verdict}
 use Rattle.utf8.specs.declared.Verdict.the-variants.{Good}
 use Rattle.message.proofs.AcceptedRows.{Accepted, good-sound, is-kept}
@@ -149,8 +151,8 @@ module _ (status cseq to from call date via : List ℕ) (p₀ : plainly status �
   unfolding message items item plainly
   tag-name = name-is text₀ (ascii "response") _ 1 (plain-name (ascii "response") refl .listed) refl
 
-  tag-two : wordNumber tags (raw text₀ 1) ≡ 2
-  unfolding wordNumberFrom same
+  tag-two : wordSpelled tags (raw text₀ 1) ≡ 2
+  unfolding wordSpelled isBroken lone text strings.spelt lettersFrom letterOf took wordNumberFrom same
   tag-two = rw tag-name
 
   shape-two : (tagOf text₀ ≡ 2) × (objectOf text₀ ≡ 12)
@@ -222,7 +224,7 @@ text-field k n v (inr (inr (inl e))) = rw e
 text-field k n v (inr (inr (inr e))) = rw e
 
 ruled-string : (rule : List ℕ → Bool) (v : List ℕ) → ruled rule v ≡ true → getD v 0 0 ≡ 34
-unfolding ruled freely isString
+unfolding ruled isString
 ruled-string rule v e = eqb-true (getD v 0 0) 34 (and-parts (eqb (getD v 0 0) 34) _ e .0)
 
 -- what is known of a value that a reply copies

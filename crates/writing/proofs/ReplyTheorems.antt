@@ -2,6 +2,8 @@
 -- in its order, with the Date given and CSeq, To, From, Call-ID and Via byte for byte the request's. And where nothing is refused, the reply to a
 -- forwarded request, less our entry, is the reply to the original. Over the public contracts of `reply`, `add` and `remove`. Assumes nothing.
 use Prim.Native.Nat.{ℕ, zero, suc, _≤_, _<_}
+use Rattle.escapes.specs.Rfc7159 as strings
+use Rattle.escapes.specs.Rfc7159.{isBroken, letterOf, lettersFrom, lone, spelt, took}
 use Rattle.frame.proofs.Forwarding.{copied-elements, copied-undone}
 use Rattle.frame.proofs.Standing.{Piece}
 use Rattle.frame.proofs.Written.{inQuotes}
@@ -15,7 +17,7 @@ use Rattle.message.specs.Message.{methodOf, numberOf, fromCaller, toCaller, cod
 use Rattle.fields.specs.Spans.{textAt}
 use Rattle.message.specs.Reading.{ample, reading}
 use Rattle.message.specs.Shape.{objectOf}
-use Rattle.fields.specs.Value.{isString, textOf, freely, ruled}
+use Rattle.fields.specs.Value.{isString, textOf, freely, ruled, wordSpelled}
 use Rattle.message.specs.declared.facts.Message.{Message}
 use Rattle.message.specs.declared.reading.Reading.the-variants.{Read}
 use Rattle.octets.specs.Ascii.{ascii}
@@ -164,7 +166,7 @@ module _ {s t : List ℕ} (a : Accepted s 1 t) (code : ℕ) (date : List ℕ) (o
   seven₀ = readAll (status₇ (statusText code) v₁ v₂ v₃ v₅ date v₆ ∷ rest₇ (statusText code) v₁ v₂ v₃ v₅ date v₆)
 
   once₀ : doubled fields seven₀ ≡ false
-  unfolding doubled found wordNumberFrom same
+  unfolding doubled found wordSpelled isBroken lone strings.text spelt lettersFrom letterOf took wordNumberFrom same
   once₀ = refl
 
   once : doubled fields (membersOf text) ≡ false
@@ -179,39 +181,39 @@ module _ {s t : List ℕ} (a : Accepted s 1 t) (code : ℕ) (date : List ℕ) (o
       (r .0, r .1 ∙ ap (valueIn fields n) (shown .read))
 
   found₀ : (n : ℕ) → 1 ≤ n → n ≤ 7 → found fields n seven₀ ≡ true
-  unfolding found wordNumberFrom same
+  unfolding found wordSpelled isBroken lone strings.text spelt lettersFrom letterOf took wordNumberFrom same
   found₀ = by-seven (λ n. found fields n seven₀ ≡ true) refl refl refl refl refl refl refl
 
   value₁ : bytes text (getD places 1 0) ≡ v₁
-  unfolding valueIn wordNumberFrom same
+  unfolding valueIn wordSpelled isBroken lone strings.text spelt lettersFrom letterOf took wordNumberFrom same
   value₁ = value-at 1 (omega arith) (found₀ 1 (omega arith) (omega arith)) .1
 
   value₂ : bytes text (getD places 2 0) ≡ v₂
-  unfolding valueIn wordNumberFrom same
+  unfolding valueIn wordSpelled isBroken lone strings.text spelt lettersFrom letterOf took wordNumberFrom same
   value₂ = value-at 2 (omega arith) (found₀ 2 (omega arith) (omega arith)) .1
 
   value₃ : bytes text (getD places 3 0) ≡ v₃
-  unfolding valueIn wordNumberFrom same
+  unfolding valueIn wordSpelled isBroken lone strings.text spelt lettersFrom letterOf took wordNumberFrom same
   value₃ = value-at 3 (omega arith) (found₀ 3 (omega arith) (omega arith)) .1
 
   value₄ : bytes text (getD places 4 0) ≡ inQuotes date
-  unfolding valueIn wordNumberFrom same
+  unfolding valueIn wordSpelled isBroken lone strings.text spelt lettersFrom letterOf took wordNumberFrom same
   value₄ = value-at 4 (omega arith) (found₀ 4 (omega arith) (omega arith)) .1
 
   value₅ : bytes text (getD places 5 0) ≡ v₅
-  unfolding valueIn wordNumberFrom same
+  unfolding valueIn wordSpelled isBroken lone strings.text spelt lettersFrom letterOf took wordNumberFrom same
   value₅ = value-at 5 (omega arith) (found₀ 5 (omega arith) (omega arith)) .1
 
   value₆ : bytes text (getD places 6 0) ≡ v₆
-  unfolding valueIn wordNumberFrom same
+  unfolding valueIn wordSpelled isBroken lone strings.text spelt lettersFrom letterOf took wordNumberFrom same
   value₆ = value-at 6 (omega arith) (found₀ 6 (omega arith) (omega arith)) .1
 
   value₇ : bytes text (getD places 7 0) ≡ inQuotes (statusText code)
-  unfolding valueIn wordNumberFrom same
+  unfolding valueIn wordSpelled isBroken lone strings.text spelt lettersFrom letterOf took wordNumberFrom same
   value₇ = value-at 7 (omega arith) (found₀ 7 (omega arith) (omega arith)) .1
 
   status-text : textOf (inQuotes (statusText code)) ≡ statusText code
-  status-text = quoted-text (statusText code) (plain-plainly (statusText code) (status-plain code))
+  status-text = quoted-text (statusText code) (status-plain code)
 
   kept₇ : freely statusRule (inQuotes (statusText code)) ≡ true
   unfolding freely isString
@@ -307,7 +309,7 @@ module _ {s t : List ℕ} (a : Accepted s 1 t) (code : ℕ) (date : List ℕ) (o
 
     -- where Via stands in it
     nth₆ : Nth fields 6 6 seven₀
-    unfolding wordNumberFrom same
+    unfolding wordSpelled isBroken lone strings.text spelt lettersFrom letterOf took wordNumberFrom same
     nth₆ = refl
 
     via-stands : getD places 6 0 ≡ length (replyAhead (statusText code) v₁ v₂ v₃ v₅ date)
@@ -382,6 +384,19 @@ reply-read-back s code date {o} {n} {o′} w =
     let x = stood w in
     let e = was-replied s code date (x .w) (x .is) in
     (e .m, (e .read, subst (λ (z : List ℕ). ReadBack s (e .m) code date z) (sym (x .front)) (read-back-by s code date (x .w) e (x .short))))
+
+-- the texts of these values are the same; those of Via stand in its objects, which are the same bytes
+pub record SameTexts (s : List ℕ) (m : Message) (w : List ℕ) (r : Message) : Type 0 where
+  pub cseq : textAt w (r .cseq) ≡ textAt s (m .cseq)
+  pub to : textAt w (r .to) ≡ textAt s (m .to)
+  pub from : textAt w (r .from) ≡ textAt s (m .from)
+  pub call : textAt w (r .call) ≡ textAt s (m .call)
+  pub via : objects w (r .via) ≡ objects s (m .via)
+
+-- THEOREM: the five values are the request's after decoding too (02 §2)
+pub reply-same-texts : {s : List ℕ} {m : Message} {code : ℕ} {date w : List ℕ} (b : ReadBack s m code date w) → SameTexts s m w (b .message)
+unfolding textAt
+reply-same-texts b = let v = b .values in record { cseq = ap textOf (v .cseq); to = ap textOf (v .to); from = ap textOf (v .from); call = ap textOf (v .call); via = b .objects }
 
 -- The reply to a forwarded request, less our entry.
 one-read : (s : List ℕ) (a b : Message) → reading ample s ≡ Read a → reading ample s ≡ Read b → a ≡ b

@@ -2,7 +2,7 @@
 use Prim.Native.Nat.{ℕ, zero, suc}
 use Rattle.frame.proofs.MessageShape.{swapRead}
 use Rattle.message.proofs.PairLaws.{Read, found, valueIn, doubled, Nth}
-use Rattle.rules.specs.Pieces.{wordNumber}
+use Rattle.fields.specs.Value.{wordSpelled}
 use borrow.Author.Tests.{ne-eqb}
 use mathlib.Core.List.{List, [], _∷_}
 use mathlib.Core.Path.{_≡_, refl, sym, _∙_}
@@ -20,7 +20,7 @@ module _ (ns : List (List ℕ)) (v : List ℕ) where
   swap-doubled zero [] = refl
   swap-doubled (suc n) [] = refl
   swap-doubled zero (p ∷ ps) = refl
-  swap-doubled (suc n) (p ∷ ps) = rw (swap-found (wordNumber ns (p .0)) n ps, swap-doubled n ps)
+  swap-doubled (suc n) (p ∷ ps) = rw (swap-found (wordSpelled ns (p .0)) n ps, swap-doubled n ps)
 
   pub swap-nth : (k m n : ℕ) (ps : List Read) → Nth ns k m ps → Nth ns k m (swapRead n v ps)
   swap-nth k m n [] h = absurd h
@@ -32,5 +32,5 @@ module _ (ns : List (List ℕ)) (v : List ℕ) where
   pub swap-other : (k j n : ℕ) (ps : List Read) → Nth ns j n ps → (k ≡ j → ⊥) → valueIn ns k (swapRead n v ps) ≡ valueIn ns k ps
   unfolding valueIn
   swap-other k j n [] h ne = absurd h
-  swap-other k j zero (p ∷ ps) h ne = rw (ne-eqb (wordNumber ns (p .0)) k (λ e. ne (sym e ∙ h)))
+  swap-other k j zero (p ∷ ps) h ne = rw (ne-eqb (wordSpelled ns (p .0)) k (λ e. ne (sym e ∙ h)))
   swap-other k j (suc n) (p ∷ ps) h ne = rw (swap-other k j n ps h ne)

@@ -7,7 +7,7 @@ use Rattle.frame.specs.Edit.{stopsOf}
 use Rattle.json.proofs.Listing.{Item, startsAt, stopsAt, array-starts, array-stops}
 use Rattle.json.specs.Places.{part, bytes, behind, elements, lastOf, prevOf}
 use Rattle.fields.proofs.TrailLaws.{host-within}
-use Rattle.fields.proofs.TextLaws.{there-cut}
+use Rattle.fields.proofs.SpellingLaws.{there-cut}
 use Rattle.fields.specs.Hop.{hostOf}
 use Rattle.message.specs.Message.{settingOf, messageOf}
 use Rattle.fields.specs.Spans.{cut}

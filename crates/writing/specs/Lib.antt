@@ -3,3 +3,4 @@ pub mod Objects
 pub mod Reply
 pub mod Adding
 pub mod Removing
+pub mod Texting

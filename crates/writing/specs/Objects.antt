@@ -3,7 +3,7 @@
 use Prim.Native.Nat.{ℕ}
 use Rattle.json.specs.Places.{bytes, elements}
 use Rattle.fields.specs.Hop.{hostOf, destinationOf}
-use Rattle.octets.specs.Text.{same}
+use Rattle.escapes.specs.Rfc7159.{spells}
 use mathlib.Core.Bool.{Bool, false, _&&_, _||_}
 use mathlib.Core.List.{List, [], _∷_, map}
 
@@ -11,9 +11,9 @@ use mathlib.Core.List.{List, [], _∷_, map}
 abbrev pub objects : List ℕ → ℕ → List (List ℕ)
 objects s v = map (bytes s) (elements s v)
 
--- the object x has this host and this destination
+-- the object x has this host and this destination: its own are compared by their texts (02 §2)
 unfoldable pub isOurs : List ℕ → List ℕ → List ℕ → Bool
-isOurs host destination x = same (hostOf x) host && same (destinationOf x) destination
+isOurs host destination x = spells (hostOf x) host && spells (destinationOf x) destination
 
 -- f is true of one of these
 unfoldable pub some : (List ℕ → Bool) → List (List ℕ) → Bool

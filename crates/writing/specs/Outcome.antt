@@ -1,12 +1,11 @@
 -- What becomes of a writing (01 Writing): the number of a refusal, the last two refusals, which go by the result's length, the answer, and the
--- output after it. Cited by the contracts of the entries and of what they
--- write with. Assumes nothing.
+-- output after it. Cited by the contracts of the entries and of what they write with. Assumes nothing.
 use Prim.Native.Nat.{ℕ}
 use Rattle.message.specs.declared.facts.Message.{Message}
 use Rattle.message.specs.declared.reading.Reading.the-variants as readings
 use Rattle.message.specs.declared.reading.Reading.{Reading}
 use Rattle.octets.specs.Splice.{written}
-use Rattle.writing.specs.declared.answers.Refusal.the-variants.{Path, Kind, Code, Date, Loop, Full, Few, Foreign, Long, Room}
+use Rattle.writing.specs.declared.answers.Refusal.the-variants.{Path, Kind, Code, Date, Loop, Full, Few, Foreign, Long, Room, Broken}
 use Rattle.writing.specs.declared.answers.Refusal.{Refusal}
 use Rattle.writing.specs.declared.answers.Written.the-variants.{Done, Refused}
 use Rattle.writing.specs.declared.answers.Written.{Written}
@@ -16,7 +15,7 @@ use mathlib.Core.Bool.{_&&_, cond}
 use mathlib.Core.List.{List}
 use mathlib.Core.Path.{_≡_}
 
--- the paper's number of a refusal
+-- the paper's number of a refusal; 9 is a text's alone (02 §2)
 abbrev pub writingNumber : Refusal → ℕ
 writingNumber Path = 38
 writingNumber Kind = 30
@@ -28,6 +27,7 @@ writingNumber Few = 37
 writingNumber Foreign = 36
 writingNumber Long = 39
 writingNumber Room = 33
+writingNumber Broken = 9
 
 -- what the rules say before the result's length counts: a refusal, or the result
 pub data Outcome : Type 0 where

@@ -24,6 +24,8 @@ pub enum Refusal {
     Long,
     // 33: the output is shorter than the result.
     Room,
+    // 9: a lone surrogate is in the text.
+    Broken,
 }
 
 // How many bytes of the output are the result; or refused, and the output as it was.
@@ -38,7 +40,7 @@ pub enum Removed {
     Refused(Refusal),
 }
 
-// The number of a refusal in document 01.
+// The number of a refusal in document 01; 9 is a text's alone (02 §2).
 pub fn number(r: Refusal) -> u8
     ensures { λ n. ⌜ n ≡ writingNumber r ⌝ }
 {
@@ -53,5 +55,6 @@ pub fn number(r: Refusal) -> u8
         Refusal::Foreign => 36,
         Refusal::Long => 39,
         Refusal::Room => 33,
+        Refusal::Broken => 9,
     }
 }

@@ -1,13 +1,13 @@
 // The objects of Via: whether one is ours, and whether any is.
+use escapes::spells;
 use fields::hop_of;
-use fields::text_of;
+use fields::spelling_of;
 use json::element_at;
 use json::part;
 use json::skip;
 use json::value_part;
 use octets::and;
 use octets::byte;
-use octets::same;
 ghost use mathlib.Core.Path.{_≡_};
 ghost use Prim.Native.Nat.{_<_};
 ghost use lib.ListN.{length};
@@ -18,9 +18,9 @@ pub fn is_ours(x: &[u8], host: &[u8], destination: &[u8]) -> bool
     ensures { λ r. ⌜ r ≡ isOurs (now (host .entry)) (now (destination .entry)) (now (x .entry)) ⌝ }
 {
     let h = hop_of(x);
-    let its_host = text_of(value_part(x, h.host));
-    let its_destination = text_of(value_part(x, h.destination));
-    and(same(its_host, host), same(its_destination, destination))
+    let its_host = spelling_of(value_part(x, h.host));
+    let its_destination = spelling_of(value_part(x, h.destination));
+    and(spells(its_host, host), spells(its_destination, destination))
 }
 
 // Whether one of the objects of the Via that opens at v is ours.

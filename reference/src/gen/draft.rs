@@ -1,6 +1,7 @@
 //! Messages on their way out: composed right from a plan, then spoiled in one
 //! place or more, then written with or without white space.
 
+use super::escapes;
 use super::node::{Node, Spacing};
 use super::rng::Rng;
 use super::texts;
@@ -220,7 +221,7 @@ fn hop(rng: &mut Rng, path: &OwnPath) -> Node {
         Node::member("organization", Node::text(&path.organization)),
     ];
     if rng.one_in(12) {
-        let name = *rng.pick(&["x-sender", "Host", "port", "\\u0068ost", "CSeq", ""]);
+        let name = *rng.pick(&["x-sender", "Host", "port", "\\u0048ost", "CSeq", ""]);
         let value = rng
             .pick(&[Node::text("#K46"), Node::raw("1"), Node::Array(Vec::new())])
             .clone();
@@ -328,7 +329,7 @@ impl Draft {
             "cseq",
             "CSEQ",
             "",
-            "\\u0043Seq",
+            "\\u0063Seq",
             "Call_ID",
             "名",
             "Via ",
@@ -371,7 +372,8 @@ impl Draft {
             "\"\"",
             "\"reques\"",
             "\"pang\"",
-            "\"\\u0072equest\"",
+            "\"\\u0052equest\"",
+            "\"request\\ud800\"",
             "null",
             "1",
             "[\"request\"]",
@@ -420,7 +422,7 @@ impl Draft {
             self.set("Options", bad_value(rng, fields::OPTIONS, &Node::raw("[]")));
         }
         let may_have_memo = self.get("Refer-To").is_some() || self.get("Call-Mode").is_some();
-        if may_have_memo && rng.one_in(5) {
+        if may_have_memo && rng.one_in(4) {
             let memo = bad_value(rng, fields::REFER_MEMO, &Node::raw("\"\""));
             self.set("Refer-Memo", memo);
         }
@@ -499,7 +501,16 @@ pub fn body(rng: &mut Rng, content_type: ContentType) -> Node {
         TextImage | MessageImage => Node::text(texts::image(rng)),
         Presence => Node::text(rng.pick(&rules::PRESENCES)),
         Location => Node::Object(vec![Node::member("latitude", Node::raw("34.68952"))]),
-        Refer => Node::text(rng.pick(&["180 Ringing", "202 Accepted", "699 ", "100 \\n"])),
+        Refer => {
+            const STATUSES: &[&str] = &[
+                "180 Ringing",
+                "202 Accepted",
+                "699 ",
+                "100 \\n",
+                "180 \\ud800",
+            ];
+            Node::text(rng.pick(STATUSES))
+        }
     }
 }
 
@@ -558,7 +569,7 @@ fn bad_value(rng: &mut Rng, field: usize, old: &Node) -> Node {
         return any_value(rng);
     }
     if rng.one_in(10) {
-        return escape_a_letter(rng, old);
+        return escapes::broken(rng, old);
     }
     use fields::*;
     let text = match field {
@@ -577,10 +588,10 @@ fn bad_value(rng: &mut Rng, field: usize, old: &Node) -> Node {
         CONTENT_TYPE => texts::bad_content_type(rng),
         BODY => bad_body(rng, old),
         REFER_TO | REFERRED_BY => texts::bad_fire_id(rng),
-        REFER_MEMO => match rng.below(3) {
+        REFER_MEMO => match rng.below(5) {
             0 => texts::memo(rng, 129),
-            1 => b"a\\nb".to_vec(),
-            _ => texts::memo(rng, 128),
+            1 | 2 => rng.one_of(&["a\\nb", "\\rb", "a\\u000a", "a\\u000Db"]),
+            _ => escapes::memo(rng),
         },
         CALL_MODE => b"Emergency".to_vec(),
         CALL_TEST => {
@@ -614,7 +625,7 @@ fn bad_body(rng: &mut Rng, old: &Node) -> Vec<u8> {
     const BODIES: &[&str] = &[
         "Online",
         "online ",
-        "on\\u006cine",
+        "on\\u004cine",
         "https://x",
         "700 x",
         "099 x",
@@ -625,21 +636,6 @@ fn bad_body(rng: &mut Rng, old: &Node) -> Vec<u8> {
     let is_image = matches!(old, Node::Raw(bytes) if bytes.starts_with(b"\"https:"));
     let bodies = if is_image { texts::BAD_IMAGES } else { BODIES };
     rng.one_of(bodies)
-}
-
-/// One letter of a string written as an escape: raw bytes then differ.
-fn escape_a_letter(rng: &mut Rng, node: &Node) -> Node {
-    match node {
-        Node::Raw(bytes) if bytes.len() > 2 && bytes[0] == b'"' => {
-            let at = rng.between(1, bytes.len() - 2);
-            if !bytes[at].is_ascii_alphanumeric() || bytes.contains(&b'\\') {
-                return node.clone();
-            }
-            let escape = format!("\\u{:04x}", bytes[at]);
-            Node::Raw([&bytes[..at], escape.as_bytes(), &bytes[at + 1..]].concat())
-        }
-        _ => any_value(rng),
-    }
 }
 
 /// A Via that breaks its rule by its count or in one of its objects.

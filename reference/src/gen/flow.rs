@@ -4,6 +4,7 @@
 
 use super::damage;
 use super::draft::{self, Plan};
+use super::escapes;
 use super::rng::Rng;
 use super::texts;
 use crate::call::{self, highest, CALLING_LIMIT, ENDED_LIMIT, IDLE_LIMIT, RINGING_LIMIT};
@@ -154,7 +155,7 @@ impl Flow {
                 if rng.one_in(4) {
                     draft.spoil(rng);
                 }
-                Happening::Message(draft.render(rng))
+                Happening::Message(escapes::render(rng, draft))
             }
             _ => {
                 let plan = Plan::random(rng);
@@ -175,14 +176,14 @@ impl Flow {
             time
         };
         let time = self.later(rng, time);
-        (time, Happening::Tick(record.call_id.clone()))
+        (time, tick(rng, record))
     }
 
     /// An event of a call that has a record.
     fn go_on(&mut self, rng: &mut Rng, record: &Record, far: bool) -> (u64, Happening) {
         if rng.percent(14) {
             let time = self.limit_time(rng, record, far);
-            return (time, Happening::Tick(record.call_id.clone()));
+            return (time, tick(rng, record));
         }
         let step = if rng.percent(80) {
             fitting_step(rng, record.state)
@@ -253,6 +254,16 @@ impl Flow {
             }
         }
     }
+}
+
+/// A tick of this call. Its Call-ID is bytes as they are (02 §2), so that one
+/// spelled with escapes is none.
+fn tick(rng: &mut Rng, record: &Record) -> Happening {
+    let call_id = &record.call_id;
+    Happening::Tick(match rng.one_in(40) {
+        true => escapes::spell(rng, call_id),
+        false => call_id.clone(),
+    })
 }
 
 /// The calls that have not ended.
@@ -421,7 +432,7 @@ pub fn message(rng: &mut Rng, plan: &Plan) -> Vec<u8> {
     if rng.percent(13) {
         draft.spoil(rng);
     }
-    let mut bytes = draft.render(rng);
+    let mut bytes = escapes::render(rng, draft);
     match rng.below(100) {
         0..=2 => damage::scatter(rng, &mut bytes),
         3 => damage::put_sequence(rng, &mut bytes),

@@ -34,7 +34,7 @@ impl Log {
             0 => long_line(rng),
             1..=45 => odd_line(rng),
             46..=65 => [b"1000 ", &raw::text(rng)[..]].concat(),
-            66 => [b"1000 ", &ceilings::crowd(rng)[..]].concat(),
+            66 | 67 => [b"1000 ", &ceilings::crowd(rng)[..]].concat(),
             _ => {
                 let (time, happening) = self.flow.next(rng, &self.keep.image);
                 let time = written_time(rng, time);

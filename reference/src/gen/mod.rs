@@ -4,6 +4,7 @@
 mod ceilings;
 mod damage;
 mod draft;
+mod escapes;
 mod flow;
 mod image;
 mod log;
@@ -89,6 +90,7 @@ mod tests {
     use crate::keep::Keep;
     use crate::lines::tests::written;
     use crate::lines::{Answerer, Lines};
+    use crate::message::{self, Message, CEILING};
     use crate::probe::Probe;
     use crate::rules::Method;
     use crate::table;
@@ -199,19 +201,74 @@ mod tests {
         }
     }
 
+    /// The answers to those lines of an input that are meant.
+    fn answers_to(input: &[u8], answers: &str, meant: impl Fn(&[u8]) -> bool) -> String {
+        let lines = input.split(|byte| *byte == b'\n').zip(answers.lines());
+        let asked = lines.filter(|(line, _)| meant(line));
+        let answers: Vec<&str> = asked.map(|(_, answer)| answer).collect();
+        answers.join("\n")
+    }
+
     /// Where there is no text, a reading is answered as an event is, and
-    /// `count` cannot tell them apart.
+    /// `count` cannot tell them apart; nor can it tell who wrote.
     #[test]
-    fn readings_and_events_reach_every_row_without_a_text() {
+    fn commands_reach_every_answer_that_others_give_too() {
         let script = probe_script(1, 15_000);
         let answers = written(Probe::new(), &script);
-        for command in ["read ", "msg "] {
-            let lines = script.split(|byte| *byte == b'\n').zip(answers.lines());
-            let asked = lines.filter(|(line, _)| line.starts_with(command.as_bytes()));
-            let answers: Vec<&str> = asked.map(|(_, answer)| answer).collect();
-            let wanted = ["no 2 ", "no 3 ", "no 4 ", "no 5 ", "no 11 "];
-            reaches(&answers.join("\n"), &wanted.map(|start| (start, 2)));
+        let no_text = ["no 2 ", "no 3 ", "no 4 ", "no 5 ", "no 11 "];
+        for (command, wanted) in [
+            ("read ", &no_text.map(|start| (start, 2))[..]),
+            ("msg ", &no_text.map(|start| (start, 2))),
+            (
+                "text ",
+                &[
+                    ("ok ", 300),
+                    ("ok 32768 ", 2),
+                    ("no 9 ", 50),
+                    ("no 33 ", 50),
+                    ("no 39 ", 2),
+                ],
+            ),
+        ] {
+            let given = answers_to(&script, &answers, |line| {
+                line.starts_with(command.as_bytes())
+            });
+            reaches(&given, wanted);
         }
+    }
+
+    /// The Call-ID of a message that can be read, as it stands there.
+    fn spelled_call_id(message: &[u8]) -> Option<Vec<u8>> {
+        match message::read(message, CEILING).answer {
+            Ok(Message::Request(exchange) | Message::Response(exchange, _)) => {
+                Some(exchange.values.call_id.to_vec())
+            }
+            _ => None,
+        }
+    }
+
+    #[test]
+    fn calls_are_opened_and_found_through_escapes() {
+        let script = probe_script(1, 15_000);
+        let answers = written(Probe::new(), &script);
+        let escaped = answers_to(&script, &answers, |line| {
+            let message = line.rsplit(|byte| *byte == b' ').next();
+            let call_id = message.and_then(hex::decode);
+            let call_id = call_id.and_then(|message| spelled_call_id(&message));
+            line.starts_with(b"msg ") && call_id.is_some_and(|id| id.contains(&b'\\'))
+        });
+        reaches(
+            &escaped,
+            &[
+                ("ok pass 1", 50),
+                ("ok pass 3", 10),
+                ("ok pass 4", 20),
+                ("ok pass 5", 20),
+                ("ok repeat", 5),
+                ("no 21 ", 5),
+                ("no 24 ", 10),
+            ],
+        );
     }
 
     #[test]

@@ -290,7 +290,7 @@ fn memo(rng: &mut Rng) -> Vec<u8> {
 }
 
 /// A memo of about 128 code points of any mix, bad UTF-8 among them, at times
-/// with a backslash.
+/// with a backslash, a line break or what is none.
 fn near_memo(rng: &mut Rng) -> Vec<u8> {
     const UNITS: &[&[u8]] = &[
         b"a",
@@ -307,9 +307,9 @@ fn near_memo(rng: &mut Rng) -> Vec<u8> {
     let count = rng.between(126, 130);
     let few = [*rng.pick(UNITS), *rng.pick(UNITS)];
     let mut text: Vec<u8> = (0..count).flat_map(|_| *rng.pick(&few)).copied().collect();
-    if rng.one_in(6) {
+    if rng.one_in(4) {
         let at = rng.below(text.len() + 1);
-        text.insert(at, b'\\');
+        text.insert(at, *rng.pick(b"\\\n\r\t\x0b"));
     }
     if rng.one_in(6) {
         text.splice(0..0, vec![0x80; 3]);
@@ -457,6 +457,11 @@ fn odd_line(rng: &mut Rng) -> Vec<u8> {
         "6b31",
         " 6b31",
         "memo ",
+        "memo 5c",
+        "memo 5c6e",
+        "memo 0a",
+        "memo 610d",
+        "memo c285",
         "cseq ",
         "phrase ",
         "phrase 0",

@@ -3,6 +3,7 @@
 use super::ceilings;
 use super::damage;
 use super::draft::{self, Plan};
+use super::escapes;
 use super::flow::{self, Flow, Happening};
 use super::image;
 use super::raw;
@@ -64,7 +65,8 @@ impl Script {
             45..=84 => odd_line(rng),
             85..=85 => long_line(rng),
             86..=115 => self.ceiling_line(),
-            116..=319 => read_line(rng),
+            116..=279 => read_line(rng),
+            280..=319 => text_line(rng),
             320..=439 => reply_line(rng),
             440..=529 => add_line(rng),
             530..=619 => remove_line(rng),
@@ -269,6 +271,30 @@ fn odd_line(rng: &mut Rng) -> Vec<u8> {
         "remove 61 61 6161 99999999999999999999 -",
         "remove 6 61 6161 0 -",
         "add 61  6161 0 -",
+        "text",
+        "text -",
+        "text 0 -",
+        "text 1 -",
+        "text 0 5c",
+        "text 1 5c6e",
+        "text 01 5c6e",
+        "text 5c6e 1",
+        "text 2 5c2f ",
+        "text 2  5c2f",
+        "text  2 5c2f",
+        "text 2 ",
+        "text  5c2f",
+        "text 1 5C2F",
+        "text 1 5c2",
+        "text -1 5c2f",
+        "text - 5c2f",
+        "text 40000 5c2f",
+        "text 40001 5c2f",
+        "text 1 5c2f 1",
+        "text 0 5c7564383030",
+        "text 3 5c7564383030",
+        "Text 1 5c2f",
+        "texts 1 5c2f",
         "help",
     ];
     rng.one_of(ODD)
@@ -277,7 +303,7 @@ fn odd_line(rng: &mut Rng) -> Vec<u8> {
 /// Lines at and over each limit of size.
 fn long_line(rng: &mut Rng) -> Vec<u8> {
     let over = rng.below(2);
-    match rng.below(9) {
+    match rng.below(11) {
         0 => read(vec![b'['; MAX_BYTES + over]),
         1 => read(vec![b' '; MAX_LENGTH + over]),
         2 => words("msg", &[&1usize, &Hex(vec![b' '; MAX_BYTES + over])]),
@@ -298,6 +324,8 @@ fn long_line(rng: &mut Rng) -> Vec<u8> {
             ],
         ),
         7 => read(ceilings::crowd(rng)),
+        8 => text(vec![b'\\'; MAX_BYTES + over], MAX_ROOM),
+        9 => text(b"\\u0041".repeat(MAX_BYTES / 6), MAX_ROOM + over),
         _ => {
             let plan = Plan::random(rng);
             let mut bytes = flow::message(rng, &plan);
@@ -329,14 +357,14 @@ pub fn message(rng: &mut Rng) -> Vec<u8> {
             plan.response = None;
             let mut draft = plan.compose(rng);
             draft.break_a_field(rng);
-            draft.render(rng)
+            escapes::render(rng, draft)
         }
         1 => {
             let mut draft = draft::ping_or_pong(rng);
             if rng.one_in(2) {
                 draft.spoil(rng);
             }
-            draft.render(rng)
+            escapes::render(rng, draft)
         }
         2 => {
             let plan = Plan::random(rng);
@@ -348,7 +376,7 @@ pub fn message(rng: &mut Rng) -> Vec<u8> {
             if rng.one_in(3) {
                 draft.spoil(rng);
             }
-            let mut bytes = draft.render(rng);
+            let mut bytes = escapes::render(rng, draft);
             if rng.one_in(12) {
                 damage::scatter(rng, &mut bytes);
             }
@@ -415,6 +443,22 @@ fn reply_line(rng: &mut Rng) -> Vec<u8> {
     )
 }
 
+/// Bytes to decode, with a room around their text.
+fn text_line(rng: &mut Rng) -> Vec<u8> {
+    let mut spelled = escapes::spelled(rng);
+    if rng.one_in(30) {
+        spelled = escapes::lengthened(rng, &spelled);
+    }
+    let length = writing::text(&spelled, &mut ample()).ok();
+    let room = room_for(rng, length);
+    text(spelled, room)
+}
+
+/// The line that decodes these bytes.
+fn text(spelled: Vec<u8>, room: usize) -> Vec<u8> {
+    words("text", &[&room, &Hex(spelled)])
+}
+
 /// A message for a writer: mostly right.
 fn writers_message(rng: &mut Rng, plan: &Plan) -> Vec<u8> {
     if rng.percent(15) {
@@ -424,7 +468,7 @@ fn writers_message(rng: &mut Rng, plan: &Plan) -> Vec<u8> {
     if rng.one_in(6) {
         draft.add_ignored(rng);
     }
-    draft.render(rng)
+    escapes::render(rng, draft)
 }
 
 /// Puts white space into the Via until the result is just as long as may be,

@@ -1,5 +1,7 @@
 //! Texts that keep or break the rules of 01 Reading, at and around each mark.
-//! The rules themselves are tested by the lists of them.
+//! The rules themselves are tested by the lists of them. They stand in messages
+//! as they are here: an escape breaks a rule by the backslash where a text is
+//! not decoded, and by the letter it stands for where it is.
 
 use super::rng::Rng;
 
@@ -54,7 +56,7 @@ pub const BAD_FIRE_IDS: &[&str] = &[
     "kit\u{e9}",
     "k234567890123456",
     "k2345678901234567890",
-    "ki\\u0074a",
+    "ki\\u0054a",
     "kita\\n",
     "北",
 ];
@@ -87,7 +89,7 @@ pub fn bad_call_id(rng: &mut Rng) -> Vec<u8> {
         7 => vec![b'A'; 65],
         8 => vec![b'9'; 66],
         9 => "A\u{e9}1".into(),
-        10 => b"A\\u00311".to_vec(),
+        10 => b"A\\u005f1".to_vec(),
         11 => b"A1-".to_vec(),
         12 => b"A@1".to_vec(),
         _ => [vec![b'A'; 63], b".".to_vec()].concat(),
@@ -124,7 +126,7 @@ pub const BAD_ADDRESSES: &[&str] = &[
     "net119:fire@k234567890123456.callee",
     "NET119:u1@kita.caller",
     "net118:u1@kita.caller",
-    "net119:u1\\u0040kita.caller",
+    "net119:u1\\u003akita.caller",
     "net119:u1@kita.caller.callee",
     "u1@kita.caller",
 ];
@@ -147,7 +149,7 @@ pub fn bad_cseqs(method: &str) -> [String; 20] {
         format!("1{method}"),
         format!("-1 {method}"),
         format!("+1 {method}"),
-        format!("1\\u0020{method}"),
+        format!("1\\u0009{method}"),
         format!("1.0 {method}"),
         format!("1 {}", method.to_lowercase()),
         format!("1 {method}S"),
@@ -263,7 +265,7 @@ pub fn bad_host(rng: &mut Rng) -> Vec<u8> {
         3 => b"h 1".to_vec(),
         4 => b"h:61614".to_vec(),
         5 => "h\u{e9}".into(),
-        6 => b"h\\u0031".to_vec(),
+        6 => b"h\\u005F".to_vec(),
         _ => b"h/1".to_vec(),
     }
 }
@@ -307,7 +309,7 @@ pub const BAD_ORGANIZATIONS: &[&str] = &[
     "n x",
     "01234567890",
     "--",
-    "n\\u0078",
+    "n\\u002d",
     "n\u{e9}",
 ];
 
@@ -334,6 +336,7 @@ fn phrase(rng: &mut Rng) -> Vec<u8> {
         "Request Terminated",
         "a\\n\\\"b\\\\",
         "\\ud83d\\ude00",
+        "\\ude00\\ud83d",
         "呼出中",
         " two",
     ];
@@ -350,12 +353,14 @@ pub const BAD_STATUSES: &[&str] = &[
     "200OK",
     "20 OK",
     "2000 OK",
-    "2\\u00300 OK",
+    "2\\u004f0 OK",
     " 200 OK",
     "200\\tOK",
     "2OO OK",
     "-20 OK",
     "available",
+    "available\\udc00",
+    "un\\ud800available",
 ];
 
 pub fn bad_status(rng: &mut Rng) -> Vec<u8> {
@@ -381,7 +386,7 @@ pub const BAD_MESSAGE_IDS: &[&str] = &[
     "caller-_a-1",
     "caller-kita-1-2",
     "caller-kita-1.2",
-    "callee-kita-\\u0031",
+    "callee-kita-\\u002d",
     "callerkita-1",
     "callee-k234567890123456-1",
 ];
@@ -398,7 +403,9 @@ pub const BAD_CONTENT_TYPES: &[&str] = &[
     "text/html",
     "text/plain ",
     "Text/plain",
-    "text\\/plain",
+    "text\\\\/plain",
+    "text\\u003aplain",
+    "text\\/plain\\u0000",
     "message/plain",
     "text/vnd.net119.presence",
     "message/vnd.net119.",
@@ -410,7 +417,7 @@ pub const BAD_CONTENT_TYPES: &[&str] = &[
     " message/vnd.net119.uri.image",
     "Message/vnd.net119.uri.image",
     "message/vnd.net119.URI.image",
-    "message\\/vnd.net119.uri.image",
+    "message\\/vnd.net119.uri.image\\udc00",
     "application/vnd.net119.uri.image",
     "vnd.net119.uri.image",
 ];
@@ -425,6 +432,7 @@ pub const IMAGES: &[&str] = &[
     "https:///",
     "https://x.jp/1.jpg",
     "https://\\u0041",
+    "https://\\ud800x",
     "https://a\\n",
 ];
 
@@ -444,9 +452,11 @@ pub const BAD_IMAGES: &[&str] = &[
     "Https://x",
     " https://",
     "https ://x",
-    "https:\\/\\/",
-    "https:/\\/x",
-    "\\u0068ttps://x",
+    "https:\\\\//",
+    "https:/\\u005c/x",
+    "\\u0048ttps://x",
+    "https:\\ud800//",
+    "https:/\\udfff",
     "x.jp/1.jpg",
 ];
 
@@ -454,7 +464,7 @@ pub fn bad_image(rng: &mut Rng) -> Vec<u8> {
     rng.one_of(BAD_IMAGES)
 }
 
-/// A memo of about 128 code points, one or three bytes each.
+/// A memo of so many code points, all the same.
 pub fn memo(rng: &mut Rng, count: usize) -> Vec<u8> {
     let unit = *rng.pick(&["a", "語", "é", "\u{1f600}"]);
     unit.repeat(count).into()

@@ -1,4 +1,4 @@
--- What functions of this crate ask of their callers: a value's own bytes (`own-bytes` of proofs/TextLaws.antt), a trail within bounds (`fits` of
+-- What functions of this crate ask of their callers: a value's own bytes (`own-bytes` of proofs/SpellingLaws.antt), a trail within bounds (`fits` of
 -- proofs/TrailLaws.antt). Assumes nothing.
 use Prim.Native.Nat.{ℕ, _≤_}
 use Rattle.fields.specs.declared.trails.Trail.{Trail}

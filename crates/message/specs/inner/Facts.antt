@@ -1,6 +1,6 @@
 -- What the code hands on while it reads: the facts of the fields that a request or a response must have, each told by its rule on the way through
 -- row 9; and where the parts of an address stand. `read`'s contract ties them to `reading`. Assumes nothing.
-use Prim.Native.Nat.{ℕ, _+_, _-_, _<_}
+use Prim.Native.Nat.{ℕ, _-_, _<_}
 use Rattle.fields.specs.Field.{keeps, faultAt}
 use Rattle.fields.specs.Trail.{trailIn}
 use Rattle.fields.specs.declared.judging.Judged.the-variants as judgeds
@@ -21,6 +21,7 @@ use Rattle.message.specs.declared.envelopes.Sent.{Sent}
 use Rattle.message.specs.declared.envelopes.Told.the-variants as tolds
 use Rattle.message.specs.declared.envelopes.Told.{Told}
 use Rattle.message.specs.declared.facts.Facts.{Facts}
+use Rattle.message.specs.declared.facts.Parties.{Parties}
 use Rattle.rules.specs.Address.{addressOf}
 use Rattle.rules.specs.declared.addresses.Address.the-variants as addresses
 use Rattle.rules.specs.declared.addresses.Address.{Address}
@@ -84,14 +85,16 @@ abbrev pub EnvelopeSays : List ℕ → ℕ → List ℕ → Envelope → Type 0
 EnvelopeSays s tag t (envelopes.Kept f) = (nineFrom s true (firstSetting tag) t 1 ≡ Good) × FactsOf s tag t f
 EnvelopeSays s tag t (envelopes.Broken p) = nineFrom s true (firstSetting tag) t 1 ≡ Fault 9 p
 
--- the parts of an address at v stand within the numbers of 64 bits
-abbrev pub Placed : ℕ → Address → Type 0
-Placed v (addresses.Caller user fire) = (7 < user) × ((user + 2 < fire) × (v + 1 + fire < 18446744073709551616))
-Placed v (addresses.Callee fire) = (13 < fire) × (v + 1 + fire < 18446744073709551616)
-Placed v addresses.Broken = Unit
+-- the parts of an address stand one behind the other
+abbrev pub Placed : Address → Type 0
+Placed (addresses.Caller user fire) = user < fire
+Placed (addresses.Callee fire) = Unit
+Placed addresses.Broken = Unit
 
--- where the texts of the two parties stand: the caller's address is a, at v, and the callee's b, at w
-pub record PartiesOf (v : ℕ) (a : Address) (w : ℕ) (b : Address) (user callerfire calleefire : Span) : Type 0 where
-  pub users : user ≡ userSpan v a
-  pub callers : callerfire ≡ callerSpan v a
-  pub callees : calleefire ≡ calleeSpan w b
+-- the two parties: the caller's address is a, spelled at v, and the callee's b, at w
+pub record PartiesOf (v : Span) (a : Address) (w : Span) (b : Address) (p : Parties) : Type 0 where
+  pub caller : p .calleraddress ≡ v
+  pub callee : p .calleeaddress ≡ w
+  pub users : p .user ≡ userSpan a
+  pub callers : p .callerfire ≡ callerSpan a
+  pub callees : p .calleefire ≡ calleeSpan b

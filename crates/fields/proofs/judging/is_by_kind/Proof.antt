@@ -1,4 +1,4 @@
--- `fields::judging::is_by_kind` meets its contract. Each exit puts in the tests that led there, and takes what its callee ensures. Assumes nothing.
+-- `fields::judging::is_by_kind` meets its contract. By its definition and what the callees ensure. Assumes nothing.
 use Rattle.fields.proofs.judging.is_by_kind.Statement.{statement}
 use Rattle.fields.proofs.judging.is_by_kind.Tie as tie
 use Rattle.fields.specs.inner.Chain.{byKind}
@@ -9,4 +9,4 @@ unfolding byKind
 returns c = cc
 
 pub is-by-kind-spec : {M : Type 1} → statement M
-is-by-kind-spec = tie.close (tie.spec (λ c κs. search needs) (λ c κs. search needs) (λ c κs. search needs) returns)
+is-by-kind-spec = tie.close (tie.spec (λ c κs. search needs) (λ c κs. search needs) (λ c κs. search needs) (λ c κs. search needs) (λ c κs. search needs) returns)

@@ -45,14 +45,31 @@ returns-5 c =
 returns-6 : tie.Need-returns-6
 unfolding kindRule oneOf
 returns-6 c =
-    let at-if2 = c .before .before .before .before in
+    let at-if3 = c .before .before .before .before in
+    let at-if2 = at-if3 .before in
     let at-if1 = at-if2 .before in
     rw (
       ne-eqb _ _ (at-if1 .if1 .left),
       ne-eqb _ _ (at-if2 .if2 .left),
-      ne-eqb _ _ (c .before .before .before .if3 .left),
-      ne-eqb _ _ (c .before .before .if4 .left),
-      ne-eqb _ _ (c .before .if5 .left),
+      ne-eqb _ _ (at-if3 .if3 .left),
+      ne-eqb _ _ (c .before .before .before .if4 .left),
+      ne-eqb _ _ (c .before .before .if5 .left),
+      eq-eqb _ _ (c .before .if6 .taken),
+    ) (c .is-object2 .ensures)
+
+returns-7 : tie.Need-returns-7
+unfolding kindRule oneOf
+returns-7 c =
+    let at-if3 = c .before .before .before .before in
+    let at-if2 = at-if3 .before in
+    let at-if1 = at-if2 .before in
+    rw (
+      ne-eqb _ _ (at-if1 .if1 .left),
+      ne-eqb _ _ (at-if2 .if2 .left),
+      ne-eqb _ _ (at-if3 .if3 .left),
+      ne-eqb _ _ (c .before .before .before .if4 .left),
+      ne-eqb _ _ (c .before .before .if5 .left),
+      ne-eqb _ _ (c .before .if6 .left),
     ) (c .is-strings .ensures)
 
 pub is-kind-spec : {M : Type 1} → statement M
@@ -70,4 +87,6 @@ is-kind-spec =
     (λ c κs. search needs)
     returns-5
     (λ c κs. search needs)
-    returns-6)
+    returns-6
+    (λ c κs. search needs)
+    returns-7)

@@ -14,81 +14,64 @@ returns c = rw (lt-ltb _ _ (c .before .if1 .taken)) (c .is-fire-id .ensures)
 
 returns-2 : tie.Need-returns-2
 unfolding laterRule oneOf
-returns-2 c = rw (le-ltb _ _ (c .before .before .if1 .left), eq-eqb _ _ (c .before .if2 .taken)) (c .is-memo .ensures)
+returns-2 c =
+    rw (
+      le-ltb _ _ (c .before .before .if1 .left),
+      eq-eqb _ _ (c .before .if2 .taken),
+    ) (c .is-call-id .ensures)
 
 returns-3 : tie.Need-returns-3
 unfolding laterRule oneOf
-returns-3 c = rw (le-ltb _ _ (c .before .before .before .if1 .left), ne-eqb _ _ (c .before .before .if2 .left), eq-eqb _ _ (c .before .if3 .taken)) (c .is-call-id .ensures)
+returns-3 c =
+    rw (
+      le-ltb _ _ (c .before .before .before .if1 .left),
+      ne-eqb _ _ (c .before .before .if2 .left),
+      eq-eqb _ _ (c .before .if3 .taken),
+    ) (ap (ltb 0) (c .call-mode .ensures))
 
 returns-4 : tie.Need-returns-4
 unfolding laterRule oneOf
-returns-4 c = rw (
-  le-ltb _ _ (c .before .before .before .before .if1 .left),
-  ne-eqb _ _ (c .before .before .before .if2 .left),
-  ne-eqb _ _ (c .before .before .if3 .left),
-  eq-eqb _ _ (c .before .if4 .taken),
-) (ap (ltb 0) (c .call-mode .ensures))
+returns-4 c =
+    rw (
+      le-ltb _ _ (c .before .before .before .before .if1 .left),
+      ne-eqb _ _ (c .before .before .before .if2 .left),
+      ne-eqb _ _ (c .before .before .if3 .left),
+      eq-eqb _ _ (c .before .if4 .taken),
+    ) (ap (ltb 0) (c .rescuee .ensures))
 
 returns-5 : tie.Need-returns-5
 unfolding laterRule oneOf
 returns-5 c =
-    let at-if2 = c .before .before .before .before in
-    let at-if1 = at-if2 .before in
     rw (
-      le-ltb _ _ (at-if1 .if1 .left),
-      ne-eqb _ _ (at-if2 .if2 .left),
+      le-ltb _ _ (c .before .before .before .before .before .if1 .left),
+      ne-eqb _ _ (c .before .before .before .before .if2 .left),
       ne-eqb _ _ (c .before .before .before .if3 .left),
       ne-eqb _ _ (c .before .before .if4 .left),
       eq-eqb _ _ (c .before .if5 .taken),
-    ) (ap (ltb 0) (c .rescuee .ensures))
+    ) (ap (ltb 0) (c .service .ensures))
 
 returns-6 : tie.Need-returns-6
 unfolding laterRule oneOf
 returns-6 c =
-    let at-if3 = c .before .before .before .before in
-    let at-if2 = at-if3 .before in
-    let at-if1 = at-if2 .before in
     rw (
-      le-ltb _ _ (at-if1 .if1 .left),
-      ne-eqb _ _ (at-if2 .if2 .left),
-      ne-eqb _ _ (at-if3 .if3 .left),
+      le-ltb _ _ (c .before .before .before .before .before .before .if1 .left),
+      ne-eqb _ _ (c .before .before .before .before .before .if2 .left),
+      ne-eqb _ _ (c .before .before .before .before .if3 .left),
       ne-eqb _ _ (c .before .before .before .if4 .left),
       ne-eqb _ _ (c .before .before .if5 .left),
       eq-eqb _ _ (c .before .if6 .taken),
-    ) (ap (ltb 0) (c .service .ensures))
+    ) (c .is-language .ensures)
 
 returns-7 : tie.Need-returns-7
 unfolding laterRule oneOf
 returns-7 c =
-    let at-if4 = c .before .before .before .before in
-    let at-if3 = at-if4 .before in
-    let at-if2 = at-if3 .before in
-    let at-if1 = at-if2 .before in
     rw (
-      le-ltb _ _ (at-if1 .if1 .left),
-      ne-eqb _ _ (at-if2 .if2 .left),
-      ne-eqb _ _ (at-if3 .if3 .left),
-      ne-eqb _ _ (at-if4 .if4 .left),
-      ne-eqb _ _ (c .before .before .before .if5 .left),
-      ne-eqb _ _ (c .before .before .if6 .left),
-      eq-eqb _ _ (c .before .if7 .taken),
-    ) (c .is-language .ensures)
-
-returns-8 : tie.Need-returns-8
-unfolding laterRule oneOf
-returns-8 c =
-    let at-if4 = c .before .before .before .before in
-    let at-if3 = at-if4 .before in
-    let at-if2 = at-if3 .before in
-    let at-if1 = at-if2 .before in
-    rw (
-      le-ltb _ _ (at-if1 .if1 .left),
-      ne-eqb _ _ (at-if2 .if2 .left),
-      ne-eqb _ _ (at-if3 .if3 .left),
-      ne-eqb _ _ (at-if4 .if4 .left),
-      ne-eqb _ _ (c .before .before .before .if5 .left),
-      ne-eqb _ _ (c .before .before .if6 .left),
-      ne-eqb _ _ (c .before .if7 .left),
+      le-ltb _ _ (c .before .before .before .before .before .before .if1 .left),
+      ne-eqb _ _ (c .before .before .before .before .before .if2 .left),
+      ne-eqb _ _ (c .before .before .before .before .if3 .left),
+      ne-eqb _ _ (c .before .before .before .if4 .left),
+      ne-eqb _ _ (c .before .before .if5 .left),
+      ne-eqb _ _ (c .before .if6 .left),
     ) (c .is-desk .ensures)
 
 pub is-later-text-spec : {M : Type 1} → statement M
@@ -108,6 +91,4 @@ is-later-text-spec =
     (λ c κs. search needs)
     returns-6
     (λ c κs. search needs)
-    returns-7
-    (λ c κs. search needs)
-    returns-8)
+    returns-7)

@@ -46,8 +46,8 @@ keeps-member-requires-3 c κs =
     let h = c .before .before .before .before .before .before .before in
     ends-known (h .before .before .before .before .args .v .now) _ (h .hop-members .ensures .0 .1) .ends 3
 
-text-span-requires : tie.Need-text-span-requires
-text-span-requires c κs =
+spelling-span-requires : tie.Need-spelling-span-requires
+spelling-span-requires c κs =
     let h = c .before .before .before .before .before .before .before .before .before .before in
     ends-known (h .before .before .before .before .args .v .now) _ (h .hop-members .ensures .0 .1) .ends 1
 
@@ -69,7 +69,7 @@ returns-3 c =
         at-keeps-member2 .keeps-member2 .ensures,
         at-keeps-member .keeps-member .ensures,
       ) (once-each (x .v .now) (x .o) b g (at-if2 .if2 .left)),
-      (λ e. c .text-span .ensures ∙ host-found (x .v .now) (x .o) b g (at-if2 .if2 .left), at-hop-members .hop-members .ensures .1),
+      (λ e. c .spelling-span .ensures ∙ host-found (x .v .now) (x .o) b g (at-if2 .if2 .left), at-hop-members .hop-members .ensures .1),
     )
 
 pub object-at-spec : {M : Type 1} → statement M
@@ -87,5 +87,5 @@ object-at-spec =
     keeps-member-requires-3
     (λ c κs. search needs)
     (λ c κs. search needs)
-    text-span-requires
+    spelling-span-requires
     returns-3)

@@ -6,23 +6,18 @@ use Rattle.table.proofs.LookupLaws.{found}
 use borrow.Author.Needs.{needs}
 use mathlib.Core.Path.{sym, _∙_}
 
-same-parties-requires : tie.Need-same-parties-requires
-same-parties-requires c κs =
-    let at-k = c .before .before .before .before .before in
-    let at-find = at-k .before .before in
-    found _ _ _ (sym (at-find .find .ensures) ∙ at-k .k .given .1) .inside
+agrees-at-requires : tie.Need-agrees-at-requires
+agrees-at-requires c κs =
+    let at-find-call = c .before .before .before .before in
+    (found _ _ _ (sym (at-find-call .find-call .ensures) ∙ c .before .before .k .given .1) .inside, at-find-call .before .before .before .before .pre .1)
 
 fields-at-requires : tie.Need-fields-at-requires
-fields-at-requires c κs =
-    let at-k = c .before .before .before .before .before .before .before in
-    let at-find = at-k .before .before in
-    found _ _ _ (sym (at-find .find .ensures) ∙ at-k .k .given .1) .inside
+fields-at-requires c κs = found _ _ _ (sym (c .before .before .before .before .before .before .find-call .ensures) ∙ c .before .before .before .before .k .given .1) .inside
 
 leave-requires : tie.Need-leave-requires
-leave-requires c κs =
-    let at-k = c .before .before .before .before .before .before .before .before .before .before .before .before in
-    let at-find = at-k .before .before in
-    found _ _ _ (sym (at-find .find .ensures) ∙ at-k .k .given .1) .inside
+leave-requires c κs = found _ _ _
+    (sym (c .before .before .before .before .before .before .before .before .before .before .before .find-call .ensures)
+    ∙ c .before .before .before .before .before .before .before .before .before .k .given .1) .inside
 
 returns : tie.Need-returns
 returns c =
@@ -30,52 +25,28 @@ returns c =
     let at-event-of = at-decide .before in
     let at-call-of = at-event-of .before in
     let at-fields-at = at-call-of .before in
-    let at-same-parties = at-fields-at .before .before in
-    let at-callee-fire = at-same-parties .before .before in
-    let at-caller-fire = at-callee-fire .before in
-    let at-user = at-caller-fire .before in
-    let at-k = at-user .before .before in
-    let at-find = at-k .before .before in
-    let at-call-id = at-find .before in
-    let start = at-call-id .before .before .before .before in
-    asked-found (start .args .t .now) (start .args .s .now) (start .args .m) (start .args .time) (start .pre .0) (start .pre .1) (at-call-id .call-id .ensures)
-    (sym (at-find .find .ensures) ∙ at-k .k .given .1) (at-user .user .ensures) (at-caller-fire .caller-fire .ensures) (at-callee-fire .callee-fire .ensures)
-    (at-same-parties .same-parties .ensures) (at-fields-at .fields-at .ensures) (at-call-of .call-of .ensures .0) (at-call-of .call-of .ensures .1)
-    (at-event-of .event-of .ensures) (at-decide .decide .ensures) (c .before .before .leave .ensures) (start .fits .time .fits)
+    let at-agrees-at = at-fields-at .before .before in
+    let at-k = at-agrees-at .before .before .before in
+    let at-find-call = at-k .before .before in
+    let start = at-find-call .before .before .before .before in
+    asked-found (start .args .t .now) (start .args .s .now) (start .args .m) (start .args .time) (start .pre .0) (start .pre .1)
+    (sym (at-find-call .find-call .ensures) ∙ at-k .k .given .1) (at-agrees-at .agrees-at .ensures) (at-fields-at .fields-at .ensures) (at-call-of .call-of .ensures .0)
+    (at-call-of .call-of .ensures .1) (at-event-of .event-of .ensures) (at-decide .decide .ensures) (c .before .before .leave .ensures) (start .fits .time .fits)
 
 returns-2 : tie.Need-returns-2
 returns-2 c =
     let at-decide2 = c .before .before .before .before in
     let at-event-of2 = at-decide2 .before in
     let at-enum-told = at-event-of2 .before in
-    let at-find = at-enum-told .before .before in
-    let at-call-id = at-find .before in
-    let start = at-call-id .before .before .before .before in
-    asked-new (start .args .t .now) (start .args .s .now) (start .args .m) (start .args .time) (start .pre .0) (start .pre .1) (at-call-id .call-id .ensures)
-    (sym (at-find .find .ensures) ∙ at-enum-told .enum-told .given .1) (at-event-of2 .event-of2 .ensures) (at-decide2 .decide2 .ensures) (c .before .before .take .ensures)
+    let at-find-call = at-enum-told .before .before in
+    let start = at-find-call .before .before .before .before in
+    asked-new (start .args .t .now) (start .args .s .now) (start .args .m) (start .args .time) (start .pre .0) (start .pre .1)
+    (sym (at-find-call .find-call .ensures) ∙ at-enum-told .enum-told .given .1) (at-event-of2 .event-of2 .ensures) (at-decide2 .decide2 .ensures)
+    (c .before .before .take .ensures)
     (start .fits .time .fits)
 
 pub ask-spec : {M : Type 1} → statement M
 ask-spec =
     tie.close
-    (tie.spec
-    (λ c κs. search needs)
-    (λ c κs. search needs)
-    (λ c. search needs)
-    (λ c κs. search needs)
-    (λ c κs. search needs)
-    (λ c κs. search needs)
-    same-parties-requires
-    fields-at-requires
-    (λ c κs. search needs)
-    (λ c κs. search needs)
-    (λ c κs. search needs)
-    leave-requires
-    (λ c. search needs)
-    (λ c κs. search needs)
-    (λ c κs. search needs)
-    (λ c κs. search needs)
-    (λ c. search needs)
-    returns
-    (λ c. search needs)
-    returns-2)
+    (tie.spec (λ c κs. search needs) (λ c. search needs) agrees-at-requires fields-at-requires (λ c κs. search needs) (λ c κs. search needs) (λ c κs. search needs) leave-requires
+    (λ c. search needs) (λ c κs. search needs) (λ c κs. search needs) (λ c κs. search needs) (λ c. search needs) returns (λ c. search needs) returns-2)

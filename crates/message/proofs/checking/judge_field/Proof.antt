@@ -1,7 +1,7 @@
 -- `message::checking::judge_field` meets its contract. One law of `CheckLaws` for each way out. Assumes nothing.
 use Rattle.fields.specs.inner.Asked.{Own}
 use Prim.Native.Nat.{ℕ}
-use Rattle.fields.proofs.TextLaws.{own-bytes}
+use Rattle.fields.proofs.SpellingLaws.{own-bytes}
 use Rattle.message.proofs.CheckLaws.{absent, present, unlisted}
 use Rattle.message.proofs.checking.judge_field.Statement.{statement}
 use Rattle.message.proofs.checking.judge_field.Tie as tie

@@ -4,18 +4,19 @@ use Rattle.message.proofs.disagreeing.is_callback_training.Statement.{s
 use Rattle.message.proofs.disagreeing.is_callback_training.Tie as tie
 use borrow.Author.Needs.{needs}
 
-text-at-requires : tie.Need-text-at-requires
-text-at-requires c κs = c .before .before .before .pre .ends 19
+spelling-at-requires : tie.Need-spelling-at-requires
+spelling-at-requires c κs = c .before .before .before .pre .ends 19
 
-text-at-requires-2 : tie.Need-text-at-requires-2
-text-at-requires-2 c κs = c .before .before .before .before .before .before .before .before .pre .ends 15
+spelling-at-requires-2 : tie.Need-spelling-at-requires-2
+spelling-at-requires-2 c κs = c .before .before .before .before .before .before .before .before .pre .ends 15
 
 returns : tie.Need-returns
 unfolding callbackTraining
 returns c =
-    let at-same = c .before .before .before .before .before .before in
-    let at-text-at = at-same .before .before in
-    rw (← (c .before .before .before .text-at2 .ensures), ← (at-text-at .text-at .ensures), ← (c .before .same2 .ensures), ← (at-same .same .ensures)) (c .and .ensures)
+    let at-spells = c .before .before .before .before .before .before in
+    let at-spelling-at = at-spells .before .before in
+    rw (← (c .before .before .before .spelling-at2 .ensures), ← (at-spelling-at .spelling-at .ensures), ← (c .before .spells2 .ensures), ← (at-spells .spells .ensures))
+    (c .and .ensures)
 
 pub is-callback-training-spec : {M : Type 1} → statement M
 is-callback-training-spec =
@@ -23,12 +24,12 @@ is-callback-training-spec =
     (tie.spec
     (λ c. search needs)
     (λ c. search needs)
-    text-at-requires
+    spelling-at-requires
     (λ c. search needs)
     (λ c κs. search needs)
     (λ c. search needs)
     (λ c. search needs)
-    text-at-requires-2
+    spelling-at-requires-2
     (λ c. search needs)
     (λ c κs. search needs)
     (λ c κs. search needs)

@@ -2,7 +2,7 @@
 use Rattle.fields.specs.inner.Asked.{Own}
 use Prim.Native.Nat.{ℕ}
 use Rattle.fields.proofs.JudgingLaws.{cseq-fault, cseq-tells, party-fault, party-tells}
-use Rattle.fields.proofs.TextLaws.{own-bytes}
+use Rattle.fields.proofs.SpellingLaws.{own-bytes}
 use Rattle.fields.specs.Field.{keeps}
 use Rattle.message.proofs.EnvelopeLaws.{method-told, number-told, party-told, passing, stopping}
 use Rattle.message.proofs.envelopes.judge_opening.Statement.{statement}

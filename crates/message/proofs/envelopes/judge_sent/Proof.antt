@@ -2,7 +2,7 @@
 use Rattle.fields.specs.inner.Asked.{Own}
 use Prim.Native.Nat.{ℕ}
 use Rattle.fields.proofs.JudgingLaws.{judged-fault, judged-tells, via-fault, via-tells}
-use Rattle.fields.proofs.TextLaws.{own-bytes}
+use Rattle.fields.proofs.SpellingLaws.{own-bytes}
 use Rattle.fields.specs.Field.{keeps}
 use Rattle.message.proofs.EnvelopeLaws.{passing, stopping, trail-told}
 use Rattle.message.proofs.envelopes.judge_sent.Statement.{statement}

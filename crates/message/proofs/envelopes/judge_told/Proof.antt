@@ -2,7 +2,7 @@
 use Rattle.fields.specs.inner.Asked.{Own}
 use Prim.Native.Nat.{ℕ}
 use Rattle.fields.proofs.JudgingLaws.{status-fault, status-tells}
-use Rattle.fields.proofs.TextLaws.{own-bytes}
+use Rattle.fields.proofs.SpellingLaws.{own-bytes}
 use Rattle.message.proofs.EnvelopeLaws.{code-told, no-code, status-broken, status-kept, untold}
 use Rattle.message.proofs.envelopes.judge_told.Statement.{statement}
 use Rattle.message.proofs.envelopes.judge_told.Tie as tie

@@ -2,7 +2,7 @@
 use Rattle.message.proofs.settings.content_at.Statement.{statement}
 use Rattle.message.proofs.settings.content_at.Tie as tie
 use Rattle.message.specs.Message.{contentAt}
-use Rattle.rules.specs.Pieces.{wordNumber}
+use Rattle.fields.specs.Value.{wordSpelled}
 use Rattle.rules.specs.Words.{contentTypes}
 use borrow.Author.Needs.{needs}
 use borrow.Author.Tests.{eq-eqb, ne-eqb}
@@ -14,7 +14,7 @@ returns c = rw (eq-eqb _ _ (c .if1 .taken))
 
 returns-2 : tie.Need-returns-2
 unfolding contentAt
-returns-2 c = rw (ne-eqb _ _ (c .before .before .if1 .left)) (c .content-type .ensures ∙ ap (wordNumber contentTypes) (c .before .text-at .ensures))
+returns-2 c = rw (ne-eqb _ _ (c .before .before .if1 .left)) (c .content-type .ensures ∙ ap (wordSpelled contentTypes) (c .before .spelling-at .ensures))
 
 pub content-at-spec : {M : Type 1} → statement M
 content-at-spec = tie.close (tie.spec returns (λ c κs. search needs) (λ c κs. search needs) returns-2)

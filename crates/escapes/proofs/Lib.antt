@@ -1,0 +1,15 @@
+pub mod EscapeLaws
+pub mod EncodingLaws
+pub mod StoreLaws
+pub mod LetterLaws
+pub mod PlainLaws
+pub mod LengthLaws
+pub mod DecodeLaws
+pub mod FindLaws
+pub mod SpellLaws
+pub mod PointLaws
+pub mod MeasureLaws
+pub mod HighLaws
+pub mod AsciiLaws
+pub mod Utf8Laws
+pub mod Samples

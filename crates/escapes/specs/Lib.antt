@@ -1,0 +1,4 @@
+pub mod Encoding
+pub mod Rfc7159
+pub mod Text
+pub mod inner
