@@ -1234,18 +1234,23 @@ mod tests {
         assert_eq!(of(notify), None);
     }
 
+    /// The seventh message of the sample's call, a BYE, between its two parties.
+    fn names_the_call(exchange: &Exchange) {
+        assert_eq!((exchange.number, exchange.method), (7, Method::Bye));
+        assert_eq!(exchange.user, b"u1");
+        assert_eq!(exchange.caller_fire, b"nishi");
+        assert_eq!(exchange.callee_fire, b"kita");
+        assert_eq!(exchange.call_id, b"A1.nx");
+    }
+
     #[test]
     fn what_is_read() {
         let bytes = Sample::request("7 BYE").sent_by_callee().bytes();
         let Ok(Message::Request(exchange)) = read(&bytes, CEILING).answer else {
             panic!("a request");
         };
-        assert_eq!((exchange.number, exchange.method), (7, Method::Bye));
         assert_eq!(exchange.from, Side::Callee);
-        assert_eq!(exchange.user, b"u1");
-        assert_eq!(exchange.caller_fire, b"nishi");
-        assert_eq!(exchange.callee_fire, b"kita");
-        assert_eq!(exchange.call_id, b"A1.nx");
+        names_the_call(&exchange);
         assert_eq!(exchange.values.cseq, b"\"7 BYE\"");
         assert_eq!(exchange.via.len(), 1);
         assert_eq!(exchange.via[0].host, b"h1.nx");
@@ -1265,12 +1270,8 @@ mod tests {
         let Ok(Message::Request(exchange)) = read(&bytes, CEILING).answer else {
             panic!("a request");
         };
-        assert_eq!((exchange.number, exchange.method), (7, Method::Bye));
         assert_eq!(exchange.from, Side::Caller);
-        assert_eq!(exchange.user, b"u1");
-        assert_eq!(exchange.caller_fire, b"nishi");
-        assert_eq!(exchange.callee_fire, b"kita");
-        assert_eq!(exchange.call_id, b"A1.nx");
+        names_the_call(&exchange);
         assert_eq!(exchange.values.cseq, br#""\u0037 BYE""#);
         assert_eq!(exchange.values.call_id, br#""A\u0031.nx""#);
         assert_eq!(exchange.values.via, hop.as_bytes());

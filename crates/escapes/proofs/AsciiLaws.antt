@@ -1,7 +1,8 @@
 -- The bytes of an escape are ASCII. Assumes nothing.
 use Prim.Native.Nat.{ℕ, zero, suc, _+_, _-_, _*_, _≤_, _<_}
-use Rattle.escapes.proofs.EscapeLaws.{escape-short, escape-unit, escape-none, joined-below, joined-above, joined-alone, joined-apart, joined-pair}
+use Rattle.escapes.proofs.EscapeLaws.{escape-by, joined-by}
 use Rattle.escapes.specs.Rfc7159.{none, nibble, quad, unit, short, joined, escapeOf, took}
+use Rattle.escapes.specs.declared.reading.Escape.{Escape}
 use Rattle.octets.proofs.ClassLaws.{among-in, digit-in}
 use Rattle.octets.proofs.TestLaws.{Either, and-parts, either}
 use Rattle.octets.specs.Class.{among, isDigit}
@@ -86,7 +87,7 @@ short-ascii b h = go (decLt b 0x80)
         absurd (omega arith)
 
 joined-ascii : (s : List ℕ) (u v : ℕ) → Low 6 s → v ≡ unit (drop 6 s) → Low (joined u v .took) s
-joined-ascii s u v l e = go (decLt u 0xD800) (decLt 0xDBFF u) (decLt v 0xDC00) (decLt 0xDFFF v)
+joined-ascii s u v l e = joined-by u v (λ (x : Escape). Low (x .took) s) l (λ a b f g. twelve g)
   where
     twelve : v ≤ 0xDFFF → Low 12 s
     twelve h j k = by (decLt j 6)
@@ -99,15 +100,8 @@ joined-ascii s u v l e = go (decLt u 0xD800) (decLt 0xDBFF u) (decLt v 0xDC00) (
             let y : getD (drop 6 s) (j - 6) 0 ≡ getD s j 0 = getD-drop 6 s (j - 6) 0 ∙ ap (λ (n : ℕ). getD s n 0) z in
             omega arith
 
-    go : Dec (u < 0xD800) → Dec (0xDBFF < u) → Dec (v < 0xDC00) → Dec (0xDFFF < v) → Low (joined u v .took) s
-    go (yes a) _ _ _ = rw (← joined-below u v a) l
-    go (no a) (yes b) _ _ = rw (← joined-above u v (omega arith) b) l
-    go (no a) (no b) (yes f) _ = rw (← joined-alone u v (omega arith) (omega arith) f) l
-    go (no a) (no b) (no f) (yes g) = rw (← joined-apart u v (omega arith) (omega arith) (omega arith) g) l
-    go (no a) (no b) (no f) (no g) = rw (← joined-pair u v (omega arith) (omega arith) (omega arith) (omega arith)) (twelve (omega arith))
-
 escape-ascii : (s : List ℕ) → getD s 0 0 ≡ 92 → Low (escapeOf s .took) s
-escape-ascii s e = go (decLt (short (getD s 1 0)) none) (decLt (unit s) none)
+escape-ascii s e = escape-by s (λ (x : Escape). Low (x .took) s) two (λ b. joined-ascii s (unit s) (unit (drop 6 s)) (unit-ascii s b) refl) one
   where
     two : short (getD s 1 0) < none → Low 2 s
     two h zero k = omega arith
@@ -117,11 +111,6 @@ escape-ascii s e = go (decLt (short (getD s 1 0)) none) (decLt (unit s) none)
     one : Low 1 s
     one zero k = omega arith
     one (suc j) k = absurd (omega arith)
-
-    go : Dec (short (getD s 1 0) < none) → Dec (unit s < none) → Low (escapeOf s .took) s
-    go (yes a) _ = rw (← escape-short s a) (two a)
-    go (no a) (yes b) = rw (← escape-unit s (omega arith) b) (joined-ascii s (unit s) (unit (drop 6 s)) (unit-ascii s b) refl)
-    go (no a) (no b) = rw (← escape-none s (omega arith) (omega arith)) one
 
 -- all bytes of the letter that begins with a backslash
 pub letter-ascii : (b : ℕ) (s : List ℕ) → eqb b 92 ≡ true → Low (took (b ∷ s)) (b ∷ s)

@@ -53,29 +53,21 @@ module _ (c : ℕ) where
   pub length-four : 0x10000 ≤ c → length (encoded c) ≡ 4
   length-four h = ap length (four h)
 
-  pub at-least-one : 1 ≤ length (encoded c)
-  at-least-one = go row
+  -- one to four octets, and below 10000 hex three at most
+  sizes : (1 ≤ length (encoded c)) × ((length (encoded c) ≤ 4) × (c < 0x10000 → length (encoded c) ≤ 3))
+  sizes = go row
     where
-      go : Row → 1 ≤ length (encoded c)
-      go (row-one h) = omega (arith, length-one h)
-      go (row-two h k) = omega (arith, length-two h k)
-      go (row-three h k) = omega (arith, length-three h k)
-      go (row-four h) = omega (arith, length-four h)
+      go : Row → (1 ≤ length (encoded c)) × ((length (encoded c) ≤ 4) × (c < 0x10000 → length (encoded c) ≤ 3))
+      go (row-one h) = rw (length-one h) (omega arith, (omega arith, λ l. omega arith))
+      go (row-two h k) = rw (length-two h k) (omega arith, (omega arith, λ l. omega arith))
+      go (row-three h k) = rw (length-three h k) (omega arith, (omega arith, λ l. omega arith))
+      go (row-four h) = rw (length-four h) (omega arith, (omega arith, λ l. absurd (omega arith)))
+
+  pub at-least-one : 1 ≤ length (encoded c)
+  at-least-one = sizes .0
 
   pub at-most-four : length (encoded c) ≤ 4
-  at-most-four = go row
-    where
-      go : Row → length (encoded c) ≤ 4
-      go (row-one h) = omega (arith, length-one h)
-      go (row-two h k) = omega (arith, length-two h k)
-      go (row-three h k) = omega (arith, length-three h k)
-      go (row-four h) = omega (arith, length-four h)
+  at-most-four = sizes .1 .0
 
   pub at-most-three : c < 0x10000 → length (encoded c) ≤ 3
-  at-most-three l = go row
-    where
-      go : Row → length (encoded c) ≤ 3
-      go (row-one h) = omega (arith, length-one h)
-      go (row-two h k) = omega (arith, length-two h k)
-      go (row-three h k) = omega (arith, length-three h k)
-      go (row-four h) = absurd (omega arith)
+  at-most-three = sizes .1 .1

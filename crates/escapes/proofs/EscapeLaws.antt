@@ -1,15 +1,17 @@
 -- One escape: a law for each way out of `src/reading.rt`, and what is so of every escape. Assumes nothing.
 use Prim.Native.Nat.{ℕ, _+_, _-_, _*_, _≤_, _<_}
 use Rattle.escapes.specs.Rfc7159.{none, nibble, quad, unit, short, isHigh, isLow, pair, esc, joined, escapeOf}
-use Rattle.octets.proofs.ClassLaws.{in-among, among-low, among-high}
-use Rattle.octets.proofs.TestLaws.{picked}
+use Rattle.escapes.specs.declared.reading.Escape.{Escape}
+use Rattle.octets.proofs.ClassLaws.{among-in, in-among, among-low, among-high}
+use Rattle.octets.proofs.TestLaws.{Either, and-parts, either, picked}
 use Rattle.octets.specs.Class.{isDigit, among}
-use borrow.Author.Tests.{lt-ltb, le-ltb, eq-eqb, ne-eqb}
+use borrow.Author.Tests.{lt-ltb, le-ltb, ltb-true, eq-eqb, ne-eqb}
 use lib.Dec.{eqb, ltb}
 use lib.ListN.{length, drop, getD, List·getD-eq-default, length-drop}
 use lib.Seq.{getD-drop, drop-drop}
 use mathlib.Core.Bool.{true, false, _&&_, and-false}
 use mathlib.Core.List.{List}
+use mathlib.Core.Logic.{inl, inr}
 use mathlib.Core.Path.{_≡_, refl, sym}
 use native.Mathlib.Decide.{decLt}
 use native.Mathlib.Omega.{arith}
@@ -78,6 +80,19 @@ module _ (u v : ℕ) where
   pub joined-pair : 0xD800 ≤ u → u ≤ 0xDBFF → 0xDC00 ≤ v → v ≤ 0xDFFF → esc (0x10000 + (u - 0xD800) * 1024 + (v - 0xDC00)) 12 ≡ joined u v
   unfolding joined isHigh isLow pair
   joined-pair h k l m = simp (in-among 0xD800 0xDBFF u h k, in-among 0xDC00 0xDFFF v l m)
+
+  -- what is so of a unit by itself, and of a pair, is so of a unit and the next
+  pub joined-by : (P : Escape → Type 0) → P (esc u 6) → (0xD800 ≤ u → u ≤ 0xDBFF → 0xDC00 ≤ v → v ≤ 0xDFFF → P (esc (pair u v) 12)) → P (joined u v)
+  unfolding joined isHigh isLow
+  joined-by P p q = go (either (isHigh u && isLow v))
+    where
+      go : Either (isHigh u && isLow v) → P (joined u v)
+      go (inl e) =
+          let b = and-parts (isHigh u) (isLow v) e in
+          let h = among-in 0xD800 0xDBFF u (b .0) in
+          let l = among-in 0xDC00 0xDFFF v (b .1) in
+          rw e (q (h .0) (h .1) (l .0) (l .1))
+      go (inr e) = rw e p
 
 -- A unit at a place.
 
@@ -150,6 +165,17 @@ module _ (s : List ℕ) where
   pub escape-none : none ≤ short (getD s 1 0) → none ≤ unit s → esc 92 1 ≡ escapeOf s
   unfolding escapeOf
   escape-none h k = simp (le-ltb (short (getD s 1 0)) none h, le-ltb (unit s) none k)
+
+  -- what is so of each kind of escape is so of the one at the front
+  pub escape-by : (P : Escape → Type 0) → (short (getD s 1 0) < none → P (esc (short (getD s 1 0)) 2)) → (unit s < none → P (joined (unit s) (unit (drop 6 s)))) →
+      P (esc 92 1) → P (escapeOf s)
+  unfolding escapeOf
+  escape-by P p q r = go (either (ltb (short (getD s 1 0)) none)) (either (ltb (unit s) none))
+    where
+      go : Either (ltb (short (getD s 1 0)) none) → Either (ltb (unit s) none) → P (escapeOf s)
+      go (inl e) _ = rw e (p (ltb-true _ none e))
+      go (inr e) (inl f) = rw (e, f) (q (ltb-true _ none f))
+      go (inr e) (inr f) = rw (e, f) r
 
 -- And at a place.
 

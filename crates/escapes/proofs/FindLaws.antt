@@ -6,14 +6,16 @@ use Rattle.escapes.specs.Rfc7159.{text}
 use Rattle.escapes.specs.Text.{escaped, over}
 use Rattle.escapes.specs.declared.finding.Found.the-variants.{Own, Decoded}
 use Rattle.escapes.specs.declared.finding.Found.{Found}
-use Rattle.escapes.specs.inner.Finding.{foundOf, bufferAfter, partOf, textWithin}
+use Rattle.escapes.specs.inner.Finding.{foundOf, bufferAfter, partOf}
 use Rattle.octets.proofs.TestLaws.{Either, either}
-use lib.ListN.{length, take}
-use lib.Seq.{take-all, take-nil}
+use Rattle.octets.specs.Splice.{written}
+use lib.ListN.{length, length-take, take}
+use lib.Seq.{take-nil}
 use mathlib.Core.Bool.{true, false}
 use mathlib.Core.List.{List, [], _∷_}
 use mathlib.Core.Logic.{inl, inr}
 use mathlib.Core.Path.{_≡_, refl, sym, ap, _∙_}
+use native.Mathlib.Omega.{arith}
 
 module _ (s o : List ℕ) where
   pub is-own : escaped s ≡ false → (Own ≡ foundOf s) × (o ≡ bufferAfter s o)
@@ -25,19 +27,19 @@ module _ (s o : List ℕ) where
   is-decoded e n o′ f = (rw e (ap Decoded (f .0)), rw e (f .1))
 
 take-over : (o w : List ℕ) → take (length w) (over o w) ≡ take (length o) w
-unfolding over
+unfolding over written
 take-over [] w = take-nil (length w)
 take-over (x ∷ o) [] = refl
 take-over (x ∷ o) (y ∷ w) = ap (λ (l : List ℕ). y ∷ l) (take-over o w)
 
 -- what is found is the text, as far as the buffer had room
-pub part-within : (s o : List ℕ) → partOf (foundOf s) s (bufferAfter s o) ≡ textWithin (length o) s
-unfolding foundOf bufferAfter textWithin
+pub part-within : (s o : List ℕ) → partOf (foundOf s) s (bufferAfter s o) ≡ take (length o) (text s)
+unfolding foundOf bufferAfter partOf
 part-within s o = go (either (escaped s))
   where
-    go : Either (escaped s) → partOf (foundOf s) s (bufferAfter s o) ≡ textWithin (length o) s
+    go : Either (escaped s) → partOf (foundOf s) s (bufferAfter s o) ≡ take (length o) (text s)
     go (inl e) = rw e (take-over o (text s))
-    go (inr e) = rw e
+    go (inr e) = rw (e, plain-text s e)
 
 length-after : (s o : List ℕ) → length (bufferAfter s o) ≡ length o
 unfolding bufferAfter
@@ -48,16 +50,13 @@ length-after s o = go (either (escaped s))
     go (inr e) = rw e
 
 -- the same of a buffer o of n bytes that is o′ afterwards
-pub found-within : (s o o′ : List ℕ) {f : Found} {x : List ℕ} {n : ℕ} → (f ≡ foundOf s) × (o′ ≡ bufferAfter s o) → length o′ ≡ n → x ≡ partOf f s o′ → x ≡ textWithin n s
+pub found-within : (s o o′ : List ℕ) {f : Found} {x : List ℕ} {n : ℕ} → (f ≡ foundOf s) × (o′ ≡ bufferAfter s o) → length o′ ≡ n → x ≡ partOf f s o′ → x ≡ take n (text s)
 found-within s o o′ e l g =
     let m : length o ≡ length o′ = sym (length-after s o) ∙ ap length (sym (e .1)) in
-    g ∙ rw (e .0, e .1) (part-within s o) ∙ ap (λ (k : ℕ). textWithin k s) (m ∙ l)
+    g ∙ rw (e .0, e .1) (part-within s o) ∙ ap (λ (k : ℕ). take k (text s)) (m ∙ l)
 
--- which is all of it where there is room enough
-pub within-text : (s : List ℕ) (n : ℕ) → length (text s) ≤ n → textWithin n s ≡ text s
-unfolding textWithin
-within-text s n h = go (either (escaped s))
-  where
-    go : Either (escaped s) → textWithin n s ≡ text s
-    go (inl e) = rw e (take-all n (text s) h)
-    go (inr e) = rw e (sym (plain-text s e))
+-- whatever is taken for it, there is no more than the buffer has room for
+pub part-short : (f : Found) (s o : List ℕ) {x : List ℕ} {n : ℕ} → length o ≡ n → x ≡ partOf f s o → length x ≤ n
+unfolding partOf
+part-short Own s o l e = omega (arith, ap length e, length-take (length o) s)
+part-short (Decoded k) s o l e = omega (arith, ap length e, length-take k o)

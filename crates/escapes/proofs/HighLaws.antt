@@ -6,8 +6,8 @@ use Rattle.escapes.specs.Rfc7159.{Letter, isSurrogate, own, code, letter
 use Rattle.octets.proofs.ClassLaws.{all-append, among-in}
 use Rattle.octets.proofs.TestLaws.{clash, or-split}
 use Rattle.octets.specs.Class.{all}
-use borrow.Author.Tests.{le-ltb}
-use lib.Dec.{ltb}
+use borrow.Author.Tests.{lt-leb}
+use lib.Dec.{leb}
 use mathlib.Core.Bool.{Bool, true, false, _&&_, and-false}
 use mathlib.Core.List.{List, [], _∷_}
 use mathlib.Core.Logic.{_⊎_, inl, inr}
@@ -15,13 +15,13 @@ use mathlib.Core.Path.{_≡_, refl}
 use native.Mathlib.Omega.{arith}
 
 abbrev isAscii : ℕ → Bool
-isAscii b = ltb b 128
+isAscii b = leb b 0x7F
 
 surrogate-high : (c : ℕ) → isSurrogate c ≡ true → all isAscii (encoded c) ≡ false
 unfolding isSurrogate all
 surrogate-high c e =
     let h = among-in 0xD800 0xDFFF c e in
-    rw (three c (omega arith) (omega arith), le-ltb (0xE0 + c / 4096) 128 (omega arith))
+    rw (three c (omega arith) (omega arith), lt-leb (0xE0 + c / 4096) 0x7F (omega arith))
 
 lone-high : (l : Letter) → isLone l ≡ true → all isAscii (octetsOf l) ≡ false
 lone-high (own b) e = clash e refl
@@ -36,6 +36,6 @@ letters-high (l ∷ ls) e = rw (all-append isAscii (octetsOf l) (spelt ls)) (go 
     go r (inl f) = rw (lone-high l f)
     go r (inr f) = rw (r f) (and-false (all isAscii (octetsOf l)))
 
-pub broken-high : (s : List ℕ) → isBroken s ≡ true → all (λ b. ltb b 128) (text s) ≡ false
+pub broken-high : (s : List ℕ) → isBroken s ≡ true → all (λ b. leb b 0x7F) (text s) ≡ false
 unfolding isBroken text
 broken-high s e = letters-high (letters s) e

@@ -1,9 +1,10 @@
 -- The letters one by one: what is so of every escape, and what a byte or an escape adds to the text. Assumes nothing.
-use Prim.Native.Nat.{ℕ, zero, suc, _+_, _-_, _*_, _≤_, _<_}
+use Prim.Native.Nat.{ℕ, zero, suc, _+_, _-_, _≤_, _<_}
 use Rattle.escapes.proofs.EncodingLaws.{length-one, at-most-three, at-most-four}
-use Rattle.escapes.proofs.EscapeLaws.{short-there, escape-short, escape-unit, escape-none, unit-there, joined-below, joined-above, joined-alone, joined-apart, joined-pair}
+use Rattle.escapes.proofs.EscapeLaws.{short-there, escape-by, unit-there, joined-by}
 use Rattle.escapes.specs.Encoding.{encoded}
-use Rattle.escapes.specs.Rfc7159.{none, unit, short, isSurrogate, esc, joined, escapeOf, own, code, letterOf, took, Letter, lettersFrom, letters, spelt, lone, text, isBroken}
+use Rattle.escapes.specs.Rfc7159.{none, unit, short, isSurrogate, esc, pair, joined, escapeOf, own, code, letterOf, took, Letter, lettersFrom, letters, spelt, lone, text}
+use Rattle.escapes.specs.Rfc7159.{isBroken}
 use Rattle.escapes.specs.declared.reading.Escape.{Escape}
 use Rattle.octets.proofs.TestLaws.{picked}
 use borrow.Author.Tests.{eq-eqb, ne-eqb}
@@ -13,7 +14,6 @@ use lib.Seq.{drop-cons, drop-drop}
 use mathlib.Core.Bool.{Bool, false, _||_, cond}
 use mathlib.Core.List.{List, [], _∷_, _++_}
 use mathlib.Core.Path.{_≡_, refl, ap, _∙_}
-use native.Mathlib.Decide.{decLt}
 use native.Mathlib.Numerals.{add-one}
 use native.Mathlib.Omega.{arith}
 
@@ -57,52 +57,37 @@ sound-six s u h k = record {
 }
 
 sound-joined : (s : List ℕ) (u v : ℕ) → 6 ≤ length s → u < none → v ≡ unit (drop 6 s) → Sound s (joined u v)
-sound-joined s u v h k e = go (decLt u 0xD800) (decLt 0xDBFF u) (decLt v 0xDC00) (decLt 0xDFFF v)
-  where
-    go : Dec (u < 0xD800) → Dec (0xDBFF < u) → Dec (v < 0xDC00) → Dec (0xDFFF < v) → Sound s (joined u v)
-    go (yes a) _ _ _ = rw (← joined-below u v a) (sound-six s u h k)
-    go (no a) (yes b) _ _ = rw (← joined-above u v (omega arith) b) (sound-six s u h k)
-    go (no a) (no b) (yes f) _ = rw (← joined-alone u v (omega arith) (omega arith) f) (sound-six s u h k)
-    go (no a) (no b) (no f) (yes g) = rw (← joined-apart u v (omega arith) (omega arith) (omega arith) g) (sound-six s u h k)
-    go (no a) (no b) (no f) (no g) =
-        let t = unit-there (drop 6 s) (let z : v ≡ unit (drop 6 s) = e in omega arith) in
-        let c : ℕ = 0x10000 + (u - 0xD800) * 1024 + (v - 0xDC00) in
-        let q : Sound s (esc c 12) = record {
-          some = omega arith;
-          inside = omega (arith, length-drop 6 s);
-          number = omega arith;
-          fits = omega (arith, at-most-four c);
-          shorter = λ l. omega (arith, at-most-four c);
-          stray = λ l. absurd (omega arith);
-        } in
-        rw (← joined-pair u v (omega arith) (omega arith) (omega arith) (omega arith)) q
+unfolding pair
+sound-joined s u v h k e = joined-by u v (Sound s) (sound-six s u h k) (λ a b f g.
+    let t = unit-there (drop 6 s) (let z : v ≡ unit (drop 6 s) = e in omega arith) in
+    record {
+      some = omega arith;
+      inside = omega (arith, length-drop 6 s);
+      number = omega arith;
+      fits = omega (arith, at-most-four (pair u v));
+      shorter = λ l. omega (arith, at-most-four (pair u v));
+      stray = λ l. absurd (omega arith);
+    })
 
 pub sound : (s : List ℕ) → 1 ≤ length s → Sound s (escapeOf s)
-sound s h = go (decLt (short (getD s 1 0)) none) (decLt (unit s) none)
+sound s h = escape-by s (Sound s) two (λ b. sound-joined s (unit s) (unit (drop 6 s)) (unit-there s b) b refl) (record {
+  some = omega arith;
+  inside = h;
+  number = omega arith;
+  fits = omega (arith, length-one 92 (omega arith));
+  shorter = λ l. absurd (omega arith);
+  stray = λ l. refl;
+})
   where
-    go : Dec (short (getD s 1 0) < none) → Dec (unit s < none) → Sound s (escapeOf s)
-    go (yes a) _ =
-        let q = short-small (getD s 1 0) a in
-        let r : Sound s (esc (short (getD s 1 0)) 2) = record {
-          some = omega arith;
-          inside = short-there s a;
-          number = omega arith;
-          fits = omega (arith, length-one (short (getD s 1 0)) q);
-          shorter = λ l. omega (arith, length-one (short (getD s 1 0)) q);
-          stray = λ l. absurd (omega arith);
-        } in
-        rw (← escape-short s a) r
-    go (no a) (yes b) = rw (← escape-unit s (omega arith) b) (sound-joined s (unit s) (unit (drop 6 s)) (unit-there s b) b refl)
-    go (no a) (no b) =
-        let r : Sound s (esc 92 1) = record {
-          some = omega arith;
-          inside = h;
-          number = omega arith;
-          fits = omega (arith, length-one 92 (omega arith));
-          shorter = λ l. absurd (omega arith);
-          stray = λ l. refl;
-        } in
-        rw (← escape-none s (omega arith) (omega arith)) r
+    two : short (getD s 1 0) < none → Sound s (esc (short (getD s 1 0)) 2)
+    two a = let q = short-small (getD s 1 0) a in record {
+      some = omega arith;
+      inside = short-there s a;
+      number = omega arith;
+      fits = omega (arith, length-one (short (getD s 1 0)) q);
+      shorter = λ l. omega (arith, length-one (short (getD s 1 0)) q);
+      stray = λ l. absurd (omega arith);
+    }
 
 -- The first letter.
 

@@ -28,7 +28,7 @@ measured n p b l = record { length = n; points = p; broken = b; breaks = l }
 same-measure : {n n′ p p′ : ℕ} {b b′ l l′ : Bool} → n ≡ n′ → p ≡ p′ → b ≡ b′ → l ≡ l′ → measured n p b l ≡ measured n′ p′ b′ l′
 same-measure e f g h = rw (e, f, g, h)
 
-pub added-first : (s : List ℕ) → measureOf s ≡ added (measured 0 0 false false) (text s) (isBroken s)
+added-first : (s : List ℕ) → measureOf s ≡ added (measured 0 0 false false) (text s) (isBroken s)
 unfolding measureOf added
 added-first s = same-measure (omega arith) (omega arith) refl refl
 
@@ -36,7 +36,7 @@ not-both : (a b : Bool) → not (a && b) ≡ (not a || not b)
 not-both true b = refl
 not-both false b = refl
 
-pub added-more : (m : Measured) (w v : List ℕ) (t u : Bool) → added m (w ++ v) (t || u) ≡ added (added m w t) v u
+added-more : (m : Measured) (w v : List ℕ) (t u : Bool) → added m (w ++ v) (t || u) ≡ added (added m w t) v u
 unfolding added
 added-more m w v t u =
     let a = length-append w v in
@@ -47,7 +47,7 @@ added-more m w v t u =
     (sym (or-assoc (m .broken) t u))
     (rw (all-append noBreak w v, not-both (all noBreak w) (all noBreak v)) (sym (or-assoc (m .breaks) (not (all noBreak w)) (not (all noBreak v)))))
 
-pub added-none : (m : Measured) → added m [] false ≡ m
+added-none : (m : Measured) → added m [] false ≡ m
 unfolding added points all
 added-none m = same-measure (omega arith) (omega arith) (or-false (m .broken)) (or-false (m .breaks))
 

@@ -1,11 +1,14 @@
--- Strings without a backslash: such a string is its own text. And the search for a backslash. Assumes nothing.
+-- Strings without a backslash: such a string is its own text. Plain bytes have none, as those of a text that keeps a rule are (`rules`' PlainLaws). And the
+-- search for a backslash. Assumes nothing.
 use Prim.Native.Nat.{ℕ, suc, _+_, _≤_, _<_}
 use Rattle.escapes.specs.Rfc7159.{letterOf, took, lettersFrom, spelt, lone, text, isBroken, spells}
 use Rattle.escapes.specs.Text.{escaped}
-use Rattle.octets.proofs.TestLaws.{or-none}
+use Rattle.octets.proofs.TestLaws.{and-parts, or-none}
+use Rattle.octets.specs.Class.{all}
 use Rattle.octets.specs.Text.{before, here, same}
-use borrow.Author.Tests.{lt-ltb, le-ltb, ne-eqb, ltb-true, ltb-false}
-use lib.Dec.{eqb, ltb, leb·suc-suc}
+use Rattle.rules.proofs.PlainLaws.{isPlain, plain-byte}
+use borrow.Author.Tests.{lt-ltb, le-ltb, le-leb, ne-eqb, ltb-true, ltb-false}
+use lib.Dec.{eqb, leb, ltb, leb·suc-suc}
 use lib.ListN.{length, drop, getD, length-drop}
 use lib.Seq.{drop-cons}
 use mathlib.Core.Bool.{Bool, true, false, _||_}
@@ -22,7 +25,7 @@ plain-front (x ∷ a) b e =
     let p = or-none (eqb x 92) (escaped a) e in
     rw (p .0) (ap (λ (l : List ℕ). x ∷ l) (plain-front a b (p .1)))
 
-pub plain-front-broken : (a b : List ℕ) → escaped a ≡ false → isBroken (a ++ b) ≡ isBroken b
+plain-front-broken : (a b : List ℕ) → escaped a ≡ false → isBroken (a ++ b) ≡ isBroken b
 unfolding escaped isBroken lettersFrom letterOf took lone
 plain-front-broken [] b e = refl
 plain-front-broken (x ∷ a) b e =
@@ -42,6 +45,20 @@ plain-whole s e = ap isBroken (sym (append-nil s)) ∙ plain-front-broken s [] e
 pub plain-spells : (s w : List ℕ) → escaped s ≡ false → same s w ≡ spells s w
 unfolding spells
 plain-spells s w e = rw (plain-whole s e, plain-text s e)
+
+-- Plain bytes.
+
+pub plain-unescaped : (s : List ℕ) → all isPlain s ≡ true → escaped s ≡ false
+unfolding all escaped
+plain-unescaped [] e = refl
+plain-unescaped (b ∷ s) e = let p = and-parts (isPlain b) (all isPlain s) e in rw (plain-byte b (p .0) .slash) (plain-unescaped s (p .1))
+
+pub plain-ascii : (s : List ℕ) → all isPlain s ≡ true → all (λ b. leb b 0x7F) s ≡ true
+unfolding all
+plain-ascii [] e = refl
+plain-ascii (b ∷ s) e =
+    let p = and-parts (isPlain b) (all isPlain s) e in
+    rw (le-leb b 0x7F (omega (arith, plain-byte b (p .0) .high))) (plain-ascii s (p .1))
 
 -- The search.
 

@@ -3,6 +3,7 @@ use Prim.Native.Nat.{ℕ, suc, _+_, _/_, _≤_, _<_}
 use Rattle.escapes.proofs.EncodingLaws.{one, two, three, four}
 use Rattle.escapes.specs.Encoding.{encoded, low}
 use Rattle.escapes.specs.Text.{over}
+use Rattle.octets.specs.Splice.{written}
 use lib.ListN.{length, set, length-append}
 use lib.Seq.{sets, append-snoc}
 use mathlib.Core.List.{List, [], _∷_, _++_, append-nil}
@@ -40,12 +41,12 @@ module _ (o : List ℕ) {o′ : List ℕ} (at : ℕ) {r : ℕ} (c : ℕ) where
 -- A text over the front of a buffer, and more of it.
 
 pub over-nil : (o : List ℕ) → over o [] ≡ o
-unfolding over
+unfolding over written
 over-nil [] = refl
 over-nil (x ∷ o) = refl
 
 over-one : (o w : List ℕ) (b : ℕ) → set (over o w) (length w) b ≡ over o (w ++ (b ∷ []))
-unfolding over
+unfolding over written
 over-one [] [] b = refl
 over-one [] (y ∷ w) b = refl
 over-one (x ∷ o) [] b = ap (λ (l : List ℕ). b ∷ l) (sym (over-nil o))
@@ -60,7 +61,7 @@ over-more o w (b ∷ v) =
     ∙ ap (over o) (append-snoc w b v)
 
 pub length-over : (o w : List ℕ) → length (over o w) ≡ length o
-unfolding over
+unfolding over written
 length-over [] w = refl
 length-over (x ∷ o) [] = refl
 length-over (x ∷ o) (y ∷ w) = ap suc (length-over o w)

@@ -85,7 +85,7 @@ module _ (c : ℕ) where
       go (no a) = clash (in-among 0xD800 0xDFFF c h (omega arith)) e
 
   -- the octets of a number that is no surrogate are UTF-8
-  pub encoded-good : c < 0x110000 → isSurrogate c ≡ false → verdict (encoded c) ≡ Good
+  encoded-good : c < 0x110000 → isSurrogate c ≡ false → verdict (encoded c) ≡ Good
   encoded-good l e = go (row c)
     where
       go : Row c → Fine (encoded c)

@@ -4,9 +4,10 @@ use Prim.Native.Nat.{ℕ}
 use Rattle.escapes.specs.Rfc7159.{isBroken, text}
 use Rattle.escapes.specs.declared.measuring.Measured.{Measured}
 use Rattle.octets.specs.Class.{all}
+use Rattle.octets.specs.Splice.{written}
 use Rattle.rules.specs.Texts.{noBreak, points}
 use lib.Dec.{eqb}
-use lib.ListN.{length}
+use lib.ListN.{length, take}
 use mathlib.Core.Bool.{Bool, false, not, _||_}
 use mathlib.Core.List.{List, [], _∷_}
 
@@ -17,9 +18,7 @@ escaped (b ∷ s) = eqb b (code "\\") || escaped s
 
 -- a buffer with a text over its front, as far as it has room
 unfoldable pub over : List ℕ → List ℕ → List ℕ
-over [] w = []
-over (x ∷ o) [] = x ∷ o
-over (x ∷ o) (y ∷ w) = y ∷ over o w
+over o w = written o (take (length o) w)
 
 -- a text's measure: its bytes, its code points, whether it is broken, whether a line break is in it
 unfoldable pub measureOf : List ℕ → Measured

@@ -34,12 +34,12 @@ fn front(s: &[u8], n: usize) -> &[u8]
     &s[0..n]
 }
 
-// What find_text found, in raw or in the buffer.
+// What find_text found, in raw or in the buffer: the text, as far as the buffer has room.
 pub fn text_part<'a>(raw: &'a [u8], out: &'a [u8], f: Found) -> &'a [u8]
     ensures { λ r. ⌜ now r ≡ partOf f (now (raw .entry)) (now (out .entry)) ⌝ }
 {
     match f {
-        Found::Own => raw,
+        Found::Own => front(raw, out.len()),
         Found::Decoded(n) => front(out, n),
     }
 }

@@ -11,7 +11,6 @@ use Rattle.call.specs.declared.records.Held.the-variants.{Nothing as Unheld, Is
 use Rattle.exchange.proofs.Parts.{Fit, opened, altered, rule, isAt, ours}
 use Rattle.exchange.specs.Sequence.{Event, message, tick, nameRead, nameOf}
 use Rattle.keeper.proofs.FactLaws.{sound-call, sound-fields, fit-fields, numbered}
-use Rattle.keeper.proofs.TextLaws.{named-used}
 use Rattle.message.proofs.Accepted.{read-named}
 use Rattle.keeper.specs.Facts.{callOf, fieldsFrom, eventOf}
 use Rattle.keeper.specs.inner.Known.{Fitting}
@@ -32,21 +31,21 @@ use Rattle.octets.specs.Text.{same}
 use Rattle.rules.proofs.PartLaws.{call-id-length, user-length, fire-length}
 use Rattle.table.proofs.FieldLaws.{Fits}
 use Rattle.table.proofs.ImageLaws.{length-with, size-with, with-same, with-other, with-header}
-use Rattle.table.proofs.KeepLaws.{Ruled, call-id-kept, fields-stored, stored-sound, call-id-new, fields-new, new-sound, used-not-free, sound-used, free-sound}
+use Rattle.table.proofs.KeepLaws.{Ruled, call-id-kept, fields-stored, stored-sound, call-id-new, fields-new, new-sound, used-not-free, sound-used, free-sound, named-used, named-is}
 use Rattle.table.proofs.LookupLaws.{named-own}
 use Rattle.table.proofs.RecordLaws.{length-withFields, length-newRecord}
 use Rattle.table.proofs.RoomLaws.{zeros-are}
 use Rattle.table.proofs.SearchLaws.{Is as Lowest, Searched, at, nowhere, searched}
 use Rattle.table.proofs.SoundLaws.{record-used}
 use Rattle.table.specs.Image.{recordCount, recordAt, recordSize, withRecord, freeRecord}
-use Rattle.table.specs.Record.{recordCallId as idOf, recordFields, isFree, isNamed, newRecord, sameParties, withFields}
+use Rattle.table.specs.Record.{recordFields, isFree, isNamed, newRecord, sameParties, withFields}
 use Rattle.table.specs.Search.{freePlace, lowestFound}
 use Rattle.table.specs.WellFormed.{zeros, usedSound, recordSound, frameSound}
 use Rattle.table.specs.declared.numbers.Fields.{Fields}
 use borrow.Author.Tests.{ltb-false, lt-ltb}
 use lib.Dec.{ltb}
 use lib.ListN.{length, replicate, length-replicate}
-use mathlib.Core.Bool.{Bool, true, false, not, cond}
+use mathlib.Core.Bool.{Bool, true, false, cond}
 use mathlib.Core.List.{List}
 use mathlib.Core.Option.{none, some}
 use mathlib.Core.Path.{_≡_, refl, sym, ap, _∙_}
@@ -84,12 +83,7 @@ unfolding isNamed
 free-nameless i r e = rw e
 
 one-name : (i j r : List ℕ) → isNamed i r ≡ true → isNamed j r ≡ true → i ≡ j
-unfolding isNamed
-one-name i j r p q = sym (same-eq (idOf r) i (and-parts (not (isFree r)) _ p .1)) ∙ same-eq (idOf r) j (and-parts (not (isFree r)) _ q .1)
-
-named-id : (i r : List ℕ) → isNamed i r ≡ true → idOf r ≡ i
-unfolding isNamed
-named-id i r p = same-eq (idOf r) i (and-parts (not (isFree r)) _ p .1)
+one-name i j r p q = sym (named-is i r p) ∙ named-is j r q
 
 fitting : (f : Fields) → Fits f → Fitting f
 fitting f h = record { caller = h .caller; callee = h .callee; last = h .last }
@@ -158,7 +152,7 @@ module _ (i r : List ℕ) (fit : Fit r) (own : isNamed i r ≡ true) where
       let f = fieldsFrom c in
       let g : usedSound (withFields r f) ≡ true = stored-sound r f (fit .long) used (sound-fields c sound) (fit-fields c sound) in (
         used-fit (withFields r f) (length-withFields r f (fit .long)) g (rw (fields-stored r f (fit .long) (fit-fields c sound)) (fitting f (fit-fields c sound))),
-        named-own i (withFields r f) (used-not-free (withFields r f) g) (call-id-kept r f (fit .long) ∙ named-id i r own),
+        named-own i (withFields r f) (used-not-free (withFields r f) g) (call-id-kept r f (fit .long) ∙ named-is i r own),
       )
 
   altered-own : (after : After) → SoundAfter after → (x : List ℕ) → altered r after ≡ some x → Fit x × (isNamed i x ≡ true)

@@ -1,4 +1,5 @@
--- The rules as the code goes through them are those of the list: one number after the other, each computed. Assumes nothing.
+-- The rules as the code goes through them are those of the list: one number after the other, computed, or by what a plain rule says (`ruled-is`).
+-- Assumes nothing.
 use Prim.Native.Nat.{ℕ, zero, suc, _<_}
 use Rattle.fields.proofs.SpelledLaws.{ruled-is}
 use Rattle.fields.proofs.TriedLaws.{availability-plain, call-mode-plain, message-type-plain, notify-type-plain, presence-plain, rescuee-plain, service-plain}
@@ -21,7 +22,7 @@ use native.Mathlib.Omega.{arith}
 
 -- Status, Content-Type and Body, by what the rule sees besides the value
 
-status-keeps : (tag : ℕ) (v : List ℕ) → (isString v && onStatus tag (textOf v)) ≡ statusField tag v
+status-keeps : (tag : ℕ) (v : List ℕ) → freely (onStatus tag) v ≡ statusField tag v
 unfolding onStatus statusField freely
 status-keeps tag v = by (eqb tag tagPong)
   where
@@ -30,15 +31,15 @@ status-keeps tag v = by (eqb tag tagPong)
     by true = sym (ruled-is availability-plain v)
     by false = refl
 
-type-keeps : (method : ℕ) (v : List ℕ) → (isString v && onType method (textOf v)) ≡ contentField method v
-unfolding onType contentField
+type-keeps : (method : ℕ) (v : List ℕ) → freely (onType method) v ≡ contentField method v
+unfolding onType contentField freely
 type-keeps method v = by (eqb method methodMessage)
   where
     by : (b : Bool) → (isString v && cond b (oneOf messageTypes (textOf v)) (oneOf notifyTypes (textOf v))) ≡ cond b (ruled (oneOf messageTypes) v) (ruled (oneOf notifyTypes) v)
     by true = sym (ruled-is message-type-plain v)
     by false = sym (ruled-is notify-type-plain v)
 
-body-keeps : (content : ℕ) (v : List ℕ) → cond (eqb content contentLocation || false) (isObject v) (isString v && onBody content (textOf v)) ≡ bodyField content v
+body-keeps : (content : ℕ) (v : List ℕ) → cond (eqb content contentLocation || false) (isObject v) (freely (onBody content) v) ≡ bodyField content v
 unfolding onBody bodyField freely namesImage
 body-keeps content v = go (ℕ-discrete content contentLocation)
   where
@@ -60,7 +61,7 @@ body-keeps content v = go (ℕ-discrete content contentLocation)
 
 module _ (k : Setting) (v : List ℕ) where
   pub chain-keeps : (n : ℕ) → 3 < n → n < 27 → chain k n v ≡ keeps k n v
-  unfolding chain keeps byKind kindRule onText plainRule laterRule
+  unfolding chain keeps byKind kindRule onText plainRule laterRule freely
   chain-keeps zero h g = absurd (omega arith)
   chain-keeps (suc zero) h g = absurd (omega arith)
   chain-keeps (suc (suc zero)) h g = absurd (omega arith)

@@ -1,14 +1,14 @@
 -- The walk over the members of an object, one member at a time: what is gathered so far, and that the rest decides the rest.
 -- Assumes nothing.
 use Rattle.fields.specs.inner.Gathering.{notedOnce, endAt, endsOf, Gathered, Ended}
-use Prim.Native.Nat.{ℕ, zero, suc, _+_, _-_, _<_}
+use Prim.Native.Nat.{ℕ, zero, suc, _+_, _<_}
 use Rattle.json.specs.Places.{behind, raw, valueOf, membersFrom, members}
 use Rattle.fields.specs.Known.{numberAt, empty, has, note, noted, repeated}
 use Rattle.escapes.specs.Rfc7159.{isBroken, text}
 use Rattle.fields.specs.Value.{wordSpelled}
-use Rattle.octets.specs.Text.{same}
+use Rattle.octets.proofs.TestLaws.{picked}
+use Rattle.rules.proofs.NameLaws.{place-below}
 use Rattle.rules.specs.Names.{hopMembers}
-use Rattle.rules.specs.Pieces.{wordNumber, wordNumberFrom}
 use borrow.Author.Tests.{ne-eqb}
 use lib.Dec.{eqb, ltb}
 use lib.ListN.{length, getD, set, replicate, List·getD-map}
@@ -104,18 +104,9 @@ pub ended-none : (s t : List ℕ) → Ended s t empty
 ended-none s t = record { ends = λ n h. absurd (omega (arith, nought-at 27 n)) }
 
 -- a name's number is at most how many names there are
-pick-few : (t : Bool) (a b c : ℕ) → a < c → b < c → cond t a b < c
-pick-few true a b c h g = h
-pick-few false a b c h g = g
-
-pub from-few : (ns : List (List ℕ)) (k : ℕ) (x : List ℕ) → 0 < k → wordNumberFrom ns k x < k + length ns
-unfolding wordNumberFrom
-from-few [] k x h = omega arith
-from-few (n ∷ ns) k x h = pick-few (same x n) k (wordNumberFrom ns (k + 1) x) _ (omega arith) (let r = from-few ns (k + 1) x (omega arith) in omega arith)
-
 pub spelled-few : (ns : List (List ℕ)) (x : List ℕ) → wordSpelled ns x < 1 + length ns
 unfolding wordSpelled
-spelled-few ns x = pick-few (isBroken x) 0 (wordNumber ns (text x)) (1 + length ns) (omega arith) (from-few ns 1 (text x) (omega arith))
+spelled-few ns x = picked (λ (n : ℕ). n < 1 + length ns) (isBroken x) (omega arith) (omega (arith, place-below ns (text x)))
 
 pub hop-few : (x : List ℕ) → wordSpelled hopMembers x < 4
 hop-few x = spelled-few hopMembers x

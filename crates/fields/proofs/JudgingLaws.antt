@@ -32,9 +32,11 @@ use mathlib.Core.Path.{_≡_, refl, sym, ap, _∙_}
 -- a string, or not: what is left of a rule
 module _ (rule : List ℕ → Bool) (p : Plain rule) (v t : List ℕ) {u : Bool} (is : t ≡ textOf v) (tested : u ≡ isString v) where
   not-ruled : u ≡ false → ruled rule v ≡ false
+  unfolding freely
   not-ruled e = ruled-is p v ∙ rw (sym tested ∙ e)
 
   by-rule : u ≡ true → ruled rule v ≡ rule t
+  unfolding freely
   by-rule e = ruled-is p v ∙ rw (sym tested ∙ e, is)
 
 -- CSeq

@@ -109,7 +109,7 @@ module _ (s : List ℕ) (v : ℕ) where
   unfolding spellingAt
   spelling-take = sym (spelling-long (bytes s v) (own-bytes s v) refl) ∙ rw (bytes-are s v, long s v) (spelling-by (decLt 0 (size (drop v s))))
 
-  pub spelling-inside : 0 < length (spellingAt s v) → v + 2 + length (spellingAt s v) ≤ length s
+  spelling-inside : 0 < length (spellingAt s v) → v + 2 + length (spellingAt s v) ≤ length s
   spelling-inside h =
       let a = ap length spelling-take in
       let b = take-le (size (drop v s) - 1 - 1) (drop (v + 1) s) in
@@ -128,14 +128,14 @@ module _ (s : List ℕ) (v : ℕ) where
   pub span-within : (spellingSpan s v .start ≤ length s) × (spellingSpan s v .end ≤ length s)
   span-within = span-by (ltb v (length s)) refl
 
-  pub spelling-part : spellingAt s v ≡ part s (v + 1) (v + 1 + length (spellingAt s v))
+  spelling-part : spellingAt s v ≡ part s (v + 1) (v + 1 + length (spellingAt s v))
   unfolding part
   spelling-part =
       let z : v + 1 + length (spellingAt s v) - (v + 1) ≡ length (spellingAt s v) = omega arith in
       spelling-take ∙ sym (rw z (ap (λ (t : List ℕ). take (length t) (drop (v + 1) s)) spelling-take ∙ take-own (size (drop v s) - 1 - 1) (drop (v + 1) s)))
 
   -- a value is spelled where its span says
-  pub there-cut : v < length s → cut s (spellingSpan s v) ≡ spellingAt s v
+  there-cut : v < length s → cut s (spellingSpan s v) ≡ spellingAt s v
   unfolding cut spellingSpan
   there-cut h = rw (lt-ltb v (length s) h) (sym spelling-part)
 

@@ -5,9 +5,9 @@ use Rattle.fields.specs.Field.{addressRule, namesImage, oneOf}
 use Rattle.fields.specs.Via.{hopRule}
 use Rattle.fields.specs.declared.judging.Setting.{Setting}
 use Rattle.fields.specs.inner.Chain.{laterRule, onBody, onStatus, onText, onType, plainRule}
-use Rattle.octets.proofs.TestLaws.{and-parts, or-none}
+use Rattle.octets.proofs.TestLaws.{or-none}
 use Rattle.octets.specs.Class.{all}
-use Rattle.rules.proofs.PlainLaws.{Plain, Words, call-id-plain, callee-plain, caller-plain, date-plain, desk-plain, destination-plain, fire-plain, host-plain}
+use Rattle.rules.proofs.PlainLaws.{Plain, arePlain, call-id-plain, callee-plain, caller-plain, date-plain, desk-plain, destination-plain, fire-plain, host-plain}
 use Rattle.rules.proofs.PlainLaws.{image-front, isPlain, language-plain, message-id-plain, one-of-two, organization-plain, status-front, word-plain}
 use Rattle.rules.specs.Address.{addressOf, calleeRule, callerRule}
 use Rattle.rules.specs.Names.{fields, hopMembers, tags}
@@ -17,44 +17,34 @@ use Rattle.rules.specs.declared.addresses.Address.the-variants as addresses
 use Rattle.rules.specs.declared.sequences.Sequence.the-variants as sequences
 use Rattle.rules.specs.Words.{availabilities, callModes, contentTypes, messageTypes, notifyTypes, presences, rescuees, services}
 use lib.Dec.{eqb, ltb}
-use lib.ListN.{length}
-use mathlib.Core.Bool.{Bool, true, false, _&&_, cond}
-use mathlib.Core.List.{List, [], _∷_}
+use mathlib.Core.Bool.{Bool, true, false, cond}
+use mathlib.Core.List.{List}
 use mathlib.Core.Path.{_≡_, refl}
 use native.Mathlib.Omega.{arith}
 
 -- Words, each list by one test.
 
-arePlain : List (List ℕ) → Bool
-arePlain [] = true
-arePlain (w ∷ ws) = (all isPlain w && ltb (length w) 256) && arePlain ws
-
-plain-words : (ws : List (List ℕ)) → arePlain ws ≡ true → Words ws
-unfolding arePlain
-plain-words [] e = tt
-plain-words (w ∷ ws) e = let p = and-parts (all isPlain w && ltb (length w) 256) (arePlain ws) e in (p .0, plain-words ws (p .1))
-
-pub tag-words : Words tags
+pub tag-words : arePlain tags ≡ true
 unfolding arePlain all isPlain
-tag-words = plain-words tags refl
+tag-words = refl
 
-pub member-words : Words hopMembers
+pub member-words : arePlain hopMembers ≡ true
 unfolding arePlain all isPlain
-member-words = plain-words hopMembers refl
+member-words = refl
 
-pub type-words : Words contentTypes
+pub type-words : arePlain contentTypes ≡ true
 unfolding arePlain all isPlain
-type-words = plain-words contentTypes refl
+type-words = refl
 
-pub field-words : Words fields
+pub field-words : arePlain fields ≡ true
 unfolding arePlain all isPlain
-field-words = plain-words fields refl
+field-words = refl
 
 -- Rules that let plain texts through alone.
 
 one-of-plain : (ws : List (List ℕ)) → arePlain ws ≡ true → Plain (oneOf ws)
 unfolding oneOf
-one-of-plain ws e = let p = word-plain ws (plain-words ws e) in record { plain = p .plain; short = p .short }
+one-of-plain ws e = let p = word-plain ws e in record { plain = p .plain; short = p .short }
 
 pub availability-plain : Plain (oneOf availabilities)
 unfolding arePlain all isPlain

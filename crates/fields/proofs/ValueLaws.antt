@@ -10,9 +10,9 @@ use Rattle.octets.specs.Class.{all}
 use Rattle.rules.specs.Texts.{memoRule, noBreak}
 use lib.Dec.{leb}
 use lib.ListN.{length}
-use mathlib.Core.Bool.{Bool, true, false, not, _&&_}
+use mathlib.Core.Bool.{Bool, true, false, not, _&&_, Bool·not-not}
 use mathlib.Core.List.{List, [], _∷_}
-use mathlib.Core.Path.{_≡_, refl, ap, _∙_}
+use mathlib.Core.Path.{_≡_, ap, _∙_}
 use native.Mathlib.Omega.{arith}
 
 -- what the spelling spells
@@ -29,22 +29,20 @@ unfolding freely
 free-text rule v e = and-parts (isString v) (rule (textOf v)) e .1
 
 -- a string and what is told of its text by its spelling
-pub no-string : (v : List ℕ) (b : Bool) → isString v ≡ false → false ≡ (isString v && b)
-no-string v b e = rw e
+pub no-string : (rule : List ℕ → Bool) (v : List ℕ) → isString v ≡ false → false ≡ freely rule v
+unfolding freely
+no-string rule v e = rw e
 
 pub string-text : (rule : List ℕ → Bool) (v : List ℕ) {w : List ℕ} {u k r : Bool} → u ≡ isString v → w ≡ spellingOf v → k ≡ rule (text w) → r ≡ (u && k)
-    → r ≡ (isString v && rule (textOf v))
+    → r ≡ freely rule v
+unfolding freely
 string-text rule v e f g h = h ∙ rw (e, g, text-is v f)
-
-not-not : (b : Bool) → not (not b) ≡ b
-not-not true = refl
-not-not false = refl
 
 -- Refer-Memo by its measure
 pub is-memo : (v : List ℕ) {w : List ℕ} {m : Measured} {a b r : Bool} → w ≡ spellingOf v → m ≡ measureOf w → a ≡ (not (m .breaks) && leb (m .points) 128)
     → b ≡ (not (m .broken) && a) → r ≡ (isString v && b) → r ≡ ruled memoRule v
 unfolding ruled memoRule measureOf textOf
-is-memo v e f g h i = i ∙ rw (h, g, f, e, not-not (all noBreak (text (spellingOf v))))
+is-memo v e f g h i = i ∙ rw (h, g, f, e, Bool·not-not (all noBreak (text (spellingOf v))))
 
 pub is-plain-memo : (v : List ℕ) {w : List ℕ} {k r : Bool} → w ≡ spellingOf v → escaped w ≡ false → k ≡ memoRule w → r ≡ (isString v && k) → r ≡ ruled memoRule v
 unfolding ruled textOf

@@ -44,15 +44,15 @@ use rules::TEXT_IMAGE_CONTENT;
 use rules::USER_AGENT;
 use rules::VIA;
 ghost use Rattle.fields.specs.inner.Asked.{Own};
-ghost use mathlib.Core.Bool.{_&&_};
 ghost use mathlib.Core.Path.{_≡_};
 ghost use Prim.Native.Nat.{_<_};
+ghost use lib.ListN.{take};
+ghost use Rattle.escapes.specs.Rfc7159.{text};
 ghost use Rattle.fields.specs.Field.{namesImage, stringsField};
 ghost use Rattle.fields.specs.inner.Judging.{cseqOf, judgedValue, partyOf, statusIn};
 ghost use Rattle.fields.specs.inner.Chain.{byKind, chain, kindRule, laterRule, onBody, onStatus, onText, onType, plainRule};
 ghost use Rattle.fields.specs.Via.{viaRule};
-ghost use Rattle.fields.specs.Value.{isString, ruled, textOf};
-ghost use Rattle.escapes.specs.inner.Finding.{textWithin};
+ghost use Rattle.fields.specs.Value.{freely, ruled};
 ghost use Rattle.rules.specs.Status.{statusRule};
 ghost use Rattle.rules.specs.Texts.{memoRule};
 
@@ -314,7 +314,7 @@ fn is_text(k: Setting, n: usize, t: &[u8]) -> bool
 }
 
 fn is_decoded_text(k: Setting, n: usize, w: &[u8]) -> bool
-    ensures { λ r. ⌜ r ≡ onText k n (textWithin 256 (now (w .entry))) ⌝ }
+    ensures { λ r. ⌜ r ≡ onText k n (take 256 (text (now (w .entry)))) ⌝ }
 {
     let mut room = [0u8; 256];
     let f = find_text(w, &mut room);
@@ -324,7 +324,7 @@ fn is_decoded_text(k: Setting, n: usize, w: &[u8]) -> bool
 // A string whose text is that of field n: tried as it is spelled, and decoded only where that fails.
 fn keeps_text(k: Setting, n: usize, v: &[u8]) -> bool
     requires { ⌜ Own (now v) ⌝ }
-    ensures { λ r. ⌜ r ≡ (isString (now (v .entry)) && onText k n (textOf (now (v .entry)))) ⌝ }
+    ensures { λ r. ⌜ r ≡ freely (onText k n) (now (v .entry)) ⌝ }
 {
     if !is_string(v) {
         return false;
@@ -336,7 +336,7 @@ fn keeps_text(k: Setting, n: usize, v: &[u8]) -> bool
     is_decoded_text(k, n, w)
 }
 
-// Refer-Memo, any text of 128 code points without a line break: where it is spelled with escapes it is measured, without a buffer.
+// Refer-Memo, any text of at most 128 code points without a line break: where it is spelled with escapes it is measured, without a buffer.
 fn keeps_memo(v: &[u8]) -> bool
     requires { ⌜ Own (now v) ⌝ }
     ensures { λ r. ⌜ r ≡ ruled memoRule (now (v .entry)) ⌝ }

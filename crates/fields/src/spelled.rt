@@ -1,12 +1,13 @@
 // Texts and names by how they are spelled (02 §2). A text that keeps a rule has no backslash, and neither has a known name: so the bytes are tried as they
-// stand, and decoded only where they fail. No rule here lets a text of 256 bytes through, so what does not fit the buffer breaks it as the rest does.
+// stand, and decoded only where they fail. No rule here lets a text of 256 bytes through but Status', whose first four decide: so what does not fit the
+// buffer changes nothing.
 use escapes::find_text;
 use escapes::is_escaped;
 use escapes::text_part;
 ghost use mathlib.Core.Path.{_≡_};
 ghost use Prim.Native.Nat.{_<_};
+ghost use lib.ListN.{take};
 ghost use Rattle.escapes.specs.Rfc7159.{text};
-ghost use Rattle.escapes.specs.inner.Finding.{textWithin};
 ghost use Rattle.fields.specs.Value.{wordSpelled};
 ghost use Rattle.fields.specs.Via.{hopRule};
 ghost use Rattle.rules.specs.Address.{addressOf};
@@ -17,7 +18,7 @@ ghost use Rattle.rules.specs.Status.{statusOf};
 ghost use Rattle.rules.specs.Words.{contentTypes};
 
 fn decoded_sequence(w: &[u8]) -> rules::Sequence
-    ensures { λ r. ⌜ r ≡ sequenceOf (textWithin 256 (now (w .entry))) ⌝ }
+    ensures { λ r. ⌜ r ≡ sequenceOf (take 256 (text (now (w .entry)))) ⌝ }
 {
     let mut room = [0u8; 256];
     let f = find_text(w, &mut room);
@@ -36,7 +37,7 @@ pub fn sequence_of(w: &[u8]) -> rules::Sequence
 }
 
 fn decoded_address(w: &[u8]) -> rules::Address
-    ensures { λ r. ⌜ r ≡ addressOf (textWithin 256 (now (w .entry))) ⌝ }
+    ensures { λ r. ⌜ r ≡ addressOf (take 256 (text (now (w .entry)))) ⌝ }
 {
     let mut room = [0u8; 256];
     let f = find_text(w, &mut room);
@@ -56,7 +57,7 @@ pub fn address_of(w: &[u8]) -> rules::Address
 }
 
 fn decoded_status(w: &[u8]) -> rules::Status
-    ensures { λ r. ⌜ r ≡ statusOf (textWithin 256 (now (w .entry))) ⌝ }
+    ensures { λ r. ⌜ r ≡ statusOf (take 256 (text (now (w .entry)))) ⌝ }
 {
     let mut room = [0u8; 256];
     let f = find_text(w, &mut room);
@@ -88,7 +89,7 @@ fn is_hop(n: u8, t: &[u8]) -> bool
 }
 
 fn is_decoded_hop(n: u8, w: &[u8]) -> bool
-    ensures { λ r. ⌜ r ≡ hopRule n (textWithin 256 (now (w .entry))) ⌝ }
+    ensures { λ r. ⌜ r ≡ hopRule n (take 256 (text (now (w .entry)))) ⌝ }
 {
     let mut room = [0u8; 256];
     let f = find_text(w, &mut room);
@@ -106,7 +107,7 @@ pub fn is_hop_text(n: u8, w: &[u8]) -> bool
 }
 
 fn decoded_tag(w: &[u8]) -> u8
-    ensures { λ r. ⌜ r ≡ wordNumber tags (textWithin 256 (now (w .entry))) ⌝ }
+    ensures { λ r. ⌜ r ≡ wordNumber tags (take 256 (text (now (w .entry)))) ⌝ }
 {
     let mut room = [0u8; 256];
     let f = find_text(w, &mut room);
@@ -125,14 +126,14 @@ pub fn tag(w: &[u8]) -> u8
 }
 
 fn decoded_field(w: &[u8]) -> usize
-    ensures { λ r. ⌜ (r ≡ wordNumber fields (textWithin 256 (now (w .entry)))) × (r < 27) ⌝ }
+    ensures { λ r. ⌜ (r ≡ wordNumber fields (take 256 (text (now (w .entry))))) × (r < 27) ⌝ }
 {
     let mut room = [0u8; 256];
     let f = find_text(w, &mut room);
     rules::field(text_part(w, &room, f))
 }
 
-// The number of the known field whose name w spells, and 0 for any other name.
+// The number of the known field whose name w spells, and 0 for any other name. Unknown names are common: one without a backslash is not tried twice.
 pub fn field(w: &[u8]) -> usize
     ensures { λ r. ⌜ (r ≡ wordSpelled fields (now (w .entry))) × (r < 27) ⌝ }
 {
@@ -147,14 +148,14 @@ pub fn field(w: &[u8]) -> usize
 }
 
 fn decoded_hop_member(w: &[u8]) -> u8
-    ensures { λ r. ⌜ r ≡ wordNumber hopMembers (textWithin 256 (now (w .entry))) ⌝ }
+    ensures { λ r. ⌜ r ≡ wordNumber hopMembers (take 256 (text (now (w .entry)))) ⌝ }
 {
     let mut room = [0u8; 256];
     let f = find_text(w, &mut room);
     rules::hop_member(text_part(w, &room, f))
 }
 
-// The number of the member of an object of Via whose name w spells.
+// The number of the member of an object of Via whose name w spells, likewise.
 pub fn hop_member(w: &[u8]) -> u8
     ensures { λ r. ⌜ r ≡ wordSpelled hopMembers (now (w .entry)) ⌝ }
 {
@@ -169,7 +170,7 @@ pub fn hop_member(w: &[u8]) -> u8
 }
 
 fn decoded_content_type(w: &[u8]) -> u8
-    ensures { λ r. ⌜ r ≡ wordNumber contentTypes (textWithin 256 (now (w .entry))) ⌝ }
+    ensures { λ r. ⌜ r ≡ wordNumber contentTypes (take 256 (text (now (w .entry)))) ⌝ }
 {
     let mut room = [0u8; 256];
     let f = find_text(w, &mut room);

@@ -11,14 +11,13 @@ use Rattle.call.specs.declared.records.Held.the-variants.{Nothing as Unheld, Is
 use Rattle.call.specs.declared.records.Outcome.{Outcome}
 use Rattle.keeper.proofs.FactLaws.{sound-call, numbered}
 use Rattle.keeper.proofs.KeepingLaws.{kept-well, taken-well}
-use Rattle.keeper.proofs.TextLaws.{named-used}
 use Rattle.keeper.specs.Facts.{callOf, fieldsFrom, eventOf}
 use Rattle.keeper.specs.inner.Known.{Fitting}
 use Rattle.keeper.specs.Keeping.{Step, tableAfter, callAt, roomFor, recordFor, takenAt, taken, agreesAt, askedAt, tickedAt}
 use Rattle.message.specs.inner.Named.{Named}
 use Rattle.message.specs.Parties.{callIdOf, userOf, callerFireOf, calleeFireOf}
 use Rattle.message.specs.declared.facts.Message.{Message}
-use Rattle.table.proofs.KeepLaws.{fields-of}
+use Rattle.table.proofs.KeepLaws.{fields-of, named-used}
 use Rattle.table.proofs.LookupLaws.{found}
 use Rattle.table.specs.Image.{recordCount, recordAt, withRecord}
 use Rattle.table.specs.Record.{recordFields, newRecord}

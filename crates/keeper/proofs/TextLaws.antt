@@ -1,58 +1,42 @@
 -- The texts of a message that was read, found in its bytes or decoded into a buffer of 64, which they all fit. Assumes nothing.
 use Prim.Native.Nat.{ℕ, _+_, _≤_}
-use Rattle.escapes.proofs.FindLaws.{within-text}
 use Rattle.escapes.proofs.LengthLaws.{as-long}
 use Rattle.escapes.proofs.PlainLaws.{plain-text}
 use Rattle.escapes.specs.Rfc7159.{text}
 use Rattle.escapes.specs.Text.{escaped}
-use Rattle.escapes.specs.inner.Finding.{textWithin}
 use Rattle.fields.proofs.SpelledLaws.{own-text}
 use Rattle.fields.specs.Spans.{cut}
 use Rattle.message.specs.Parties.{callIdOf, callerAddressOf, calleeAddressOf, userOf, callerFireOf, calleeFireOf}
 use Rattle.message.specs.declared.facts.Message.{Message}
 use Rattle.message.specs.inner.Named.{Named}
-use Rattle.octets.proofs.TestLaws.{and-parts}
-use Rattle.octets.proofs.TextLaws.{same-eq}
 use Rattle.rules.proofs.PartLaws.{call-id-length}
 use Rattle.rules.proofs.PlainLaws.{call-id-plain}
 use Rattle.rules.specs.Texts.{callIdRule}
-use Rattle.table.proofs.KeepLaws.{call-id-of}
+use Rattle.table.proofs.KeepLaws.{call-id-of, named-is, named-used}
 use Rattle.table.proofs.LookupLaws.{found}
 use Rattle.table.specs.Image.{recordAt}
-use Rattle.table.specs.Record.{isFree, isNamed, recordCallId}
 use Rattle.table.specs.Search.{placeNamed}
 use Rattle.table.specs.WellFormed.{wellFormed}
 use Rattle.table.specs.declared.searching.Found.the-variants.{At}
-use lib.ListN.{length}
-use mathlib.Core.Bool.{Bool, true, false, not}
+use lib.ListN.{length, take}
+use lib.Seq.{take-all}
+use mathlib.Core.Bool.{true, false}
 use mathlib.Core.List.{List}
-use mathlib.Core.Path.{_≡_, refl, sym, ap, _∙_}
+use mathlib.Core.Path.{_≡_, sym, ap, _∙_}
+use native.Mathlib.Omega.{arith}
 
--- the record that is named is in use, and has the name
-pub named-used : (id r : List ℕ) → isNamed id r ≡ true → isFree r ≡ false
-unfolding isNamed
-named-used id r e = go (isFree r) (and-parts (not (isFree r)) _ e .0)
-  where
-    go : (b : Bool) → not b ≡ true → b ≡ false
-    go true p = sym p
-    go false p = refl
-
-named-is : (id r : List ℕ) → isNamed id r ≡ true → recordCallId r ≡ id
-unfolding isNamed
-named-is id r e = same-eq (recordCallId r) id (and-parts (not (isFree r)) _ e .1)
-
-module _ (s : List ℕ) (m : Message) (n : Named s m) {w x : List ℕ} (found : x ≡ textWithin 64 w) where
+module _ (s : List ℕ) (m : Message) (n : Named s m) {w x : List ℕ} (found : x ≡ take 64 (text w)) where
   pub call-text : w ≡ cut s (m .callid) → x ≡ callIdOf s m
   unfolding callIdOf
-  call-text e = found ∙ rw e (within-text (cut s (m .callid)) 64 (call-id-length _ (n .call-id) .1))
+  call-text e = found ∙ rw e (take-all 64 (text (cut s (m .callid))) (call-id-length _ (n .call-id) .1))
 
   pub caller-text : w ≡ cut s (m .calleraddress) → x ≡ callerAddressOf s m
   unfolding callerAddressOf
-  caller-text e = found ∙ rw e (within-text (cut s (m .calleraddress)) 64 (n .caller-short))
+  caller-text e = let l = n .caller-short in found ∙ rw e (take-all 64 (text (cut s (m .calleraddress))) (omega arith))
 
   pub callee-text : w ≡ cut s (m .calleeaddress) → x ≡ calleeAddressOf s m
   unfolding calleeAddressOf
-  callee-text e = found ∙ rw e (within-text (cut s (m .calleeaddress)) 64 (n .callee-short))
+  callee-text e = let l = n .callee-short in found ∙ rw e (take-all 64 (text (cut s (m .calleeaddress))) (omega arith))
 
 -- an address that is as long as it is spelled is its own text
 module _ (s : List ℕ) (m : Message) (n : Named s m) {w : List ℕ} where

@@ -85,7 +85,7 @@ coded t rule statuses.Broken e = never (sym rule ∙ sym (status-broken t (sym e
 abbrev Sides : List ℕ → Message → Type 0
 Sides s m =
     ((m .callerfire .end + 7 ≡ length (callerAddressOf s m)) × (m .calleefire .end + 7 ≡ length (calleeAddressOf s m)))
-    × (((length (callerAddressOf s m) ≤ 64) × (length (calleeAddressOf s m) ≤ 64))
+    × (((length (callerAddressOf s m) ≤ 45) × (length (calleeAddressOf s m) ≤ 45))
     × ((userRule (userOf s m) ≡ true) × ((fireRule (callerFireOf s m) ≡ true) × (fireRule (calleeFireOf s m) ≡ true))))
 
 -- A request or a response that passed the run of its tag, and whose sides differ.

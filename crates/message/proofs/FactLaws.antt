@@ -1,7 +1,7 @@
 -- What is read of a message: the bounds of a method's code, the tag of a setting, and the message by its parts. Assumes nothing.
 use Prim.Native.Nat.{ℕ, _+_, _<_}
-use Rattle.fields.proofs.GatherLaws.{from-few}
-use Rattle.message.proofs.PartyLaws.{sorted-is, sorted-span}
+use Rattle.rules.proofs.NameLaws.{place-below}
+use Rattle.message.proofs.PartyLaws.{sorted-is}
 use Rattle.message.specs.Message.{methodIn, settingOf, callerIn, fromCaller}
 use Rattle.message.specs.Message.{secureOf, callerPlace, calleePlace, messageOf}
 use Rattle.fields.specs.Trail.{moved}
@@ -25,7 +25,7 @@ use native.Mathlib.Omega.{arith}
 
 method-small : (t : List ℕ) → cseqMethod t < 9
 unfolding cseqMethod
-method-small t = from-few methods 1 (drop (numberEnd t + 1) t) (omega arith)
+method-small t = omega (arith, place-below methods (drop (numberEnd t + 1) t))
 
 by-rule : (b : Bool) (t : List ℕ) → methodIn (cond b (Of (cseqNumber t) (cseqMethod t)) Broken) < 9
 by-rule true t = method-small t
@@ -91,8 +91,8 @@ module _ (s : List ℕ) (k : Setting) (t : List ℕ) {x : Facts} (h : FactsOf s 
           h .coded,
           h .sent,
           h .meant,
-          sorted-span s y i j,
-          sorted-span s y j i,
-          sorted-is s y i j,
-          sorted-is s y j i,
+          sorted-is (spellingSpan s) y i j,
+          sorted-is (spellingSpan s) y j i,
+          sorted-is (λ (v : ℕ). addressOf (textAt s v)) y i j,
+          sorted-is (λ (v : ℕ). addressOf (textAt s v)) y j i,
         )

@@ -1,6 +1,6 @@
 -- What stands in a text, and laws of `same` and `before`: what the tests mean, and one byte at a time for the loops. Assumes nothing.
 use Prim.Native.Nat.{ℕ, zero, suc, _≤_, _<_, _+_, _-_}
-use Rattle.octets.proofs.TestLaws.{and-parts}
+use Rattle.octets.proofs.TestLaws.{and-parts, fails}
 use Rattle.octets.specs.Text.{same, standsAt, before}
 use borrow.Author.Tests.{eq-eqb, ne-eqb, eqb-true}
 use lib.Dec.{eqb, eqb·suc-zero}
@@ -39,11 +39,7 @@ pub eq-same : (a b : List ℕ) → a ≡ b → same a b ≡ true
 eq-same a b e = rw e (same-self b)
 
 pub ne-same : (a b : List ℕ) → (a ≡ b → ⊥) → same a b ≡ false
-ne-same a b ne = go (same a b) refl
-  where
-    go : (t : Bool) → same a b ≡ t → same a b ≡ false
-    go true e = absurd (ne (same-eq a b e))
-    go false e = e
+ne-same a b ne = fails (same a b) (λ e. ne (same-eq a b e))
 
 -- texts of two lengths differ
 pub length-same : (a b : List ℕ) → (length a ≡ length b → ⊥) → same a b ≡ false

@@ -1,5 +1,6 @@
--- A text that keeps a rule is plain, ASCII with no backslash, and shorter than 256 bytes: so each class is, each fixed word and each number, and none of
--- these rules ends in free text. The two that do are plain in front, and look no further. Whoever has asked the rule need not look for an escape.
+-- A text that keeps a rule is plain, of bytes that stand for themselves in a JSON string, and shorter than 256 bytes: so each class is, each fixed word and
+-- each number, and none of these rules ends in free text. The two that do are plain in front, and look no further. Whoever has asked the rule need not look
+-- for an escape, and may write the text as it is.
 -- Assumes nothing.
 use Prim.Native.Nat.{_*_, _+_, _-_, _<_, _≤_, suc, zero, ℕ}
 use mathlib.Core.Bool.{Bool, _&&_, _||_, cond, false, not, true}
@@ -7,12 +8,12 @@ use mathlib.Core.List.{List, _∷_, []}
 use mathlib.Core.Logic.{_⊎_, inl, inr}
 use mathlib.Core.Path.{_∙_, _≡_, ap, refl, sym}
 use native.Mathlib.Omega.{arith}
-use borrow.Author.Tests.{eq-eqb, eqb-false, eqb-true, leb-false, leb-true, lt-ltb, ltb-true, ne-eqb, not-true}
+use borrow.Author.Tests.{eq-eqb, eqb-false, eqb-true, le-leb, leb-false, leb-true, ltb-true, ne-eqb, not-true}
 use lib.Dec.{eqb, leb, ltb}
 use lib.ListN.{drop, drop-of-length-le, getD, length, length-drop, length-take, take, take-append-drop}
 use lib.Seq.{drop-cons, drop-drop, drop-length, getD-drop, getD-take, take-take}
 use Rattle.octets.proofs.ClassLaws.{all-append, among-in, digit-in}
-use Rattle.octets.proofs.TestLaws.{Either, and-parts, clash, either, or-split}
+use Rattle.octets.proofs.TestLaws.{Either, and-parts, either, or-split}
 use Rattle.octets.proofs.TextLaws.{same-eq, there}
 use Rattle.octets.specs.Ascii.{ascii}
 use Rattle.octets.specs.Class.{all, among, isAlnum, isDigit, isLetter, isLower, isUpper}
@@ -29,9 +30,23 @@ use Rattle.rules.specs.Texts.{callIdRule, deskRule, destinationRule, fir
 use Rattle.rules.specs.declared.classes.Class.{Class}
 use Rattle.rules.specs.declared.classes.Class.the-variants.{Alnum, Digit, Fire, Graphic, Label, Lower, Name, Small}
 
--- an ASCII byte that is no backslash
+-- a byte that stands for itself in a JSON string: printable ASCII, no quote and no backslash
 unfoldable pub isPlain : ℕ → Bool
-isPlain b = ltb b 128 && not (eqb b 92)
+isPlain b = (leb 32 b && leb b 126) && (not (eqb b 34) && not (eqb b 92))
+
+pub record PlainByte (b : ℕ) : Type 0 where
+  pub low : 32 ≤ b
+  pub high : b ≤ 126
+  pub quote : eqb b 34 ≡ false
+  pub slash : eqb b 92 ≡ false
+
+pub plain-byte : (b : ℕ) → isPlain b ≡ true → PlainByte b
+unfolding isPlain
+plain-byte b e =
+    let p = and-parts (leb 32 b && leb b 126) (not (eqb b 34) && not (eqb b 92)) e in
+    let q = and-parts (leb 32 b) (leb b 126) (p .0) in
+    let r = and-parts (not (eqb b 34)) (not (eqb b 92)) (p .1) in
+    record { low = leb-true 32 b (q .0); high = leb-true b 126 (q .1); quote = not-true _ (r .0); slash = not-true _ (r .1) }
 
 -- what keeps the rule is plain and short: Via's host is the longest, 253
 pub record Plain (rule : List ℕ → Bool) : Type 0 where
@@ -40,64 +55,66 @@ pub record Plain (rule : List ℕ → Bool) : Type 0 where
 
 -- Classes.
 
-no-slash : (c : Class) → holds c 92 ≡ false
-unfolding holds isAlnum isDigit isLetter isLower isUpper among
-no-slash Digit = refl
-no-slash Lower = refl
-no-slash Small = refl
-no-slash Alnum = refl
-no-slash Fire = refl
-no-slash Name = refl
-no-slash Label = refl
-no-slash Graphic = refl
+-- a test that none but plain bytes pass
+abbrev Passes : (ℕ → Bool) → Type 0
+Passes f = (b : ℕ) → f b ≡ true → isPlain b ≡ true
 
--- a test that none but ASCII bytes pass
-abbrev Low : (ℕ → Bool) → Type 0
-Low f = (b : ℕ) → f b ≡ true → b < 128
+-- a range behind the quote that the backslash is not in
+range-plain : (lo hi : ℕ) → 34 < lo → hi < 127 → (lo ≤ 92 → hi < 92) → Passes (among lo hi)
+unfolding isPlain
+range-plain lo hi h g k b e =
+    let r = among-in lo hi b e in
+    rw (
+      le-leb 32 b (omega (arith, r .0)),
+      le-leb b 126 (omega (arith, r .1)),
+      ne-eqb b 34 (λ z. omega (arith, r .0)),
+      ne-eqb b 92 (λ z. let l = k (omega (arith, r .0)) in omega (arith, r .1)),
+    )
 
-range-low : (lo hi : ℕ) → hi < 128 → Low (among lo hi)
-range-low lo hi h b e = omega (arith, among-in lo hi b e .1)
+byte-plain : (k : ℕ) → isPlain k ≡ true → Passes (λ b. eqb b k)
+byte-plain k p b e = rw (eqb-true b k e) p
 
-byte-low : (k : ℕ) → k < 128 → Low (λ b. eqb b k)
-byte-low k h b e = omega (arith, eqb-true b k e)
-
-either-low : (f g : ℕ → Bool) → Low f → Low g → Low (λ b. f b || g b)
-either-low f g p q b e = by (or-split (f b) (g b) e)
+either-plain : (f g : ℕ → Bool) → Passes f → Passes g → Passes (λ b. f b || g b)
+either-plain f g p q b e = by (or-split (f b) (g b) e)
   where
-    by : (f b ≡ true) ⊎ (g b ≡ true) → b < 128
+    by : (f b ≡ true) ⊎ (g b ≡ true) → isPlain b ≡ true
     by (inl h) = p b h
     by (inr h) = q b h
 
-digit-low : Low isDigit
+digit-plain : Passes isDigit
 unfolding isDigit
-digit-low = range-low 48 57 (omega arith)
+digit-plain = range-plain 48 57 (omega arith) (omega arith) (λ h. omega arith)
 
-lower-low : Low isLower
+lower-plain : Passes isLower
 unfolding isLower
-lower-low = range-low 97 122 (omega arith)
+lower-plain = range-plain 97 122 (omega arith) (omega arith) (λ h. absurd (omega arith))
 
-upper-low : Low isUpper
+upper-plain : Passes isUpper
 unfolding isUpper
-upper-low = range-low 65 90 (omega arith)
+upper-plain = range-plain 65 90 (omega arith) (omega arith) (λ h. omega arith)
 
-alnum-low : Low isAlnum
+alnum-plain : Passes isAlnum
 unfolding isAlnum isLetter
-alnum-low = either-low isDigit _ digit-low (either-low isLower isUpper lower-low upper-low)
+alnum-plain = either-plain isDigit _ digit-plain (either-plain isLower isUpper lower-plain upper-plain)
 
-class-low : (c : Class) → Low (holds c)
-unfolding holds
-class-low Digit = digit-low
-class-low Lower = lower-low
-class-low Small = either-low isLower isDigit lower-low digit-low
-class-low Alnum = alnum-low
-class-low Fire = either-low isLower _ lower-low (either-low isDigit _ digit-low (byte-low 95 (omega arith)))
-class-low Name = either-low isAlnum _ alnum-low (either-low _ _ (byte-low 45 (omega arith)) (byte-low 46 (omega arith)))
-class-low Label = either-low isAlnum _ alnum-low (byte-low 45 (omega arith))
-class-low Graphic = λ b e. range-low 33 126 (omega arith) b (and-parts (among 33 126 b) _ e .0)
+-- printable, without the quote and the backslash
+graphic-plain : Passes (holds Graphic)
+unfolding holds isPlain
+graphic-plain b e =
+    let p = and-parts (among 33 126 b) (not (eqb b 34) && not (eqb b 92)) e in
+    let r = among-in 33 126 b (p .0) in
+    rw (le-leb 32 b (omega (arith, r .0)), le-leb b 126 (r .1)) (p .1)
 
-class-plain : (c : Class) (b : ℕ) → holds c b ≡ true → isPlain b ≡ true
-unfolding isPlain
-class-plain c b e = rw (lt-ltb b 128 (class-low c b e), ne-eqb b 92 (λ z. clash (rw z at e) (no-slash c)))
+class-plain : (c : Class) → Passes (holds c)
+unfolding holds isPlain
+class-plain Digit = digit-plain
+class-plain Lower = lower-plain
+class-plain Small = either-plain isLower isDigit lower-plain digit-plain
+class-plain Alnum = alnum-plain
+class-plain Fire = either-plain isLower _ lower-plain (either-plain isDigit _ digit-plain (byte-plain 95 refl))
+class-plain Name = either-plain isAlnum _ alnum-plain (either-plain _ _ (byte-plain 45 refl) (byte-plain 46 refl))
+class-plain Label = either-plain isAlnum _ alnum-plain (byte-plain 45 refl)
+class-plain Graphic = graphic-plain
 
 -- as many bytes of a class as there are
 run-plain : (c : Class) (l : List ℕ) → all isPlain l ≡ all isPlain (drop (runLength c l) l)
@@ -179,15 +196,15 @@ fixed-plain w s at e h =
     ∙ rw (q, e) (ap (all isPlain) (drop-drop k at s))
 
 -- each word of a list is plain and short
-abbrev pub Words : List (List ℕ) → Type 0
-Words [] = Unit
-Words (w ∷ ws) = ((all isPlain w && ltb (length w) 256) ≡ true) × Words ws
+unfoldable pub arePlain : List (List ℕ) → Bool
+arePlain [] = true
+arePlain (w ∷ ws) = (all isPlain w && ltb (length w) 256) && arePlain ws
 
-word-at : (ws : List (List ℕ)) → Words ws → (j : ℕ) → (all isPlain (getD ws j []) && ltb (length (getD ws j [])) 256) ≡ true
-unfolding all
+pub word-at : (ws : List (List ℕ)) → arePlain ws ≡ true → (j : ℕ) → (all isPlain (getD ws j []) && ltb (length (getD ws j [])) 256) ≡ true
+unfolding arePlain all
 word-at [] h j = refl
-word-at (w ∷ ws) h zero = h .0
-word-at (w ∷ ws) h (suc j) = word-at ws (h .1) j
+word-at (w ∷ ws) h zero = and-parts (all isPlain w && ltb (length w) 256) (arePlain ws) h .0
+word-at (w ∷ ws) h (suc j) = word-at ws (and-parts (all isPlain w && ltb (length w) 256) (arePlain ws) h .1) j
 
 -- and no longer than all of them together
 together : List (List ℕ) → ℕ
@@ -208,7 +225,7 @@ word-is ws t e P h = by (wordNumber ws t) (found ws 1 t) (ltb-true 0 (wordNumber
     by n (none z) g = absurd (omega arith)
     by n (nth j z l q) g = rw q (h j)
 
-pub word-plain : (ws : List (List ℕ)) → Words ws → Plain (λ t. ltb 0 (wordNumber ws t))
+pub word-plain : (ws : List (List ℕ)) → arePlain ws ≡ true → Plain (λ t. ltb 0 (wordNumber ws t))
 word-plain ws h = record {
   plain = λ t e. word-is ws t e (λ u. all isPlain u ≡ true) (λ j. and-parts (all isPlain (getD ws j [])) _ (word-at ws h j) .0);
   short = λ t e. word-is ws t e (λ u. length u < 256) (λ j. ltb-true (length (getD ws j [])) 256 (and-parts (all isPlain (getD ws j [])) _ (word-at ws h j) .1));
@@ -222,7 +239,7 @@ Closed (fixed w) = all isPlain w ≡ true
 Closed (run lo hi c e) = Unit
 Closed (number n lo hi) = Unit
 Closed (count hi) = hi < 10000000000
-Closed (word ws) = Words ws
+Closed (word ws) = arePlain ws ≡ true
 Closed free = ⊥
 
 abbrev AllClosed : List Piece → Type 0
@@ -296,9 +313,8 @@ one-of-two f g a b = record {
     by t P (inr h) p q = q h
 
 pub sequence-plain : Plain sequenceRule
-unfolding sequenceRule all isPlain mostOf most together
-sequence-plain =
-    pieces-plain _ (omega arith, (refl, ((refl, (refl, (refl, (refl, (refl, (refl, (refl, (refl, tt)))))))), tt))) refl
+unfolding sequenceRule all isPlain arePlain mostOf most together
+sequence-plain = pieces-plain _ (omega arith, (refl, (refl, tt))) refl
 
 pub caller-plain : Plain callerRule
 unfolding callerRule all isPlain mostOf most
@@ -307,6 +323,15 @@ caller-plain = pieces-plain _ (refl, (tt, (refl, (tt, (refl, tt))))) refl
 pub callee-plain : Plain calleeRule
 unfolding calleeRule all isPlain mostOf most
 callee-plain = pieces-plain _ (refl, (tt, (refl, tt))) refl
+
+-- and how long they are at most
+pub caller-short : (t : List ℕ) → callerRule t ≡ true → length t ≤ 45
+unfolding callerRule all isPlain mostOf most
+caller-short t e = reads-short _ (refl, (tt, (refl, (tt, (refl, tt))))) t 0 e
+
+pub callee-short : (t : List ℕ) → calleeRule t ≡ true → length t ≤ 34
+unfolding calleeRule all isPlain mostOf most
+callee-short t e = reads-short _ (refl, (tt, (refl, tt))) t 0 e
 
 -- the day's greatest number goes by the text, but not a piece's length
 date-closed : (last : ℕ) → AllClosed (date last)
@@ -383,7 +408,7 @@ module _ (k : ℕ) (s : List ℕ) (at : ℕ) where
   value-front zero h = refl
   value-front (suc n) h = rw (value-front n (omega arith), getD-take k s (at + n) 0 (omega arith))
 
-pub code-value : (t : List ℕ) → decimalAt 3 t 0 ≡ decimalAt 3 (take 4 t) 0
+code-value : (t : List ℕ) → decimalAt 3 t 0 ≡ decimalAt 3 (take 4 t) 0
 code-value t = value-front 4 t 0 3 (omega arith)
 
 status-alike : (t : List ℕ) → statusRule t ≡ statusRule (take 4 t)

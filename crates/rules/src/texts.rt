@@ -103,7 +103,7 @@ pub fn is_image(s: &[u8]) -> bool
     stands_at(s, 0, b"https://")
 }
 
-// Refer-Memo: any text but for its line breaks, which are single bytes in UTF-8.
+// Refer-Memo: at most 128 code points, and no line break, which is a single byte in UTF-8.
 pub fn is_memo(s: &[u8]) -> bool
     ensures { λ r. ⌜ r ≡ memoRule (now (s .entry)) ⌝ }
 {

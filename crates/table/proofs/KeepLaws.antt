@@ -14,7 +14,7 @@ use Rattle.table.proofs.ImageLaws.{length-record, length-with, with-sam
 use Rattle.table.proofs.RecordLaws.{slots, length-slots, length-texts, length-withFields, length-newRecord}
 use Rattle.table.proofs.SearchLaws.{all-every, every-at}
 use Rattle.table.proofs.SlotLaws.{length-slot}
-use Rattle.table.proofs.SoundLaws.{record-used}
+use Rattle.table.proofs.SoundLaws.{record-used, texts-of}
 use Rattle.table.specs.Blank.{blankOf}
 use Rattle.table.specs.Image.{recordCount, headerOf, recordAt, withRecord, freeRecord, recordSize, headerSize}
 use Rattle.table.specs.Record.{callIdAt, callIdRoom, recordCallId, recordUser, recordCallerFire, recordCalleeFire, roomText, recordFields, textsOf, slotOf, withFields}
@@ -23,7 +23,7 @@ use Rattle.table.specs.Record.{isFree, isNamed, sameParties}
 use Rattle.table.specs.WellFormed.{padded, slotSound, textsSound, fieldsSound, spareSound, usedSound, recordSound, apart, apartBefore, distinct, frameSound, recordsSound}
 use Rattle.table.specs.WellFormed.{wellFormed}
 use Rattle.table.specs.declared.numbers.Fields.{Fields}
-use borrow.Author.Tests.{eq-eqb, ne-eqb}
+use borrow.Author.Tests.{eq-eqb, ne-eqb, not-true}
 use lib.Dec.{eqb}
 use lib.ListN.{length, getD, take, drop, replicate, length-append, length-replicate, replicate-append-replicate}
 use lib.Seq.{take-at, drop-at, drop-append-add}
@@ -78,11 +78,9 @@ module _ (r : List ℕ) (f : Fields) (e : length r ≡ recordSize) where
   unfolding usedSound
   stored-sound u g k =
       let x : length (textsOf r) ≡ 113 = length-texts r e in
-      let t : textsSound r ≡ true =
-      and-right (spareSound r) (textsSound r) (and-right (fieldsSound (recordFields r)) (spareSound r && textsSound r) u) in
       let v : textsSound (withFields r f) ≡ textsSound r =
       sym (texts-own (withFields r f)) ∙ ap ownSound (texts-read f (textsOf r) x) ∙ texts-own r in
-      and-both (ap fieldsSound (fields-stored k) ∙ g) (and-both (spare-zero f (textsOf r) x) (v ∙ t))
+      and-both (ap fieldsSound (fields-stored k) ∙ g) (and-both (spare-zero f (textsOf r) x) (v ∙ texts-of r u))
 
 -- a new record holds the texts and the numbers that it was made from
 module _ (callId user callerFire calleeFire : List ℕ) (f : Fields) (h1 : length callId ≤ 64) (h2 : length user ≤ 15)
@@ -233,20 +231,21 @@ apart-swap r s = rw (same-swap (recordCallId r) (recordCallId s)) (go (isFree r)
     go false true c = refl
     go false false c = refl
 
+-- the record that is named is in use, and has the name
+pub named-used : (id r : List ℕ) → isNamed id r ≡ true → isFree r ≡ false
+unfolding isNamed
+named-used id r e = not-true (isFree r) (and-left (not (isFree r)) _ e)
+
+pub named-is : (id r : List ℕ) → isNamed id r ≡ true → recordCallId r ≡ id
+unfolding isNamed
+named-is id r e = same-eq (recordCallId r) id (and-right (not (isFree r)) _ e)
+
 -- two records of one call are not apart
 pub named-apart : (id r s : List ℕ) → apart r s ≡ true → isNamed id r ≡ true → isNamed id s ≡ true → ⊥
-unfolding apart isNamed
-named-apart id r s e p q = go (either (isFree r)) (either (isFree s))
-  where
-    go : Either (isFree r) → Either (isFree s) → ⊥
-    go (inl a) b = clash refl (sym (rw a at p))
-    go (inr a) (inl b) = clash refl (sym (rw b at q))
-    go (inr a) (inr b) =
-        let m : same (recordCallId r) id ≡ true = rw a at p in
-        let n : same (recordCallId s) id ≡ true = rw b at q in
-        let w : same (recordCallId r) (recordCallId s) ≡ true =
-        eq-same (recordCallId r) (recordCallId s) (same-eq (recordCallId r) id m ∙ sym (same-eq (recordCallId s) id n)) in
-        clash refl (sym (rw (a, b, w) at e))
+unfolding apart
+named-apart id r s e p q =
+    let w : same (recordCallId r) (recordCallId s) ≡ true = eq-same (recordCallId r) (recordCallId s) (named-is id r p ∙ sym (named-is id s q)) in
+    clash refl (sym (rw (named-used id r p, named-used id s q, w) at e))
 
 -- a record whose Call-ID is not that of another is apart from it
 other-apart : (r s id : List ℕ) → recordCallId r ≡ id → isNamed id s ≡ false → apart r s ≡ true
@@ -320,11 +319,10 @@ module _ (t : List ℕ) (w : wellFormed t ≡ true) where
   fields-of k h e = and-left (fieldsSound (recordFields (recordAt t k))) _ (sound-used (recordAt t k) (record-of k h) e)
 
   pub call-id-of : (k : ℕ) → k < recordCount t → isFree (recordAt t k) ≡ false → callIdRule (recordCallId (recordAt t k)) ≡ true
-  unfolding usedSound textsSound slotSound
+  unfolding textsSound slotSound
   call-id-of k h e =
       let r = recordAt t k in
-      let x : textsSound r ≡ true = and-right (spareSound r) _ (and-right (fieldsSound (recordFields r)) _ (sound-used r (record-of k h) e)) in
-      and-right (padded callIdAt callIdRoom r) _ (and-left (slotSound callIdRule callIdAt callIdRoom r) _ x)
+      and-right (padded callIdAt callIdRoom r) _ (and-left (slotSound callIdRule callIdAt callIdRoom r) _ (texts-of r (sound-used r (record-of k h) e)))
 
 -- A record replaced.
 

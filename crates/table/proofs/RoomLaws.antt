@@ -8,9 +8,10 @@ use Rattle.octets.proofs.TestLaws.{clash, and-left, and-right, Either, either}
 use Rattle.rules.specs.Texts.{callIdRule}
 use Rattle.table.proofs.ImageLaws.{length-record}
 use Rattle.table.proofs.SearchLaws.{every-at}
+use Rattle.table.proofs.SoundLaws.{texts-of}
 use Rattle.table.specs.Image.{recordAt, recordSize, recordCount}
-use Rattle.table.specs.Record.{callIdAt, callIdRoom, recordFields, isFree, roomAt, roomText}
-use Rattle.table.specs.WellFormed.{apart, fieldsSound, isZero, padded, recordSound, recordsSound, slotSound, spareSound, textsSound, usedSound, zeros}
+use Rattle.table.specs.Record.{callIdAt, callIdRoom, isFree, roomAt, roomText}
+use Rattle.table.specs.WellFormed.{apart, isZero, padded, recordSound, recordsSound, slotSound, textsSound, usedSound, zeros}
 use borrow.Author.Tests.{eqb-true, leb-true}
 use lib.Dec.{eqb, leb}
 use lib.ListN.{length, getD, take, drop, replicate, length-drop, take-append-drop}
@@ -105,9 +106,7 @@ record-padded r l e = go (either (zeros r))
     go (inl w) = let z : r ≡ replicate 160 0 = zeros-are r w ∙ ap (λ (n : ℕ). replicate n 0) l in rw z
     go (inr w) =
         let u : usedSound r ≡ true = rw w at e in
-        let t : textsSound r ≡ true = and-right (spareSound r) _ (and-right (fieldsSound (recordFields r)) _ u) in
-        let c : slotSound callIdRule 1 64 r ≡ true = and-left (slotSound callIdRule 1 64 r) _ t in
-        and-left (padded 1 64 r) _ c
+        and-left (padded 1 64 r) _ (and-left (slotSound callIdRule 1 64 r) _ (texts-of r u))
 
 pub call-id-padded : (t : List ℕ) (k : ℕ) {r : List ℕ} → recordsSound t ≡ true → k < recordCount t → r ≡ recordAt t k
     → padded callIdAt callIdRoom r ≡ true

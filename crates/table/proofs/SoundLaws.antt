@@ -7,7 +7,7 @@ use Rattle.octets.specs.Text.{same}
 use Rattle.octets.proofs.TestLaws.{and-left, and-right}
 use Rattle.table.specs.Image.{recordCount, headerOf}
 use Rattle.table.specs.Record.{recordFields}
-use Rattle.table.specs.WellFormed.{zeros, fieldsSound, usedSound, recordSound, recordsSound, distinct, frameSound, wellFormed}
+use Rattle.table.specs.WellFormed.{zeros, fieldsSound, spareSound, textsSound, usedSound, recordSound, recordsSound, distinct, frameSound, wellFormed}
 use borrow.Author.Tests.{eq-eqb, ne-eqb}
 use lib.Dec.{eqb}
 use lib.ListN.{length, getD, take}
@@ -47,6 +47,10 @@ not-zeros : (r : List ℕ) → (getD r 0 0 ≡ 0 → ⊥) → zeros r ≡ false
 unfolding all
 not-zeros [] ne = absurd (ne refl)
 not-zeros (x ∷ r) ne = rw (ne-eqb x 0 ne)
+
+pub texts-of : (r : List ℕ) → usedSound r ≡ true → textsSound r ≡ true
+unfolding usedSound
+texts-of r u = and-right (spareSound r) _ (and-right (fieldsSound (recordFields r)) _ u)
 
 pub record-used : (r : List ℕ) {b : Bool} → (getD r 0 0 ≡ 0 → ⊥) → b ≡ usedSound r → b ≡ recordSound r
 unfolding recordSound

@@ -1,7 +1,7 @@
 -- Our entry is an object that stands by itself (`entry-piece`), and it is an object of Via with our three texts (`entry-hop`). Assumes nothing.
 use Rattle.octets.proofs.TestLaws.{and-parts}
 use Prim.Native.Nat.{ℕ}
-use Rattle.escapes.proofs.PlainLaws.{plain-text, plain-whole}
+use Rattle.escapes.proofs.PlainLaws.{plain-text, plain-unescaped, plain-whole}
 use Rattle.escapes.specs.Rfc7159.{isBroken, letterOf, lettersFrom, lone, spelt, text, took}
 use Rattle.frame.proofs.Compact.{Pair, Sounds, told, compact, pairText, pairsText, compact-members, compact-piece}
 use Rattle.frame.proofs.Standing.{Piece}
@@ -12,12 +12,14 @@ use Rattle.fields.specs.Value.{isString, spellingOf, textOf, ruled, wordSpelled
 use Rattle.fields.specs.Via.{hopRule, isHop}
 use Rattle.octets.specs.Ascii.{ascii}
 use Rattle.octets.specs.Text.{same}
+use Rattle.octets.specs.Class.{all}
+use Rattle.rules.proofs.PlainLaws.{isPlain, destination-plain, host-plain, organization-plain}
 use Rattle.rules.specs.Names.{hopMembers}
 use Rattle.rules.specs.Pieces.{wordNumberFrom}
 use Rattle.rules.specs.Texts.{hostRule, destinationRule, organizationRule}
 use Rattle.message.proofs.HopPairs.{HopBy, three, pairs-hop}
 use Rattle.message.proofs.PairLaws.{found, valueIn, doubled}
-use Rattle.writing.proofs.PlainLaws.{Plain, plain-plainly, plain-unescaped, host-plain, destination-plain, organization-plain}
+use Rattle.writing.proofs.WordLaws.{plain-plainly}
 use Rattle.writing.specs.Adding.{entry, pathRule}
 use lib.ListN.{getD}
 use mathlib.Core.Bool.{Bool, true, _&&_}
@@ -42,15 +44,15 @@ unfolding entry pairsText pairText
 entry-compact h d o = rw (quoted h, quoted d, quoted o)
 
 -- a plain text in quotes, read
-quoted-spelling : (x : List ℕ) → Plain x → spellingOf (inQuotes x) ≡ x
+quoted-spelling : (x : List ℕ) → all isPlain x ≡ true → spellingOf (inQuotes x) ≡ x
 unfolding spellingOf
 quoted-spelling x p = name-is (inQuotes x) x [] 0 (plain-name x (plain-plainly x p) .listed) refl
 
-pub quoted-text : (x : List ℕ) → Plain x → textOf (inQuotes x) ≡ x
+pub quoted-text : (x : List ℕ) → all isPlain x ≡ true → textOf (inQuotes x) ≡ x
 unfolding textOf
 quoted-text x p = ap text (quoted-spelling x p) ∙ plain-text x (plain-unescaped x p)
 
-pub quoted-ruled : (rule : List ℕ → Bool) (x : List ℕ) → Plain x → rule x ≡ true → ruled rule (inQuotes x) ≡ true
+pub quoted-ruled : (rule : List ℕ → Bool) (x : List ℕ) → all isPlain x ≡ true → rule x ≡ true → ruled rule (inQuotes x) ≡ true
 unfolding ruled isString
 quoted-ruled rule x p e = rw (quoted-text x p, quoted-spelling x p, plain-whole x (plain-unescaped x p), e)
 
@@ -61,8 +63,8 @@ module _ (h d o : List ℕ) (k : pathRule h d o ≡ true) where
       let p = and-parts (hostRule h) (destinationRule d && organizationRule o) k in
       (p .0, and-parts (destinationRule d) (organizationRule o) (p .1))
 
-  pub plain-path : Plain h × (Plain d × Plain o)
-  plain-path = (host-plain h (rules-kept .0), (destination-plain d (rules-kept .1 .0), organization-plain o (rules-kept .1 .1)))
+  pub plain-path : (all isPlain h ≡ true) × ((all isPlain d ≡ true) × (all isPlain o ≡ true))
+  plain-path = (host-plain .plain h (rules-kept .0), (destination-plain .plain d (rules-kept .1 .0), organization-plain .plain o (rules-kept .1 .1)))
 
   sounds : Sounds 4 (hostPair h) (destinationPair d ∷ organizationPair o ∷ [])
   unfolding plainly

@@ -7,7 +7,6 @@ pub mod ForwardTheorems
 pub mod ObjectLaws
 pub mod OutcomeLaws
 pub mod PartLaws
-pub mod PlainLaws
 pub mod PutLaws
 pub mod Refusals
 pub mod ReplyLaws

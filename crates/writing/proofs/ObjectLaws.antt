@@ -10,16 +10,15 @@ use Rattle.frame.proofs.Standing.{Val, Piece, piece-bytes}
 use Rattle.frame.proofs.Written.{Named, body-append}
 use Rattle.json.proofs.Listing.{Item, items, values, readAll, at-byte, at-next, ws-44, ws-93, more-on, more-off, item-read, elements-at, array-long, object-read}
 use Rattle.json.proofs.ScanLaws.{Opener, Opened}
-use Rattle.json.specs.Places.{behind, bytes, past, follows, members, elementsFrom, elements, spell}
+use Rattle.json.specs.Places.{bytes, past, follows, members, elementsFrom, elements, spell}
 use Rattle.fields.specs.Hop.{hopOf, hostOf}
 use Rattle.fields.specs.Spans.{spellingAt}
-use Rattle.fields.specs.Value.{isArray, isString, spellingOf, ruled}
-use Rattle.fields.specs.Via.{hopPlaces, hopRule, isHop, viaRule}
+use Rattle.fields.specs.Value.{isArray, spellingOf}
+use Rattle.fields.specs.Via.{hopPlaces, isHop, viaRule}
 use Rattle.octets.proofs.ClassLaws.{among-in, in-among}
 use Rattle.octets.proofs.TestLaws.{and-parts}
 use Rattle.octets.specs.Class.{among, all}
 use Rattle.rules.specs.Names.{hopMembers}
-use Rattle.writing.proofs.ChangeLaws.{first-byte}
 use Rattle.message.proofs.HopPairs.{HopBy, hop-few, hop-pairs, pairs-hop}
 use Rattle.message.proofs.PairLaws.{found, valueIn, late-members, by-once, noted-by}
 use borrow.Author.Tests.{eq-eqb, eqb-true}
@@ -132,10 +131,6 @@ host-as : (v : List ℕ) → HopBy (map (spell v) (members v 0)) → hostOf v �
 unfolding hostOf hopOf spellingAt
 host-as v b = rw (by-once hopMembers hop-few v (members v 0) (b .once)) (ap spellingOf (host-value v 0 b))
 
-string-there : (s : List ℕ) (p : ℕ) (n : ℕ) → ruled (hopRule n) (bytes s p) ≡ true → p < length s
-unfolding ruled isString
-string-there s p n e = there s p 33 (first-byte s p (behind s p) 33 (eqb-true _ 34 (and-parts (eqb (getD (bytes s p) 0 0) 34) _ e .0)))
-
 module _ (d : ℕ) (s : List ℕ) (q : ℕ) (w : Stands d s q) (h : isHop s q ≡ true) where
   host-by : (r : List ℕ) → w .v ≡ 123 ∷ r → spellingAt s (getD (hopPlaces s q) 1 0) ≡ hostOf (w .v)
   unfolding spellingAt
@@ -151,9 +146,6 @@ module _ (d : ℕ) (s : List ℕ) (q : ℕ) (w : Stands d s q) (h : isHop s q �
   host-own =
       let b = braced (w .v) (front-byte (w .v) (w .t) s q (w .piece .opened) (w .is) ∙ hop-pairs s q h .0) in
       rw (own-bytes d s q w) (host-by (b .0) (b .1))
-
-  pub host-there : getD (hopPlaces s q) 1 0 < length s
-  host-there = let b = hop-pairs s q h .1 in string-there s (getD (hopPlaces s q) 1 0) 1 (rw (host-value s q b) (b .kept 1 (omega arith) (omega arith)))
 
 -- Objects of Via, each by its own bytes.
 abbrev pub AllHops : List (List ℕ) → Type 0

@@ -42,10 +42,11 @@ use Rattle.writing.proofs.StandingLaws.{via-member}
 use Rattle.writing.proofs.ObjectLaws.{all-open}
 use Rattle.writing.proofs.OutcomeLaws.{stood, Replied, was-replied, was-added, was-taken, written-front}
 use Rattle.message.proofs.PairLaws.{found, valueIn, doubled, Nth, nth-one, late-members, by-once, noted-by, where-is}
-use Rattle.writing.proofs.PlainLaws.{plain-plainly, plain-ascii}
+use Rattle.escapes.proofs.PlainLaws.{plain-ascii}
+use Rattle.rules.proofs.PlainLaws.{date-plain}
 use Rattle.writing.proofs.PutLaws.{reply-long}
 use Rattle.writing.proofs.ReplyLaws.{copiedRule, status₇, rest₇, Shown, reply-shape, replyAhead, reply-split, ahead-long, text-field, Copied, copied-text, copied-via}
-use Rattle.writing.proofs.WordLaws.{date-plain, status-plain, status-kept, status-code}
+use Rattle.writing.proofs.WordLaws.{plain-plainly, status-plain, status-kept, status-code}
 use Rattle.writing.specs.Adding.{entry, adding}
 use Rattle.writing.specs.Outcome.{write, Writes}
 use Rattle.writing.specs.Removing.{removing, hostIn, Took}
@@ -160,7 +161,7 @@ module _ {s t : List ℕ} (a : Accepted s 1 t) (code : ℕ) (date : List ℕ) (o
   unfoldable shown : Shown text (statusText code) v₁ v₂ v₃ v₅ date v₆
   shown =
       reply-shape (statusText code) v₁ v₂ v₃ v₅ date v₆ (plain-plainly (statusText code) (status-plain code)) (c₁ .0 .piece) (c₂ .0 .piece) (c₃ .0 .piece) (c₅ .0 .piece)
-      (plain-plainly date (date-plain date day)) (c₆ .piece)
+      (plain-plainly date (date-plain .plain date day)) (c₆ .piece)
 
   abbrev seven₀ : List (List ℕ × List ℕ)
   seven₀ = readAll (status₇ (statusText code) v₁ v₂ v₃ v₅ date v₆ ∷ rest₇ (statusText code) v₁ v₂ v₃ v₅ date v₆)
@@ -225,7 +226,7 @@ module _ {s t : List ℕ} (a : Accepted s 1 t) (code : ℕ) (date : List ℕ) (o
       (rw value₁ (text-field (firstSetting 2) 1 v₁ (inl refl) ∙ c₁ .1))
       (rw value₂ (text-field (firstSetting 2) 2 v₂ (inr (inl refl)) ∙ c₂ .1))
       (rw value₃ (text-field (firstSetting 2) 3 v₃ (inr (inr (inl refl))) ∙ c₃ .1))
-      (rw value₄ (date-field (inQuotes date) ∙ quoted-ruled dateRule date (date-plain date day) day))
+      (rw value₄ (date-field (inQuotes date) ∙ quoted-ruled dateRule date (date-plain .plain date day) day))
       (rw value₅ (text-field (firstSetting 2) 5 v₅ (inr (inr (inr refl))) ∙ c₅ .1))
       (rw value₆ (via-keeps (firstSetting 2) v₆ ∙ kept-via a))
       (rw value₇ (status-field (inQuotes (statusText code)) ∙ kept₇))
@@ -287,7 +288,7 @@ module _ {s t : List ℕ} (a : Accepted s 1 t) (code : ℕ) (date : List ℕ) (o
         (join (ascii ",\"Call-ID\":") _ (ascii-good _ refl)
         (join v₅ _ (c₅ .0 .utf)
         (join (ascii ",\"Date\":\"") _ (ascii-good _ refl)
-        (join date _ (ascii-good _ (plain-ascii date (date-plain date day)))
+        (join date _ (ascii-good _ (plain-ascii date (date-plain .plain date day)))
         (join (ascii "\",\"Via\":") _ (ascii-good _ refl)
         (join v₆ _ (c₆ .utf) (ascii-good (ascii "}]") refl))))))))))))))
 

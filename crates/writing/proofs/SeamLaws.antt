@@ -9,7 +9,7 @@ use Rattle.utf8.proofs.Join.{join, cut, ascii-good}
 use Rattle.utf8.specs.Rfc3629.{verdict}
 use Rattle.utf8.specs.declared.Verdict.the-variants.{Good}
 use Rattle.writing.proofs.EntryLaws.{plain-path}
-use Rattle.writing.proofs.PlainLaws.{plain-ascii}
+use Rattle.escapes.proofs.PlainLaws.{plain-ascii}
 use Rattle.writing.specs.Adding.{entry, pathRule}
 use lib.Dec.{leb}
 use mathlib.Core.Bool.{Bool, true}

@@ -12,18 +12,16 @@ use Rattle.writing.specs.declared.answers.Refusal.the-variants.{Broken, 
 use Rattle.writing.specs.declared.answers.Written.the-variants.{Done, Refused}
 use Rattle.writing.specs.declared.answers.Written.{Written}
 use lib.ListN.{length}
+use lib.Seq.{take-all}
 use mathlib.Core.Bool.{true, false}
-use mathlib.Core.List.{List, [], _∷_}
-use mathlib.Core.Path.{_≡_, refl, sym, ap, _∙_}
+use mathlib.Core.List.{List}
+use mathlib.Core.Path.{_≡_, sym, ap, _∙_}
 use native.Mathlib.Omega.{arith}
 
 -- where there is room, all of a text is put over the front
 over-fits : (o w : List ℕ) → length w ≤ length o → over o w ≡ written o w
-unfolding over written
-over-fits [] [] h = refl
-over-fits [] (y ∷ w) h = absurd (omega arith)
-over-fits (x ∷ o) [] h = refl
-over-fits (x ∷ o) (y ∷ w) h = ap (λ (l : List ℕ). y ∷ l) (over-fits o w (omega arith))
+unfolding over
+over-fits o w h = ap (written o) (take-all (length o) w h)
 
 module _ (o s : List ℕ) {m : Measured} (e : m ≡ measureOf s) where
   broken-is : m .broken ≡ isBroken s

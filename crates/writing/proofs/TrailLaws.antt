@@ -7,7 +7,7 @@ use Rattle.frame.specs.Edit.{stopsOf}
 use Rattle.json.proofs.Listing.{Item, startsAt, stopsAt, array-starts, array-stops}
 use Rattle.json.specs.Places.{part, bytes, behind, elements, lastOf, prevOf}
 use Rattle.fields.proofs.TrailLaws.{host-within}
-use Rattle.fields.proofs.SpellingLaws.{there-cut}
+use Rattle.fields.proofs.SpellingLaws.{spelled-cut}
 use Rattle.fields.specs.Hop.{hostOf}
 use Rattle.message.specs.Message.{settingOf, messageOf}
 use Rattle.fields.specs.Spans.{cut}
@@ -21,7 +21,7 @@ use Rattle.octets.proofs.TestLaws.{and-parts}
 use Rattle.octets.specs.Class.{all}
 use Rattle.message.proofs.AcceptedRows.{Accepted, read-taken}
 use Rattle.writing.proofs.ForwardLaws.{kept-via, via-array, rest, drop-is, objects-are, items-are}
-use Rattle.writing.proofs.ObjectLaws.{Stands, AllStand, array-stand, host-own, host-there, via-is}
+use Rattle.writing.proofs.ObjectLaws.{Stands, AllStand, array-stand, host-own, via-is}
 use Rattle.writing.proofs.PartLaws.{lastIn, prior-last, part-within}
 use Rattle.writing.specs.Objects.{some}
 use lib.ListN.{length, getD, length-map}
@@ -140,7 +140,7 @@ module _ {s : List ℕ} {tag : ℕ} {t : List ℕ} (a : Accepted s tag t) where
 
     host-cut : part via (hostStart via q) (hostEnd via q) ≡ hostOf (bytes via q)
     unfolding hostSpan cut
-    host-cut = there-cut via (getD (hopPlaces via q) 1 0) (host-there 5 via q stands hop) ∙ host-own 5 via q stands hop
+    host-cut = spelled-cut via (getD (hopPlaces via q) 1 0) ∙ host-own 5 via q stands hop
 
     host-part : part s (at + prevOf (map (hostStart via) (elements via 0))) (at + prevOf (map (hostEnd via) (elements via 0))) ≡ hostOf (bytes s (prevOf (elements s at)))
     host-part =

@@ -16,11 +16,7 @@ foundOf s = cond (escaped s) (Decoded (length (text s))) Own
 unfoldable pub bufferAfter : List ℕ → List ℕ → List ℕ
 bufferAfter s o = cond (escaped s) (over o (text s)) o
 
--- what is found there, in the bytes s or in the buffer o
-abbrev pub partOf : Found → List ℕ → List ℕ → List ℕ
-partOf Own s o = s
+-- what is found there, in the bytes s or in the buffer o, and no more of s than the buffer has room for
+unfoldable pub partOf : Found → List ℕ → List ℕ → List ℕ
+partOf Own s o = take (length o) s
 partOf (Decoded n) s o = take n o
-
--- the text, as far as there is so much room for it; where there is no backslash no room is asked for
-unfoldable pub textWithin : ℕ → List ℕ → List ℕ
-textWithin room s = cond (escaped s) (take room (text s)) s

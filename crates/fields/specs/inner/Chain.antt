@@ -2,7 +2,7 @@
 -- the list in Field.antt. Assumes nothing.
 use Prim.Native.Nat.{ℕ}
 use Rattle.fields.specs.Field.{namesImage, oneOf, stringsField}
-use Rattle.fields.specs.Value.{isString, isArray, isObject, ruled, textOf}
+use Rattle.fields.specs.Value.{isString, isArray, isObject, freely, ruled}
 use Rattle.fields.specs.Via.{viaRule}
 use Rattle.fields.specs.declared.judging.Setting.{Setting}
 use Rattle.rules.specs.Date.{dateRule}
@@ -77,4 +77,4 @@ chain k n v =
     cond (eqb n 6) (viaRule v)
     (cond (eqb n 13) (ruled memoRule v)
     (cond (byKind k n) (kindRule n v)
-    (isString v && onText k n (textOf v))))
+    (freely (onText k n) v)))

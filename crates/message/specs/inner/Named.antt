@@ -14,8 +14,8 @@ pub record Named (s : List ℕ) (m : Message) : Type 0 where
   pub call-id : callIdRule (callIdOf s m) ≡ true
   pub caller-ends : m .callerfire .end + 7 ≡ length (callerAddressOf s m)
   pub callee-ends : m .calleefire .end + 7 ≡ length (calleeAddressOf s m)
-  pub caller-short : length (callerAddressOf s m) ≤ 64
-  pub callee-short : length (calleeAddressOf s m) ≤ 64
+  pub caller-short : length (callerAddressOf s m) ≤ 45
+  pub callee-short : length (calleeAddressOf s m) ≤ 45
   pub user : userRule (userOf s m) ≡ true
   pub caller-fire : fireRule (callerFireOf s m) ≡ true
   pub callee-fire : fireRule (calleeFireOf s m) ≡ true

@@ -9,7 +9,7 @@ use borrow.Author.Tests.{not-false, not-true}
 use mathlib.Core.Path.{sym, _∙_}
 
 returns : tie.Need-returns
-returns c = no-string (c .before .before .before .args .v .now) _ (sym (c .before .is-string .ensures) ∙ not-true _ (c .if1 .taken))
+returns c = let x = c .before .before .before .args in no-string (onText (x .k) (x .n)) (x .v .now) (sym (c .before .is-string .ensures) ∙ not-true _ (c .if1 .taken))
 
 returns-2 : tie.Need-returns-2
 returns-2 c =
