@@ -206,7 +206,7 @@ static void refusals(void) {
     check("ten bytes are no room for a reply", w.number == NET119_NO_ROOM && w.length == 0);
     event("no bytes, on no table", net119_message(NULL, 0, 0, NULL, 0), refused(NET119_BAD_TABLE, 0, 0));
     make("request", "A1.nx", "03 BYE", "");
-    hands("BYE of A1, with a number that begins with 0", 8000, BYTES(message), refused(NET119_BAD_VALUE, 0, place_of("\"03 BYE\"")), NOTHING);
+    hands("BYE of A1, with a number that begins with 0", 8000, BYTES(message), refused(NET119_BAD_VALUE, 0, place_of("03 BYE")), NOTHING);
     make("response", "A1.nx", "1 INVITE", "");
     hands("a response without Status, field 7", 8000, BYTES(message), refused(NET119_MISSING, 0, 7), NOTHING);
     make("request", "D4.nx", "2 ACK", "");

@@ -71,7 +71,10 @@ enum {
     NET119_NOT_A_MESSAGE = 6,  /* not an array of two, a tag and an object; place 0 */
     NET119_TWICE = 7,          /* a known name twice, however spelled; place: the opening quote of the first repeat */
     NET119_MISSING = 8,        /* a required field is missing; place: the lowest such field NUMBER, 1 to 26 */
-    NET119_BAD_VALUE = 9,      /* a value breaks its rule; place: the first byte of the value. For net119_text, a lone surrogate */
+    NET119_BAD_VALUE = 9,      /* a value breaks its rule; place: of a string in CSeq, To, From, Date or Call-ID the first byte of its bad
+                                  letter, the first of the decoded text after which no allowed value can go on (an escape's place is its
+                                  backslash, of a pair the first's), or the closing quote if the text only stops short; else the first byte
+                                  of the value. For net119_text, a lone surrogate */
     NET119_DISAGREE = 10,      /* fields disagree; place 0 */
     NET119_TOO_MANY = 11,      /* a JSON value past the ceiling begins; place: its first byte */
 

@@ -211,6 +211,19 @@ int main(void) {
     run("read, a response, counted", counts, NET119_OK);
     run("200 under a ceiling", refuses, NET119_TOO_MANY);
     run("remove", removes, NET119_OK);
+
+    /* Bad letters: of each of the fields that tell theirs, and behind an escape. */
+    make("request", "C254", "4294967296 BYE", 16, DEEPEST);
+    run("a bad CSeq", hears, NET119_BAD_VALUE);
+    make("request", "C254\\u002f", "2 BYE", 16, DEEPEST);
+    run("a bad Call-ID", hears, NET119_BAD_VALUE);
+    length = 0;
+    put("[\"request\",{\"CSeq\":\"2 BYE\",\"To\":\"net119:fire@kita_.callee\",\"From\":0,\"Call-ID\":0,\"Date\":0,\"Via\":0}]");
+    run("a bad To", hears, NET119_BAD_VALUE);
+    length = 0;
+    put("[\"ping\",{\"Date\":\"2024-02-30T\",\"Via\":0,\"Destination\":0}]");
+    run("a bad Date", hears, NET119_BAD_VALUE);
+
     make("request", "C254", "1 ACK", 16, DEEPEST);
     run("ACK", hears, NET119_OK);
     run("add, where our entry stands", adds, NET119_LOOP);

@@ -17,29 +17,43 @@ pub fn beginning(spelled: &[u8]) -> Vec<u8> {
 /// The text before the first lone surrogate, and whether that is all of it.
 fn decoded(spelled: &[u8]) -> (Vec<u8>, bool) {
     let mut text = Vec::new();
-    let mut rest = spelled;
-    while let Some((first, others)) = rest.split_first() {
-        match escape(rest) {
-            Some((Letter::Point(point), length)) => {
-                text.extend_from_slice(point.encode_utf8(&mut [0; 4]).as_bytes());
-                rest = &rest[length..];
-            }
-            Some((Letter::Lone, _)) => return (text, false),
-            // A byte stands for itself, a backslash that begins no escape too: JSON has none.
-            None => {
-                text.push(*first);
-                rest = others;
-            }
-        }
-    }
-    (text, true)
+    let whole = letters(spelled).all(|(_, letter)| letter.put(&mut text));
+    (text, whole)
 }
 
-/// What an escape stands for.
-enum Letter {
+/// The letters in their order, each with its place among the spelled bytes: that
+/// of an escape's backslash, of a pair's first.
+pub fn letters(spelled: &[u8]) -> impl Iterator<Item = (usize, Letter)> + '_ {
+    let mut place = 0;
+    std::iter::from_fn(move || {
+        let rest = &spelled[place..];
+        // A byte stands for itself, a backslash that begins no escape too: JSON has none.
+        let byte = || Some((Letter::Byte(*rest.first()?), 1));
+        let (letter, length) = escape(rest).or_else(byte)?;
+        place += length;
+        Some((place - length, letter))
+    })
+}
+
+/// What a byte or an escape stands for.
+pub enum Letter {
+    /// Itself, or its part of a letter of several bytes.
+    Byte(u8),
     Point(char),
     /// A surrogate without the other half of its pair.
     Lone,
+}
+
+impl Letter {
+    /// Puts the letter at the end of a text; says no where it stands for none.
+    pub fn put(&self, text: &mut Vec<u8>) -> bool {
+        match self {
+            Letter::Byte(byte) => text.push(*byte),
+            Letter::Point(point) => text.extend(point.encode_utf8(&mut [0; 4]).bytes()),
+            Letter::Lone => return false,
+        }
+        true
+    }
 }
 
 /// The escape at the start of `spelled`, or the two of a surrogate pair, and
@@ -148,6 +162,24 @@ mod tests {
             assert_eq!(of(spelled), Ok(wanted.into()), "{spelled}");
         }
         assert_eq!(of(r"a\ud83d\ude00\u0062"), Ok("a\u{1f600}b".into()));
+    }
+
+    #[test]
+    fn letters_have_their_places() {
+        for (spelled, wanted) in [
+            ("", &[][..]),
+            ("ab", &[0, 1]),
+            (r"a\u0062\/c", &[0, 1, 7, 9]),
+            (r"\ud83d\ude00a", &[0, 12]),
+            (r"a\ud83d\u0041", &[0, 1, 7]),
+            (r"\ud83d\ud83d\ude00", &[0, 6]),
+            ("é\\n", &[0, 1, 2]),
+            (r"\x", &[0, 1]),
+        ] {
+            let letters = letters(spelled.as_bytes());
+            let places: Vec<usize> = letters.map(|(place, _)| place).collect();
+            assert_eq!(places, wanted, "{spelled}");
+        }
     }
 
     #[test]

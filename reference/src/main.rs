@@ -12,6 +12,7 @@ mod json;
 mod json_lines;
 mod keep;
 mod keeper;
+mod letters;
 mod lines;
 mod message;
 mod probe;
@@ -40,6 +41,7 @@ const USAGE: &str = "usage: reference keep | probe | json | rules | count
        reference gen photos SEED COUNT
        reference gen utf8 SEED COUNT
        reference gen ceilings SEED COUNT (two lines each)
+       reference gen letters SEED COUNT
        reference gen json SEED COUNT
        reference gen rules SEED COUNT";
 
@@ -66,6 +68,7 @@ fn main() -> ExitCode {
             ("photos", Ok(seed), Ok(count)) => gen::photo_lines(seed, count, output),
             ("utf8", Ok(seed), Ok(count)) => gen::utf8_lines(seed, count, output),
             ("ceilings", Ok(seed), Ok(count)) => gen::ceiling_lines(seed, count, output),
+            ("letters", Ok(seed), Ok(count)) => gen::letter_lines(seed, count, output),
             ("json", Ok(seed), Ok(count)) => gen::json_lines(seed, count, output),
             ("rules", Ok(seed), Ok(count)) => gen::rule_lines(seed, count, output),
             _ => return usage(),

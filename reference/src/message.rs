@@ -4,6 +4,7 @@
 use crate::escapes;
 use crate::fields::{self, *};
 use crate::json::{self, Kind, Member, Text, Value};
+use crate::letters;
 use crate::rules::{self, Address, ContentType, Method};
 use crate::utf8;
 
@@ -185,16 +186,24 @@ impl<'a, 'v> Draft<'a, 'v> {
         }
     }
 
-    /// Row 9: the place is the first byte of the lowest broken field's value.
+    /// Row 9: the place is that of the lowest broken field's fault.
     fn check_rules<'f>(&self, fields: impl IntoIterator<Item = &'f usize>) -> Result<(), Refusal> {
         let broken = fields.into_iter().filter_map(|field| {
             let value = self.values[*field]?;
-            (!self.meets_rule(*field, value)).then_some((field, value.start))
+            (!self.meets_rule(*field, value)).then(|| (field, self.fault(*field, value)))
         });
         match broken.min() {
             Some((_, place)) => Err(Refusal { number: 9, place }),
             None => Ok(()),
         }
+    }
+
+    /// Where a value breaks its field's rule: at its first bad letter if it is a
+    /// string of fields 1 to 5 (02 §12), else at its first byte.
+    fn fault(&self, field: usize, value: &Value) -> usize {
+        let spelled = value.spelled(self.bytes);
+        let letter = spelled.and_then(|spelled| letters::first_bad(field, spelled));
+        letter.map_or(value.start, |letter| value.start + 1 + letter)
     }
 
     /// The text of a field that is there, a string and not broken.
@@ -435,6 +444,16 @@ mod tests {
         }
     }
 
+    /// Texts of one field with `|` before the first letter that breaks its rule, or
+    /// at their end where they only stop short (02 §12).
+    fn bad_letters(sample: Sample, name: &str, marked: &[&str]) {
+        for marked in marked {
+            let changed = sample.clone().with(name, &quoted(&marked.replace('|', "")));
+            let place = value_place(&changed, name) + 1 + marked.find('|').unwrap();
+            assert_eq!(of(changed), Some((9, place)), "{name}: {marked}");
+        }
+    }
+
     fn cseq(method: &str) -> String {
         format!("1 {method}")
     }
@@ -660,7 +679,7 @@ mod tests {
         assert_eq!(of(sample.without("Refer-Memo")), Some((9, place)));
         // A method that is not known leaves only the tag's run.
         let sample = Sample::request("1 MESSAGE").with("CSeq", "\"1 OPTIONS\"");
-        assert_eq!(of(sample.without("Body")), Some((9, 19)));
+        assert_eq!(of(sample.without("Body")), Some((9, 22)));
         // 9 before 10.
         let sample = Sample::request("1 BYE")
             .with("To", CALLER)
@@ -686,21 +705,13 @@ mod tests {
 
     #[test]
     fn row_9_heads() {
+        let no_strings = ["null", "true", "0", "-1.5", "[\"A1\"]", "{}"];
         let bye = Sample::request("2 BYE");
         rule(
             bye.clone(),
             "CSeq",
             &["\"4294967295 BYE\"", "\"1 BYE\"", "\"1\\u0020B\\u0059E\""],
-            &[
-                "\"4294967296 BYE\"",
-                "\"01 BYE\"",
-                "\"0 BYE\"",
-                "1",
-                "null",
-                "\"1 B\\u0079E\"",
-                "\"\\u0030\\u0031 BYE\"",
-                "\"1 BYE\\ud800\"",
-            ],
+            &no_strings,
         );
         rule(
             bye.clone(),
@@ -710,19 +721,9 @@ mod tests {
                 "\"net119:fire@a1.callee\"",
                 "\"net119:\\u0066ire\\u0040a1.callee\"",
             ],
-            &[
-                "\"net119:u1@kita.callee\"",
-                "{}",
-                "\"\"",
-                "\"net119:fire@a1\\udc00.callee\"",
-            ],
+            &no_strings,
         );
-        rule(
-            bye.clone(),
-            "From",
-            &[CALLER],
-            &["\"net119:u1@kita\"", "true"],
-        );
+        rule(bye.clone(), "From", &[CALLER], &no_strings);
         rule(
             bye.clone(),
             "Date",
@@ -730,14 +731,10 @@ mod tests {
                 "\"2000-02-29T00:00:00+0000\"",
                 "\"2000-02-29T00\\u003a00:00\\u002B0000\"",
             ],
-            &[
-                "\"1900-02-29T00:00:00+0000\"",
-                "0",
-                "\"19\\u00300-02-29T00:00:00+0000\"",
-            ],
+            &no_strings,
         );
         rule(
-            bye.clone(),
+            bye,
             "Call-ID",
             &[
                 "\"A1\"",
@@ -745,15 +742,95 @@ mod tests {
                 "\"A\\u0031\"",
                 &quoted(&"\\u0041".repeat(64)),
             ],
+            &no_strings,
+        );
+    }
+
+    #[test]
+    fn row_9_letters() {
+        let bye = Sample::request("2 BYE");
+        bad_letters(
+            bye.clone(),
+            "CSeq",
             &[
-                "\"A.\"",
-                "\"A\"",
-                &quoted(&"A".repeat(65)),
-                "\"A\\u002e\"",
-                &quoted(&"\\u0041".repeat(65)),
-                "\"A\\ud8001\"",
+                "|",
+                "429496729|6 BYE",
+                "|01 BYE",
+                "|0 BYE",
+                "1 B|\\u0079E",
+                "|\\u0030\\u0031 BYE",
+                "1 BYE|\\ud800",
             ],
         );
+        for name in ["To", "From"] {
+            bad_letters(
+                bye.clone(),
+                name,
+                &[
+                    "|",
+                    "net119:u1@kita|",
+                    "net119:u1@kita.calle|e",
+                    "net119:fire@a1|\\udc00.callee",
+                ],
+            );
+        }
+        bad_letters(
+            bye.clone(),
+            "Date",
+            &[
+                "|",
+                "1900-02-2|9T00:00:00+0000",
+                "19\\u00300-02-2|9T00:00:00+0000",
+                "2000-02-29T|語",
+            ],
+        );
+        bad_letters(
+            bye,
+            "Call-ID",
+            &[
+                "|",
+                "A.|",
+                "A|",
+                &format!("{}|A", "A".repeat(64)),
+                "A\\u002e|",
+                &format!("{}|\\u0041", "\\u0041".repeat(64)),
+                "A|\\ud8001",
+                "A|_\\ud800",
+                "A|\\ud83d\\ude00",
+            ],
+        );
+    }
+
+    /// Of every kind of message; a missing field comes before.
+    #[test]
+    fn row_9_letters_everywhere() {
+        let requests = Method::NAMES.map(|method| Sample::request(&cseq(method)));
+        let responses = Method::NAMES.map(|method| Sample::response(&cseq(method), "200 OK"));
+        for sample in requests.into_iter().chain(responses) {
+            bad_letters(sample.clone(), "CSeq", &["1 |bye"]);
+            bad_letters(sample.clone(), "To", &["net119:u1@|_a.caller"]);
+            bad_letters(sample.clone(), "From", &["net119:fire@kita.callee|e"]);
+            bad_letters(sample.clone(), "Date", &["2024-02-|30T00:00:00+0000"]);
+            bad_letters(sample.clone(), "Call-ID", &["A1|/nx"]);
+            let missing = sample.with("Call-ID", "\"A\"").without("Via");
+            assert_eq!(of(missing), Some((8, 6)));
+        }
+        for sample in [Sample::ping(), Sample::pong()] {
+            bad_letters(sample.clone(), "Date", &["2024-02-|30T00:00:00+0000", "|"]);
+            // Fields of other messages are ignored.
+            assert_eq!(of(sample.with("Call-ID", "\"A\"")), None);
+        }
+        // The lowest field number answers, not the first bad letter.
+        let two = Sample::request("1 BYE").with("Call-ID", "\"A\"");
+        bad_letters(two.clone(), "Date", &["2024-02-29|"]);
+        bad_letters(two.with("Via", "[]"), "Call-ID", &["A1|_"]);
+        // Session-ID has Call-ID's rule, but not its place.
+        let invite = Sample::request("1 INVITE");
+        rule(invite, "Session-ID", &[], &["\"A_1\"", "\"A1.\""]);
+    }
+
+    #[test]
+    fn row_9_statuses_and_queues() {
         rule(
             Sample::response("2 BYE", "200 OK"),
             "Status",

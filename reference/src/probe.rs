@@ -430,6 +430,23 @@ mod tests {
         assert_eq!(answers(&script), wanted);
     }
 
+    /// A tick's Call-ID has no bad letter: its place is 0 (02 §12).
+    #[test]
+    fn bad_letters() {
+        let message = Sample::request("4294967296 BYE");
+        let place = message.text().find("6 BYE").unwrap();
+        let message = hexed(&message.bytes());
+        assert_eq!(
+            answer(&format!("read {message}")),
+            format!("no 9 {place} 13")
+        );
+        assert_eq!(
+            answer(&format!("msg 1 {message}")),
+            format!("no 9 {place} 0")
+        );
+        assert_eq!(answer(&format!("tick 1 {}", hexed(b"A1_"))), "no 9 0 0");
+    }
+
     #[test]
     fn writers() {
         let request = hexed(&Sample::request("7 BYE").bytes());

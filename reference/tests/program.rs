@@ -93,6 +93,7 @@ fn gen_feeds_the_programs_and_count_counts() {
         ("photos", "probe"),
         ("utf8", "probe"),
         ("ceilings", "probe"),
+        ("letters", "probe"),
     ] {
         let answers = answers_to_made(kind, program);
         let counts = String::from_utf8(output(&["count"], &answers)).unwrap();
@@ -114,6 +115,7 @@ fn wrong_arguments_give_usage_and_2() {
         &["rule"],
         &["photos"],
         &["ceilings"],
+        &["letters"],
         &["gen"],
         &["gen", "keep", "1"],
         &["gen", "keep", "x", "1"],

@@ -72,7 +72,9 @@ pub struct Accepted {
     pub state: Option<State>,
 }
 
-/// A message that is not accepted: a number from 2 to 11, and its place.
+/// A message that is not accepted: a number from 2 to 11, and its place: a byte of the message, as the README says for each number, or for 8 a
+/// field's number. Of 9 it is the bad letter, or the closing quote of a text that stops short, where the value is a string in CSeq, To, From, Date
+/// or Call-ID.
 #[derive(Debug, Clone, Copy, PartialEq, Eq, Hash)]
 pub struct Unread {
     pub number: u8,

@@ -108,7 +108,7 @@ fn refusals_say_where_and_what_is_due_and_leave_the_table() {
     assert_eq!(message(&mut table, 2000, b""), refused(2, 0, None));
     assert_eq!(message(&mut table, 2000, b"[01]"), refused(4, 2, None));
     let unnumbered = made("request", "A1.nx", "02 BYE", "");
-    let place = br#"["request",{"CSeq":"#.len();
+    let place = br#"["request",{"CSeq":""#.len();
     let answer = message(&mut table, 2000, &unnumbered);
     assert_eq!(answer, refused(9, place, None));
     let silent = made("response", "A1.nx", "1 INVITE", "");
@@ -168,7 +168,7 @@ fn a_call_in_other_letters() {
     let place = twice.len() - br#""C\u0053eq":"1 CANCEL"}]"#.len();
     assert_eq!(message(&mut table, 2000, &twice), refused(7, place, None));
     let broken = made("request", "A1.nx", r"1 CANCEL\ud83d", "");
-    let place = br#"["request",{"CSeq":"#.len();
+    let place = br#"["request",{"CSeq":"1 CANCEL"#.len();
     assert_eq!(message(&mut table, 2000, &broken), refused(9, place, None));
     assert_eq!(table, plain);
 }

@@ -9,6 +9,7 @@ pub mod FindLaws
 pub mod SpellLaws
 pub mod PointLaws
 pub mod MeasureLaws
+pub mod PlaceLaws
 pub mod HighLaws
 pub mod AsciiLaws
 pub mod Utf8Laws

@@ -1,6 +1,7 @@
 -- Examples of RFC 7159's section 7, computed: a wrong number in a definition fails here. Assumes nothing.
 use Prim.Native.Nat.{ℕ}
 use Rattle.escapes.specs.Encoding.{encoded}
+use Rattle.escapes.specs.Placing.{placesFrom, placeOf}
 use Rattle.escapes.specs.Rfc7159.{nibble, quad, unit, short, isHigh, isLow, isSurrogate, pair, joined, escapeOf, letterOf, took, lettersFrom, spelt, lone, text, isBroken}
 use Rattle.octets.specs.Ascii.{ascii}
 use Rattle.octets.specs.Class.{among, isDigit}
@@ -54,3 +55,22 @@ halves = (refl, refl, refl, refl, refl)
 pub backslashes : Spells (ascii "\\\\u0041") (ascii "\\u0041") × Spells (ascii "\\x\\u004") (ascii "\\x\\u004") × Spells (ascii "x\\") (ascii "x\\")
 unfolding nibble quad unit short isHigh isLow isSurrogate pair joined escapeOf letterOf took lettersFrom spelt lone text isBroken encoded among isDigit
 backslashes = ((refl, refl), (refl, refl), (refl, refl))
+
+-- Where the octets stand.
+
+abbrev Placed : List ℕ → List ℕ → Type 0
+Placed s ps = placesFrom 0 0 s ≡ ps
+
+-- an escape of one octet, and one of three; a character of two bytes, each at its own place; a pair; a lone half
+pub places :
+    Placed (ascii "a\\nb\\u30abc") (0 ∷ 1 ∷ 3 ∷ 4 ∷ 4 ∷ 4 ∷ 10 ∷ [])
+    × Placed (0x61 ∷ 0xC3 ∷ 0xA9 ∷ 0x62 ∷ []) (0 ∷ 1 ∷ 2 ∷ 3 ∷ [])
+    × Placed (ascii "a\\uD834\\uDD1Eb") (0 ∷ 1 ∷ 1 ∷ 1 ∷ 1 ∷ 13 ∷ [])
+    × Placed (ascii "a\\uD834b") (0 ∷ 1 ∷ 1 ∷ 1 ∷ 7 ∷ [])
+unfolding nibble quad unit short isHigh isLow isSurrogate pair joined escapeOf letterOf took placesFrom encoded among isDigit
+places = (refl, refl, refl, refl)
+
+-- an octet's, and the end of a text that stops short
+pub place : (placeOf (ascii "1 \\u0041YE") 2 ≡ 2) × (placeOf (ascii "1 \\u0041YE") 3 ≡ 8) × (placeOf (ascii "1 \\u0041") 3 ≡ 8)
+unfolding nibble quad unit short isHigh isLow isSurrogate pair joined escapeOf letterOf took placesFrom placeOf encoded among isDigit
+place = (refl, refl, refl)

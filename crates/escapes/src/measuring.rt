@@ -23,7 +23,7 @@ pub struct Measured {
 }
 
 // How many bytes the UTF-8 of a number is.
-fn width(c: u32) -> usize
+pub fn width(c: u32) -> usize
     ensures { λ r. ⌜ r ≡ length (encoded c) ⌝ }
 {
     if c < 0x80 {

@@ -8,7 +8,7 @@ use Rattle.json.specs.inner.Tour.{tour}
 use Rattle.json.specs.Places.{part, spaces, past, isOpen, isShut, isMark, left, unmarked, size, behind, closing, raw, next, isWs, lastOf, prevOf}
 use Rattle.json.specs.Places.{valueOf, follows, more, memberAt, membersFrom, members, elementsFrom, elements}
 use Rattle.message.specs.Checks.{lacks, breaks, lowest, checked}
-use Rattle.fields.specs.Field.{oneOf, addressRule, keeps}
+use Rattle.fields.specs.Field.{oneOf, keeps}
 use Rattle.fields.specs.Known.{numberAt, has, note, noted, repeated}
 use Rattle.message.specs.Message.{numberOf, methodOf, fromCaller, toCaller, contentAt, codeOf, secureOf, settingOf, messageOf}
 use Rattle.message.specs.Message.{sameSide, wrongSide, wrongNumber, sidesDisagree, callbackTraining, requestDisagrees, disagrees, callerPlace, calleePlace}
@@ -24,7 +24,7 @@ use Rattle.message.specs.declared.reading.Reading.the-variants.{Read}
 use Rattle.octets.specs.Ascii.{ascii}
 use Rattle.octets.specs.Class.{among, isDigit, isLower, isUpper, isLetter, isAlnum, all}
 use Rattle.octets.specs.Text.{same, standsAt}
-use Rattle.rules.specs.Address.{callerRule, calleeRule, userEnd, callerEnd, calleeEnd, addressOf}
+use Rattle.rules.specs.Address.{addressRule, callerRule, calleeRule, userEnd, callerEnd, calleeEnd, addressOf}
 use Rattle.rules.specs.Classes.{holds}
 use Rattle.rules.specs.Date.{leap, daysIn, dateRule}
 use Rattle.rules.specs.Asks.{isIn, tagAsks, methodAsks}

@@ -2,10 +2,10 @@
 use Rattle.json.proofs.TurnLaws.{no-elements, some-elements}
 use Prim.Native.Nat.{ℕ}
 use Rattle.json.specs.Places.{past, elements, elementsFrom}
-use Rattle.fields.specs.Field.{addressRule, stringsField}
+use Rattle.fields.specs.Field.{stringsField}
 use Rattle.fields.specs.Value.{isArray}
 use Rattle.octets.specs.Class.{all}
-use Rattle.rules.specs.Address.{callerRule, calleeRule, addressOf, userEnd, callerEnd, calleeEnd}
+use Rattle.rules.specs.Address.{addressRule, callerRule, calleeRule, addressOf, userEnd, callerEnd, calleeEnd}
 use Rattle.rules.specs.Pieces.{decimalAt}
 use Rattle.rules.specs.Sequence.{sequenceRule, sequenceOf, cseqNumber, cseqMethod}
 use Rattle.rules.specs.Status.{statusRule, statusOf}

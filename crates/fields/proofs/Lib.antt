@@ -4,6 +4,7 @@ pub mod TriedLaws
 pub mod ValueLaws
 pub mod FieldLaws
 pub mod ChainLaws
+pub mod LetterLaws
 pub mod JudgingLaws
 pub mod GatherLaws
 pub mod ClosingLaws

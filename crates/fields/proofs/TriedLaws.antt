@@ -1,15 +1,15 @@
 -- The rules of the fields, of Via's members and of known words, which may all be tried on a text as it is spelled. Assumes nothing.
 use Prim.Native.Nat.{ℕ}
 use Rattle.fields.proofs.SpelledLaws.{Tried, tried-any, tried-by, tried-front, tried-plain}
-use Rattle.fields.specs.Field.{addressRule, namesImage, oneOf}
+use Rattle.fields.specs.Field.{namesImage, oneOf}
 use Rattle.fields.specs.Via.{hopRule}
 use Rattle.fields.specs.declared.judging.Setting.{Setting}
 use Rattle.fields.specs.inner.Chain.{laterRule, onBody, onStatus, onText, onType, plainRule}
 use Rattle.octets.proofs.TestLaws.{or-none}
 use Rattle.octets.specs.Class.{all}
-use Rattle.rules.proofs.PlainLaws.{Plain, arePlain, call-id-plain, callee-plain, caller-plain, date-plain, desk-plain, destination-plain, fire-plain, host-plain}
-use Rattle.rules.proofs.PlainLaws.{image-front, isPlain, language-plain, message-id-plain, one-of-two, organization-plain, status-front, word-plain}
-use Rattle.rules.specs.Address.{addressOf, calleeRule, callerRule}
+use Rattle.rules.proofs.PlainLaws.{Plain, arePlain, call-id-plain, date-plain, desk-plain, destination-plain, fire-plain, host-plain}
+use Rattle.rules.proofs.PlainLaws.{image-front, isPlain, language-plain, message-id-plain, organization-plain, status-front, word-plain}
+use Rattle.rules.specs.Address.{addressOf, addressRule, calleeRule, callerRule}
 use Rattle.rules.specs.Names.{fields, hopMembers, tags}
 use Rattle.rules.specs.Numbers.{contentPresence, contentText, methodMessage, tagPong}
 use Rattle.rules.specs.Sequence.{sequenceOf, sequenceRule}
@@ -74,10 +74,6 @@ pub service-plain : Plain (oneOf services)
 unfolding arePlain all isPlain
 service-plain = one-of-plain services refl
 
-pub address-plain : Plain addressRule
-unfolding addressRule
-address-plain = let p = one-of-two callerRule calleeRule caller-plain callee-plain in record { plain = p .plain; short = p .short }
-
 -- what breaks the rule tells nothing
 pub broken-sequence : (t : List ℕ) → sequenceRule t ≡ false → sequenceOf t ≡ sequences.Broken
 unfolding sequenceOf
@@ -88,7 +84,7 @@ unfolding addressOf addressRule
 broken-address t e = let p = or-none (callerRule t) (calleeRule t) e in rw (p .0, p .1)
 
 -- either of two, by a test that the text has no part in
-plain-by : (b : Bool) {f g : List ℕ → Bool} → Plain f → Plain g → Plain (λ t. cond b (f t) (g t))
+pub plain-by : (b : Bool) {f g : List ℕ → Bool} → Plain f → Plain g → Plain (λ t. cond b (f t) (g t))
 plain-by true p q = record { plain = p .plain; short = p .short }
 plain-by false p q = record { plain = q .plain; short = q .short }
 

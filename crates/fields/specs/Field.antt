@@ -1,13 +1,15 @@
 -- Each known field's rule on its value's own bytes (01 Reading, 'Rules'): besides them it sees tag, method and Content-Type alone.
 -- Assumes nothing.
 use Prim.Native.Char.{code}
-use Prim.Native.Nat.{ℕ}
+use Prim.Native.Nat.{ℕ, _+_}
+use Rattle.escapes.specs.Placing.{placeOf}
 use Rattle.json.specs.Places.{elements}
-use Rattle.fields.specs.Value.{isString, isArray, isObject, freely, ruled}
+use Rattle.fields.specs.Value.{isString, isArray, isObject, spellingOf, textOf, freely, ruled}
 use Rattle.fields.specs.Via.{viaRule}
 use Rattle.fields.specs.declared.judging.Setting.{Setting}
-use Rattle.octets.specs.Class.{all}
-use Rattle.rules.specs.Address.{callerRule, calleeRule}
+use Rattle.letters.specs.inner.Reach.{sequenceReach, addressReach, dateReach, callIdReach}
+use Rattle.octets.specs.Class.{all, among}
+use Rattle.rules.specs.Address.{addressRule}
 use Rattle.rules.specs.Date.{dateRule}
 use Rattle.rules.specs.Numbers.{contentLocation, contentMessageImage, contentPresence, contentText, contentTextImage, methodMessage, tagPong}
 use Rattle.rules.specs.Pieces.{wordNumber}
@@ -25,10 +27,6 @@ use mathlib.Core.List.{List, [], _∷_}
 -- one of a few words
 unfoldable pub oneOf : List (List ℕ) → List ℕ → Bool
 oneOf ws t = ltb 0 (wordNumber ws t)
-
--- To, From: a caller's address or a callee's
-unfoldable pub addressRule : List ℕ → Bool
-addressRule t = callerRule t || calleeRule t
 
 -- Status: in a pong `available` or `unavailable`; else its rule, with free text after the space
 unfoldable pub statusField : ℕ → List ℕ → Bool
@@ -94,6 +92,29 @@ noRule v = false
 unfoldable pub keeps : Setting → ℕ → List ℕ → Bool
 keeps k n = getD (noRule ∷ fieldRules k) n noRule
 
--- where a value breaks the rule of field n, counted from the value's first byte: at that byte (01 Reading, 9)
-abbrev pub faultAt : Setting → ℕ → List ℕ → ℕ
-faultAt k n v = 0
+-- Where a value breaks its rule (01 Reading, 9): of the fields 1 to 5 a string at its first bad letter (02 §12).
+
+-- the rule of field n, 1 to 5, on its text: `lettered` of proofs/LetterLaws.antt says that it is the one that `fieldRules` lists
+unfoldable pub letterRule : ℕ → List ℕ → Bool
+letterRule n t =
+    cond (eqb n 1) (sequenceRule t)
+    (cond (ltb n 4) (addressRule t)
+    (cond (eqb n 4) (dateRule t)
+    (callIdRule t)))
+
+-- how many octets of the text begin an allowed one: the inner machines of `letters`, which nobody has to believe, since `bad-letter` of
+-- proofs/LetterLaws.antt says that what stands behind those octets is the first bad letter, or the end of a text that stops short
+unfoldable pub letterReach : ℕ → List ℕ → ℕ
+letterReach n t =
+    cond (eqb n 1) (sequenceReach t)
+    (cond (ltb n 4) (addressReach t)
+    (cond (eqb n 4) (dateReach t)
+    (callIdReach t)))
+
+-- where that letter is spelled, counted from the string's opening quote; the first byte of a value that is no string
+unfoldable pub letterAt : ℕ → List ℕ → ℕ
+letterAt n v = cond (isString v) (1 + placeOf (spellingOf v) (letterReach n (textOf v))) 0
+
+-- where a value breaks the rule of field n, counted from the value's first byte
+unfoldable pub faultAt : Setting → ℕ → List ℕ → ℕ
+faultAt k n v = cond (among 1 5 n) (letterAt n v) 0

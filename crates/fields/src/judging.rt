@@ -1,4 +1,5 @@
 // Each known field's rule on its value's own bytes (01 Reading, 'Rules'): kept, with the facts that the value tells, or broken at a place.
+use crate::faults::letter_at;
 use crate::spelled::address_of;
 use crate::spelled::sequence_of;
 use crate::spelled::status_of;
@@ -23,6 +24,7 @@ use rules::CALL_MODE;
 use rules::CALL_TEST;
 use rules::CALLER;
 use rules::CONTENT_TYPE;
+use rules::CSEQ;
 use rules::DATE;
 use rules::DESTINATION;
 use rules::LANGUAGE;
@@ -41,6 +43,7 @@ use rules::SESSION_ID;
 use rules::STATUS;
 use rules::TEXT_CONTENT;
 use rules::TEXT_IMAGE_CONTENT;
+use rules::TO;
 use rules::USER_AGENT;
 use rules::VIA;
 ghost use Rattle.fields.specs.inner.Asked.{Own};
@@ -98,7 +101,7 @@ pub fn judge_cseq(v: &[u8]) -> CSeq
     }
     match sequence_of(w) {
         rules::Sequence::Of(number, method) => CSeq::Kept(number, method),
-        rules::Sequence::Broken => CSeq::Broken(0),
+        rules::Sequence::Broken => CSeq::Broken(letter_at(CSEQ, w)),
     }
 }
 
@@ -115,7 +118,7 @@ pub fn judge_party(v: &[u8]) -> Party
     match a {
         rules::Address::Caller(_, _) => Party::Kept(a),
         rules::Address::Callee(_) => Party::Kept(a),
-        rules::Address::Broken => Party::Broken(0),
+        rules::Address::Broken => Party::Broken(letter_at(TO, w)),
     }
 }
 
@@ -383,8 +386,10 @@ pub fn judge(k: Setting, n: usize, v: &[u8]) -> Judged
     ensures { λ r. ⌜ r ≡ judgedValue k n (now (v .entry)) ⌝ }
 {
     if keeps_rule(k, n, v) {
-        Judged::Kept
-    } else {
-        Judged::Broken(0)
+        return Judged::Kept;
     }
+    if and(n < VIA, is_string(v)) {
+        return Judged::Broken(letter_at(n, own_spelling(v)));
+    }
+    Judged::Broken(0)
 }

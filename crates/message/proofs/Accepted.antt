@@ -7,7 +7,7 @@ use Rattle.fields.proofs.SpellingLaws.{text-cut}
 use Rattle.fields.proofs.ValueLaws.{free-text, ruled-text}
 use Rattle.message.proofs.PartyLaws.{address-short}
 use Rattle.message.specs.Checks.{checked}
-use Rattle.fields.specs.Field.{addressRule, statusField, keeps}
+use Rattle.fields.specs.Field.{statusField, keeps}
 use Rattle.message.specs.Message.{firstSetting, numberIn, methodIn, callerIn, codeIn, numberOf, methodOf, fromCaller, toCaller, codeOf, settingOf, sameSide}
 use Rattle.message.specs.Message.{sidesDisagree, disagrees, userSpan, callerSpan, calleeSpan, callerPlace, calleePlace, messageOf}
 use Rattle.fields.specs.Spans.{cut, textAt}
@@ -22,7 +22,7 @@ use Rattle.octets.proofs.TestLaws.{or-none}
 use Rattle.rules.proofs.PartLaws.{caller-address-parts, callee-address-parts}
 use Rattle.rules.proofs.SequenceLaws.{Ranges, sequence-ranges}
 use Rattle.rules.proofs.StatusLaws.{status-range}
-use Rattle.rules.specs.Address.{addressOf}
+use Rattle.rules.specs.Address.{addressOf, addressRule}
 use Rattle.rules.specs.Asks.{tagAsks, isIn}
 use Rattle.rules.specs.Sequence.{sequenceRule, sequenceOf}
 use Rattle.rules.specs.Status.{statusRule, statusOf}

@@ -1,7 +1,9 @@
 -- Rows 8 and 9, one field at a time: what is known of a field, and the search for the lowest. Assumes nothing.
 use Prim.Native.Nat.{ℕ, zero, suc, _+_, _-_, _≤_, _<_}
 use Rattle.json.specs.Places.{bytes}
-use Rattle.fields.specs.Field.{keeps}
+use Rattle.fields.proofs.LetterLaws.{fault-inside}
+use Rattle.fields.proofs.SpellingLaws.{bytes-short}
+use Rattle.fields.specs.Field.{faultAt, keeps}
 use Rattle.fields.specs.inner.Judging.{judgedValue}
 use Rattle.fields.specs.declared.judging.Judged.the-variants as judgeds
 use Rattle.fields.specs.declared.judging.Judged.{Judged}
@@ -13,7 +15,7 @@ use Rattle.message.specs.declared.checking.Check.the-variants.{Good, Fau
 use Rattle.fields.specs.declared.judging.Setting.{Setting}
 use borrow.Author.Tests.{ne-eqb, lt-ltb, le-ltb}
 use lib.Dec.{eqb, ltb}
-use lib.ListN.{getD}
+use lib.ListN.{getD, length}
 use mathlib.Core.Bool.{Bool, true, false, not, and-false, and-true, cond}
 use mathlib.Core.List.{List}
 use mathlib.Core.Path.{_≡_, refl, sym, ap, _∙_}
@@ -46,7 +48,12 @@ module _ (run : Bool) (k : Setting) (t : List ℕ) (n : ℕ) where
       pub present : {x : List ℕ} {r : Judged} → (a ≡ 0 → ⊥) → (getD t n 0 ≡ 0 → ⊥) → x ≡ bytes s (getD t n 0) → r ≡ judgedValue k n x → r ≡ ofField s run k t n
       unfolding ofField breaks judgedValue
       present {x} {r} some e f g =
-          g ∙ rw (lt-ltb 0 (asks run k n) (omega arith), lt-ltb 0 (getD t n 0) (omega arith), f) (turned (keeps k n (bytes s (getD t n 0))) judgeds.Kept (judgeds.Broken 0))
+          g ∙ rw (lt-ltb 0 (asks run k n) (omega arith), lt-ltb 0 (getD t n 0) (omega arith), f)
+          (turned (keeps k n (bytes s (getD t n 0))) judgeds.Kept (judgeds.Broken (faultAt k n (bytes s (getD t n 0)))))
+
+-- a fault inside the value at a is inside the text
+pub fault-there : (s : List ℕ) (k : Setting) (n a : ℕ) {v : List ℕ} {p : ℕ} → v ≡ bytes s a → p ≡ faultAt k n v → 0 < p → a + p ≤ length s
+fault-there s k n a is e h = omega (arith, e, fault-inside k n (bytes s a), bytes-short s a, ap (faultAt k n) is)
 
 -- The lowest of the numbers from n to 26.
 
@@ -69,6 +76,20 @@ pub none-lowest : (f : ℕ → Bool) (k a : ℕ) → ((n : ℕ) → a ≤ n → 
 unfolding lowest
 none-lowest f zero a h = refl
 none-lowest f (suc k) a h = rw (h a (omega arith) (omega arith)) (none-lowest f k (a + 1) (λ n l g. h n (omega arith) (omega arith)))
+
+-- m is one of the k numbers from a on, and f is true of it
+abbrev pub Within : (ℕ → Bool) → ℕ → ℕ → ℕ → Type 0
+Within f k a m = (a ≤ m) × ((m < a + k) × (f m ≡ true))
+
+pub lowest-within : (f : ℕ → Bool) (k a : ℕ) → 0 < lowest f a k → Within f k a (lowest f a k)
+unfolding lowest
+lowest-within f zero a h = absurd (omega arith)
+lowest-within f (suc k) a h = by (f a) refl h (λ g. lowest-within f k (a + 1) g)
+  where
+    by : (b : Bool) → f a ≡ b → 0 < cond b a (lowest f (a + 1) k) → (0 < lowest f (a + 1) k → Within f k (a + 1) (lowest f (a + 1) k))
+        → Within f (suc k) a (cond b a (lowest f (a + 1) k))
+    by true e h g = (omega arith, (omega arith, e))
+    by false e h g = let r = g h in (omega (arith, r .0), (omega (arith, r .1 .0), r .1 .1))
 
 module _ (f : ℕ → Bool) where
   one-less : (n : ℕ) → n < 27 → 27 - n ≡ suc (27 - (n + 1))
@@ -93,7 +114,8 @@ module _ (s : List ℕ) (run : Bool) (k : Setting) (t : List ℕ) (n : ℕ) wher
   unfolding nineFrom
   passes h e = ap (nine s k t) (higher (breaks s run k t) n h e)
 
-  pub stops : n < 27 → 0 < n → {p r : ℕ} → p ≡ 0 → r ≡ getD t n 0 + p → breaks s run k t n ≡ true → nineFrom s run k t n ≡ Fault 9 r
+  pub stops : n < 27 → 0 < n → {p r : ℕ} → p ≡ faultAt k n (bytes s (getD t n 0)) → r ≡ getD t n 0 + p → breaks s run k t n ≡ true
+      → nineFrom s run k t n ≡ Fault 9 r
   unfolding nineFrom
   stops h o z w e = ap (nine s k t) (found (breaks s run k t) n h e) ∙ rw (lt-ltb 0 n o, w, z)
 
@@ -101,11 +123,12 @@ module _ (s : List ℕ) (run : Bool) (k : Setting) (t : List ℕ) (n : ℕ) wher
   unfolding nineFrom
   over h = ap (nine s k t) (none-found (breaks s run k t) n h)
 
-  pub field-fault : {p : ℕ} → judgeds.Broken p ≡ ofField s run k t n → (p ≡ 0) × (breaks s run k t n ≡ true)
+  pub field-fault : {p : ℕ} → judgeds.Broken p ≡ ofField s run k t n → (p ≡ faultAt k n (bytes s (getD t n 0))) × (breaks s run k t n ≡ true)
   unfolding ofField
   field-fault {p} e = go (breaks s run k t n) e
     where
-      go : (b : Bool) → judgeds.Broken p ≡ cond b (judgeds.Broken 0) judgeds.Kept → (p ≡ 0) × (b ≡ true)
+      go : (b : Bool) → judgeds.Broken p ≡ cond b (judgeds.Broken (faultAt k n (bytes s (getD t n 0)))) judgeds.Kept
+          → (p ≡ faultAt k n (bytes s (getD t n 0))) × (b ≡ true)
       go true f = (cc, refl)
       go false f = (cc, cc)
 
@@ -113,7 +136,7 @@ module _ (s : List ℕ) (run : Bool) (k : Setting) (t : List ℕ) (n : ℕ) wher
   unfolding ofField
   field-kept e = go (breaks s run k t n) e
     where
-      go : (b : Bool) → judgeds.Kept ≡ cond b (judgeds.Broken 0) judgeds.Kept → b ≡ false
+      go : (b : Bool) → judgeds.Kept ≡ cond b (judgeds.Broken (faultAt k n (bytes s (getD t n 0)))) judgeds.Kept → b ≡ false
       go true f = cc
       go false f = refl
 

@@ -1,7 +1,8 @@
 -- Row 9 on the fields that a request or a response must have: each kept field passes it on, a broken one ends it; and what each tells. Assumes nothing.
 use Prim.Native.Nat.{ℕ, zero, suc, _+_, _≤_, _<_}
 use Rattle.fields.proofs.JudgingLaws.{cseq-tells, party-tells, status-tells, via-tells}
-use Rattle.fields.specs.Field.{keeps, statusField}
+use Rattle.fields.proofs.LetterLaws.{fault-first}
+use Rattle.fields.specs.Field.{faultAt, keeps, statusField}
 use Rattle.fields.specs.inner.Judging.{cseqOf, partyOf, statusIn, viaOf}
 use Rattle.fields.specs.Spans.{textAt}
 use Rattle.fields.specs.Trail.{trailIn}
@@ -38,7 +39,7 @@ use lib.Dec.{eqb, ltb}
 use lib.ListN.{getD}
 use mathlib.Core.Bool.{true, false, and-false}
 use mathlib.Core.List.{List}
-use mathlib.Core.Path.{_≡_, refl, ap, _∙_}
+use mathlib.Core.Path.{_≡_, refl, sym, ap, _∙_}
 use native.Mathlib.Omega.{arith}
 
 -- One field, whose value is v.
@@ -47,8 +48,8 @@ module _ (s : List ℕ) (k : Setting) (t : List ℕ) (n : ℕ) (low : 0 < n) (hi
   unfolding breaks
   passing e = passes s true k t n high (rw (← is, e, and-false (ltb 0 (getD t n 0))) (and-false (ltb 0 (asks true k n))))
 
-  pub stopping : {p r : ℕ} → breaks s true k t n ≡ faulty s k t n → keeps k n v ≡ false → p ≡ 0 → r ≡ getD t n 0 + p → nineFrom s true k t n ≡ Fault 9 r
-  stopping a e z w = stops s true k t n high low z w (a ∙ rw (← is, e))
+  pub stopping : {p r : ℕ} → breaks s true k t n ≡ faulty s k t n → keeps k n v ≡ false → p ≡ faultAt k n v → r ≡ getD t n 0 + p → nineFrom s true k t n ≡ Fault 9 r
+  stopping a e z w = stops s true k t n high low (z ∙ ap (faultAt k n) is) w (a ∙ rw (← is, e))
 
 -- What the fields tell.
 module _ (s : List ℕ) (t : List ℕ) where
@@ -131,7 +132,9 @@ module _ (s t : List ℕ) {tag : ℕ} (a : Asked s tag t) where
     by-status = rw two
 
     pub status-broken : {p r : ℕ} → freely statusRule v ≡ false → p ≡ 0 → r ≡ getD t 7 0 + p → nineFrom s true (firstSetting tag) t 7 ≡ Fault 9 r
-    status-broken e z w = stopping s (firstSetting tag) t 7 (omega arith) (omega arith) is (a .seven ∙ rw (eq-eqb tag 2 two)) (by-status ∙ e) z w
+    status-broken e z w =
+        stopping s (firstSetting tag) t 7 (omega arith) (omega arith) is (a .seven ∙ rw (eq-eqb tag 2 two)) (by-status ∙ e)
+        (z ∙ sym (fault-first (firstSetting tag) 7 v (omega arith))) w
 
     pub status-kept : freely statusRule v ≡ true → nineFrom s true (firstSetting tag) t 7 ≡ Good
     status-kept e = passing s (firstSetting tag) t 7 (omega arith) (omega arith) is (by-status ∙ e) ∙ a .others

@@ -15,3 +15,4 @@ pub mod HopPairs
 pub mod AlikeLaws
 pub mod MemberLaws
 pub mod Marks
+pub mod NineLaws

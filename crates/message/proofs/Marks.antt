@@ -3,17 +3,18 @@ use Rattle.json.specs.inner.Begun as json
 use Rattle.json.specs.inner.Begun.{begun}
 use Rattle.json.specs.inner.Machine.{begin, ends, expo, from, hexes, isEsc, isHexDigit, opens, point, step, stops, walk}
 use Rattle.json.specs.inner.Tour.{tour}
-use Prim.Native.Nat.{ℕ, zero, suc}
+use Prim.Native.Nat.{ℕ, zero, suc, _+_}
 use Rattle.json.specs.Places.{behind, closing, elements, elementsFrom, follows, isMark, isOpen, isShut, left, memberAt, members, membersFrom, more, next, part, isWs}
 use Rattle.json.specs.Places.{past, raw, size, spaces, unmarked, valueOf}
 use Rattle.message.specs.Checks.{breaks, checked, lacks, lowest}
-use Rattle.fields.specs.Field.{addressRule, bodyField, contentField, keeps, namesImage, oneOf, statusField}
+use Rattle.fields.specs.Field.{bodyField, contentField, faultAt, keeps, letterAt, letterReach, namesImage, oneOf, statusField}
 use Rattle.fields.specs.Known.{has, note, noted, numberAt, repeated}
 use Rattle.message.specs.Message.{contentAt, disagrees, fromCaller, methodOf, numberOf, requestDisagrees, sameSide, settingOf, sidesDisagree, toCaller}
 use Rattle.message.specs.Message.{wrongNumber, wrongSide}
 use Rattle.message.specs.Reading.{agreed, ample, judged, known, reading, reporting, settled, shaped}
 use Rattle.message.specs.Shape.{objectOf, tagAt, tagOf}
 use Rattle.escapes.specs.Encoding.{encoded}
+use Rattle.escapes.specs.Placing.{placeOf, placesFrom}
 use Rattle.escapes.specs.Rfc7159 as strings
 use Rattle.escapes.specs.Rfc7159.{escapeOf, isBroken, isHigh, isLow, isSurrogate, joined, letterOf, lettersFrom, lone, nibble, quad, spelt, text, took, unit}
 use Rattle.fields.specs.Spans.{spellingAt, textAt}
@@ -21,10 +22,11 @@ use Rattle.fields.specs.Value.{freely, isArray, isString, ruled, spellingOf, te
 use Rattle.fields.specs.Via.{hopKeeps, hopPlaces, hopRule, isHop, viaRule}
 use Rattle.message.specs.declared.reading.Reading.the-variants.{Read, Refused}
 use Rattle.message.specs.declared.reading.Reading.{Reading}
+use Rattle.letters.specs.inner.Reach as letters
 use Rattle.octets.specs.Ascii.{ascii}
 use Rattle.octets.specs.Class.{all, among, isAlnum, isDigit, isLetter, isLower, isUpper}
 use Rattle.octets.specs.Text.{same, standsAt}
-use Rattle.rules.specs.Address.{addressOf, calleeEnd, calleeRule, callerEnd, callerRule, userEnd}
+use Rattle.rules.specs.Address.{addressOf, addressRule, calleeEnd, calleeRule, callerEnd, callerRule, userEnd}
 use Rattle.rules.specs.Classes.{holds}
 use Rattle.rules.specs.Date.{dateRule, daysIn, leap}
 use Rattle.rules.specs.Asks.{isIn, methodAsks, tagAsks}
@@ -109,7 +111,7 @@ unfolding reading reporting octets charAt begins goesOn tour begun json.begins f
     decimalAt
     digits within holds all among isAlnum isDigit isLetter isLower isUpper pieces.hasPiece pieces.pieceEnd settingOf methodOf numberOf contentAt sequenceOf numberEnd
     sequence.cseqNumber sequence.cseqMethod settled agreed disagrees sidesDisagree sameSide fromCaller toCaller addressOf userEnd callerEnd calleeEnd
-    messageIdRule contentField oneOf bodyField namesImage imageRule wrongSide wrongNumber requestDisagrees
+    messageIdRule contentField oneOf bodyField namesImage imageRule wrongSide wrongNumber requestDisagrees faultAt letterAt
 rows = (refl, refl, refl, refl, refl, refl, refl, refl, refl, refl, refl, refl, refl)
 
 -- a request of this Call-ID, whose value begins at 193
@@ -130,8 +132,8 @@ pub spelled :
     (isRead (reading ample (told (ascii "[\"re\\u0071uest\",{") (ascii "\\u0042YE") caller callee)) ≡ true)
     × (isRead (reading ample (called (ascii "A\\u0031"))) ≡ true)
     -- row 9: a lone surrogate in a Call-ID, and a pair
-    × (reading ample (called (ascii "A1\\uD800")) ≡ Refused 9 193)
-    × (reading ample (called (ascii "A1\\uD83D\\uDE00")) ≡ Refused 9 193)
+    × (reading ample (called (ascii "A1\\uD800")) ≡ Refused 9 196)
+    × (reading ample (called (ascii "A1\\uD83D\\uDE00")) ≡ Refused 9 196)
     -- row 7: a name spelled two ways, at the opening quote of the second; a broken name is none, so row 8
     × (reading ample (ascii "[\"ping\",{\"Date\":0,\"D\\u0061te\":0}]") ≡ Refused 7 18)
     × (reading ample (ascii "[\"ping\",{\"Date\":0,\"Date\\uD800\":0,\"Date\\uD800\":0}]") ≡ Refused 8 6)
@@ -154,8 +156,39 @@ unfolding reading reporting octets charAt begins goesOn tour begun json.begins f
     decimalAt
     digits within holds all among isAlnum isDigit isLetter isLower isUpper pieces.hasPiece pieces.pieceEnd settingOf methodOf numberOf contentAt sequenceOf numberEnd
     sequence.cseqNumber sequence.cseqMethod settled agreed disagrees sidesDisagree sameSide fromCaller toCaller addressOf userEnd callerEnd calleeEnd
-    messageIdRule contentField oneOf bodyField namesImage imageRule wrongSide wrongNumber requestDisagrees
+    messageIdRule contentField oneOf bodyField namesImage imageRule wrongSide wrongNumber requestDisagrees faultAt letterAt letterReach placeOf placesFrom letters.callIdReach
+    letters.reachOf letters.runReach letters.follows letters.endReach
 spelled = (refl, refl, refl, refl, refl, refl, refl, refl, refl, refl, refl)
+
+-- 02 §12: a ping of this Date, whose value begins at 16
+abbrev dated : List ℕ → List ℕ
+dated v = ascii "[\"ping\",{\"Date\":" ++ (v ++ ascii ",\"Via\":0,\"Destination\":0}]")
+
+pub letter-places :
+    -- a method that is none, at the letter where it leaves CALLBACK
+    (reading ample (told (ascii "[\"request\",{") (ascii "CALX") caller callee) ≡ Refused 9 25)
+    -- the 29th of a February that has 28 days; a month of 13, behind an escape; a month's second digit that is an escape
+    × (reading ample (dated (ascii "\"2023-02-29T00:00:00+0000\"")) ≡ Refused 9 26)
+    × (reading ample (dated (ascii "\"2023\\u002D13\"")) ≡ Refused 9 28)
+    × (reading ample (dated (ascii "\"2023-1\\u0033\"")) ≡ Refused 9 23)
+    -- the closing quote where the text stops short; the first byte of a value that is no string
+    × (reading ample (dated (ascii "\"2023-02\"")) ≡ Refused 9 24)
+    × (reading ample (dated (ascii "20230229")) ≡ Refused 9 16)
+unfolding reading reporting octets charAt begins goesOn tour begun json.begins from walk step isWs begin opens point expo ends stops shaped tagOf tagAt objectOf elements
+    elementsFrom more follows past spaces
+    behind size left unmarked isMark isOpen isShut raw closing part wordNumberFrom same standsAt members membersFrom memberAt valueOf next known repeated has numberAt note noted
+    judged checked lacks breaks lowest tagAsks methodAsks isIn keeps ruled freely isString isArray spellingOf textOf spellingAt textAt wordSpelled text isBroken spelt lone
+    lettersFrom letterOf took isHexDigit isEsc hexes memoRule noBreak points beginsPoint fireRule escapeOf strings.short unit quad nibble joined strings.pair isHigh isLow
+    isSurrogate encoded viaRule isHop hopPlaces hopRule
+    hopKeeps
+    addressRule statusField statusRule dateRule daysIn leap callerRule calleeRule sequenceRule callIdRule destinationRule hostRule organizationRule reads runLength
+    decimalAt
+    digits within holds all among isAlnum isDigit isLetter isLower isUpper pieces.hasPiece pieces.pieceEnd settingOf methodOf numberOf contentAt sequenceOf numberEnd
+    sequence.cseqNumber sequence.cseqMethod settled agreed disagrees sidesDisagree sameSide fromCaller toCaller addressOf userEnd callerEnd calleeEnd
+    messageIdRule contentField oneOf bodyField namesImage imageRule wrongSide wrongNumber requestDisagrees faultAt letterAt letterReach placeOf placesFrom letters.sequenceReach
+    letters.dateReach letters.monthReach letters.dayReach letters.callIdReach letters.reachOf letters.countReach letters.fixedReach
+    letters.wordsReach letters.higher letters.common letters.numberReach letters.meets letters.low letters.top letters.runReach letters.follows letters.endReach
+letter-places = (refl, refl, refl, refl, refl, refl)
 
 -- 02 §9: six values, an array, its tag, its object and the object's three; the count stands with an 8, and is 0 with an 11, at the first value too many
 abbrev six : List ℕ

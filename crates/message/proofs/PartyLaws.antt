@@ -1,11 +1,10 @@
 -- The parts of an address. Assumes nothing.
 use Prim.Native.Nat.{ℕ, _≤_}
-use Rattle.fields.specs.Field.{addressRule}
 use Rattle.message.specs.inner.Facts.{Placed}
 use Rattle.octets.proofs.TestLaws.{or-split}
 use Rattle.rules.proofs.PartLaws.{caller-address-parts}
 use Rattle.rules.proofs.PlainLaws.{callee-short, caller-short}
-use Rattle.rules.specs.Address.{addressOf, calleeRule, callerRule}
+use Rattle.rules.specs.Address.{addressOf, addressRule, calleeRule, callerRule}
 use Rattle.rules.specs.declared.addresses.Address.the-variants.{Caller, Callee, Broken}
 use Rattle.rules.specs.declared.addresses.Address.{Address}
 use lib.ListN.{length}

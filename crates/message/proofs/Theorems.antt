@@ -1,8 +1,13 @@
 -- What the reading promises beyond its rows. Assumes nothing.
 use Prim.Native.Nat.{ℕ, _+_, _*_, _≤_, _<_}
+use Rattle.escapes.specs.Placing.{placeOf}
+use Rattle.fields.proofs.LetterLaws as values
+use Rattle.fields.specs.Field.{keeps, letterRule}
+use Rattle.fields.specs.Spans.{spellingAt, textAt}
+use Rattle.fields.specs.Value.{isString}
 use Rattle.json.proofs.Bound.{bound}
 use Rattle.json.proofs.VerdictLaws.{verdict-answer, one-verdict, text-counts, never-many}
-use Rattle.json.specs.Places.{members}
+use Rattle.json.specs.Places.{bytes, members}
 use Rattle.json.specs.Rfc7159.{JSON, JSON-text}
 use Rattle.json.specs.Values.{count}
 use Rattle.json.specs.Verdict as grammar
@@ -10,8 +15,9 @@ use Rattle.json.specs.Verdict.{Few, TooMany, Verdict}
 use Rattle.json.specs.inner.Tour.{visited}
 use Rattle.json.specs.declared.Visited.the-variants as visits
 use Rattle.json.specs.declared.Visited.{Visited}
+use Rattle.letters.specs.BadLetter.{BadLetter}
 use Rattle.message.proofs.ReadingLaws.{too-short, too-long, in-bounds, read-of}
-use Rattle.message.specs.Checks.{missing, broken, brokenPlace, checked}
+use Rattle.message.specs.Checks.{asks, breaks, missing, broken, brokenPlace, checked}
 use Rattle.fields.specs.Known.{empty, noted, repeated}
 use Rattle.message.specs.Message.{settingOf, disagrees}
 use Rattle.message.specs.Reading.{unless, agreed, ample, settled, judged, known, shaped, onJson, onUtf8, reading, reporting, uncounted}
@@ -22,14 +28,15 @@ use Rattle.fields.specs.declared.judging.Setting.{Setting}
 use Rattle.message.specs.declared.reading.Reading.the-variants.{Refused, Read}
 use Rattle.message.specs.declared.reading.Reading.{Reading}
 use Rattle.message.specs.declared.reading.Report.{Report}
-use Rattle.octets.proofs.TestLaws.{picked}
+use Rattle.octets.proofs.TestLaws.{and-parts, picked}
 use Rattle.rules.specs.Names.{fields}
 use Rattle.utf8.specs.Rfc3629.{verdict}
 use Rattle.utf8.specs.declared.Verdict.the-variants as utf8
 use Rattle.utf8.specs.declared.Verdict.{Verdict as Utf8}
+use borrow.Author.Tests.{not-true}
 use lib.Dec.{eqb, ltb}
-use lib.ListN.{length}
-use mathlib.Core.Bool.{Bool, true, false, cond}
+use lib.ListN.{getD, length}
+use mathlib.Core.Bool.{Bool, true, false, not, _&&_, cond}
 use mathlib.Core.List.{List}
 use mathlib.Core.Logic.{_↔_, _⊎_, inl, inr}
 use mathlib.Core.Path.{_≡_, refl, sym, ap, subst, _∙_}
@@ -247,3 +254,20 @@ never-eleven s p x e = let q = by-the-grammar ample s .eleven p .0 e in never-ma
 -- two answers that the contract of `read_and_count` allows are equal
 pub read-determined : (c : ℕ) (s : List ℕ) (a b : Report) → a ≡ reporting c s → b ≡ reporting c s → a ≡ b
 read-determined c s a b e f = e ∙ sym f
+
+-- p is the place of field n's first bad letter (02 §12): the field's rule is asked of its text, and the place is where that letter is spelled, behind the
+-- opening quote
+pub record AtBadLetter (s t : List ℕ) (n p : ℕ) : Type 0 where
+  pub letter : ℕ
+  pub bad : BadLetter (letterRule n) (textAt s (getD t n 0)) letter
+  pub place : p ≡ getD t n 0 + (1 + placeOf (spellingAt s (getD t n 0)) letter)
+
+-- THEOREM: where row 9 refuses a message for one of the fields 1 to 5 whose value is a string, its place is that of the bad letter
+pub bad-letter : (s : List ℕ) (run : Bool) (k : Setting) (t : List ℕ) (n : ℕ) → 1 ≤ n → n ≤ 5 → breaks s run k t n ≡ true
+    → isString (bytes s (getD t n 0)) ≡ true → AtBadLetter s t n (brokenPlace s k t n)
+unfolding breaks spellingAt textAt
+bad-letter s run k t n low high e is =
+    let v = bytes s (getD t n 0) in
+    let f = and-parts (ltb 0 (getD t n 0)) (not (keeps k n v)) (and-parts (ltb 0 (asks run k n)) (ltb 0 (getD t n 0) && not (keeps k n v)) e .1) .1 in
+    let b = values.bad-letter k n v low high is (not-true (keeps k n v) f) in
+    record { letter = b .0; bad = b .1 .0; place = ap (λ (p : ℕ). getD t n 0 + p) (b .1 .1) }

@@ -38,7 +38,8 @@ missing run k t = lowest (lacks run k t) 1 26
 abbrev pub broken : List ℕ → Bool → Setting → List ℕ → ℕ
 broken s run k t = lowest (breaks s run k t) 1 26
 
--- the place of a 9: where the value of field n breaks its rule, which is its first byte
+-- the place of a 9: where the value of field n breaks its rule, at its first byte or, of the fields 1 to 5, at a string's bad letter (02 §12): `nine-letter`
+-- in proofs/NineLaws.antt
 abbrev pub brokenPlace : List ℕ → Setting → List ℕ → ℕ → ℕ
 brokenPlace s k t n = getD t n 0 + faultAt k n (bytes s (getD t n 0))
 

@@ -79,9 +79,9 @@ fn judge_field(
     judge(k, n, value_at(s, v, e))
 }
 
-// The place p of the value at v: a fault stands at a value's first byte, so the sum stays in bounds.
+// The place p of the value at v: the value's first byte, or inside it, so the sum stays in bounds.
 pub fn place_in(v: usize, p: usize) -> usize
-    requires { ⌜ p ≡ 0 ⌝ }
+    requires { ⌜ (0 < p → v + p < 0x10000000000000000) ⌝ }
     ensures { λ r. ⌜ r ≡ v + p ⌝ }
 {
     v + p

@@ -20,7 +20,7 @@ use Rattle.octets.specs.Class.{all, among, isAlnum, isDigit, isLetter, isLower,
 use Rattle.octets.specs.Text.{standsAt}
 use Rattle.rules.proofs.NameLaws.{Placed, found, none, nth}
 use Rattle.rules.proofs.PieceLaws.{stands-inside, stands-one, value-grows}
-use Rattle.rules.specs.Address.{calleeRule, callerRule}
+use Rattle.rules.specs.Address.{addressRule, calleeRule, callerRule}
 use Rattle.rules.specs.Classes.{holds}
 use Rattle.rules.specs.Date.{date, dateRule}
 use Rattle.rules.specs.Pieces.{Piece, count, decimalAt, digits, fixed, free, hasPiece, number, pieceEnd, reads, run, runLength, within, word, wordNumber}
@@ -302,7 +302,7 @@ pieces-plain ps c h = record {
 
 -- The rules.
 
-pub one-of-two : (f g : List ℕ → Bool) → Plain f → Plain g → Plain (λ t. f t || g t)
+one-of-two : (f g : List ℕ → Bool) → Plain f → Plain g → Plain (λ t. f t || g t)
 one-of-two f g a b = record {
   plain = λ t e. by t (λ u. all isPlain u ≡ true) (or-split (f t) (g t) e) (a .plain t) (b .plain t);
   short = λ t e. by t (λ u. length u < 256) (or-split (f t) (g t) e) (a .short t) (b .short t);
@@ -316,13 +316,17 @@ pub sequence-plain : Plain sequenceRule
 unfolding sequenceRule all isPlain arePlain mostOf most together
 sequence-plain = pieces-plain _ (omega arith, (refl, (refl, tt))) refl
 
-pub caller-plain : Plain callerRule
+caller-plain : Plain callerRule
 unfolding callerRule all isPlain mostOf most
 caller-plain = pieces-plain _ (refl, (tt, (refl, (tt, (refl, tt))))) refl
 
-pub callee-plain : Plain calleeRule
+callee-plain : Plain calleeRule
 unfolding calleeRule all isPlain mostOf most
 callee-plain = pieces-plain _ (refl, (tt, (refl, tt))) refl
+
+pub address-plain : Plain addressRule
+unfolding addressRule
+address-plain = one-of-two callerRule calleeRule caller-plain callee-plain
 
 -- and how long they are at most
 pub caller-short : (t : List ℕ) → callerRule t ≡ true → length t ≤ 45

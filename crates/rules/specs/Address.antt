@@ -1,24 +1,30 @@
 -- To and From (01 Reading, 'Rules'): what the contracts of `src/addresses.rt` cite. Assumes nothing.
 use Prim.Native.Nat.{_+_, ℕ}
-use mathlib.Core.Bool.{Bool, cond}
+use mathlib.Core.Bool.{Bool, _||_, cond}
 use mathlib.Core.List.{List, _∷_, []}
 use Rattle.octets.specs.Ascii.{ascii}
-use Rattle.rules.specs.Pieces.{pieceEnd, fixed, reads}
+use Rattle.rules.specs.Pieces.{Piece, pieceEnd, fixed, reads}
 use Rattle.rules.specs.Texts.{fireId, userId}
 use Rattle.rules.specs.declared.addresses.Address.{Address}
 use Rattle.rules.specs.declared.addresses.Address.the-variants.{Broken, Callee, Caller}
 
 -- `net119:USER@FIRE.caller`
+abbrev pub caller : List Piece
+caller = fixed (ascii "net119:") ∷ userId ∷ fixed (ascii "@") ∷ fireId ∷ fixed (ascii ".caller") ∷ []
+
 unfoldable pub callerRule : List ℕ → Bool
-callerRule s =
-    reads
-    (fixed (ascii "net119:") ∷ userId ∷ fixed (ascii "@") ∷ fireId ∷ fixed (ascii ".caller") ∷ [])
-    s
-    0
+callerRule s = reads caller s 0
 
 -- `net119:fire@FIRE.callee`
+abbrev pub callee : List Piece
+callee = fixed (ascii "net119:fire@") ∷ fireId ∷ fixed (ascii ".callee") ∷ []
+
 unfoldable pub calleeRule : List ℕ → Bool
-calleeRule s = reads (fixed (ascii "net119:fire@") ∷ fireId ∷ fixed (ascii ".callee") ∷ []) s 0
+calleeRule s = reads callee s 0
+
+-- To, From: a caller's address or a callee's
+unfoldable pub addressRule : List ℕ → Bool
+addressRule t = callerRule t || calleeRule t
 
 -- where a caller's user ends: it begins at 7, behind `net119:`
 unfoldable pub userEnd : List ℕ → ℕ

@@ -14,8 +14,11 @@ abbrev pub sequenceNumber : Piece
 sequenceNumber = count 4294967295
 
 -- that number, one space, one of the methods
+abbrev pub sequence : List Piece
+sequence = sequenceNumber ∷ fixed (ascii " ") ∷ word methods ∷ []
+
 unfoldable pub sequenceRule : List ℕ → Bool
-sequenceRule s = reads (sequenceNumber ∷ fixed (ascii " ") ∷ word methods ∷ []) s 0
+sequenceRule s = reads sequence s 0
 
 -- the place behind the number
 unfoldable pub numberEnd : List ℕ → ℕ

@@ -27,8 +27,11 @@ unfoldable pub userRule : List ℕ → Bool
 userRule s = reads (userId ∷ []) s 0
 
 -- Call-ID, Session-ID: 2 to 64 of ASCII letters, digits, `-`, `.`, a letter or digit at both ends
+abbrev pub callId : Piece
+callId = run 2 64 Name Alnum
+
 unfoldable pub callIdRule : List ℕ → Bool
-callIdRule s = reads (run 2 64 Name Alnum ∷ []) s 0
+callIdRule s = reads (callId ∷ []) s 0
 
 -- Via: host, 1 to 253 letters, digits, `-`, `.`
 unfoldable pub hostRule : List ℕ → Bool

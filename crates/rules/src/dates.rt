@@ -17,7 +17,7 @@ fn is_leap(y: u64) -> bool
 }
 
 // The days of month m of year y, and 0 where there is no such month.
-fn days_in(y: u64, m: u64) -> u64
+pub fn days_in(y: u64, m: u64) -> u64
     ensures { λ r. ⌜ r ≡ daysIn y m ⌝ }
 {
     if m == 2 {

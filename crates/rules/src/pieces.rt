@@ -68,7 +68,7 @@ pub fn mark(s: &[u8], at: usize, b: u8) -> bool
 }
 
 // What a digit stands for. Other bytes are told apart by `has_digits`.
-fn worth(b: u8) -> u64
+pub fn worth(b: u8) -> u64
     ensures { λ r. ⌜ (r ≡ b - 48) × (r ≤ 207) ⌝ }
 {
     if b < 48 { 0 } else { (b - 48) as u64 }

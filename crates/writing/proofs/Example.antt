@@ -7,7 +7,7 @@ use Rattle.json.specs.inner.Tour.{tour}
 use Rattle.json.specs.Places.{part, spaces, past, isOpen, isShut, left, size, behind, closing, raw, next, valueOf, follows, more, memberAt, membersFrom, members, elementsFrom}
 use Rattle.json.specs.Places.{elements, isWs}
 use Rattle.message.specs.Checks.{lacks, breaks, lowest, checked}
-use Rattle.fields.specs.Field.{addressRule, keeps}
+use Rattle.fields.specs.Field.{keeps}
 use Rattle.fields.specs.Known.{numberAt, has, note, noted, repeated}
 use Rattle.message.specs.Message.{numberOf, methodOf, fromCaller, toCaller, settingOf, sameSide, wrongSide, wrongNumber, sidesDisagree, requestDisagrees, disagrees, messageOf}
 use Rattle.fields.specs.Spans.{textAt}
@@ -18,7 +18,7 @@ use Rattle.fields.specs.Via.{hopPlaces, hopRule, hopKeeps, isHop, viaRule}
 use Rattle.octets.specs.Ascii.{ascii}
 use Rattle.octets.specs.Class.{among, isDigit, isLower, isUpper, isLetter, isAlnum, all}
 use Rattle.octets.specs.Text.{same, standsAt}
-use Rattle.rules.specs.Address.{callerRule, calleeRule, userEnd, callerEnd, calleeEnd, addressOf}
+use Rattle.rules.specs.Address.{addressRule, callerRule, calleeRule, userEnd, callerEnd, calleeEnd, addressOf}
 use Rattle.rules.specs.Classes.{holds}
 use Rattle.rules.specs.Date.{leap, daysIn, dateRule}
 use Rattle.rules.specs.Asks.{isIn, tagAsks, methodAsks}

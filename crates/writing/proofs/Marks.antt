@@ -10,7 +10,7 @@ use Rattle.json.specs.inner.Tour.{tour}
 use Rattle.json.specs.Places.{behind, closing, elements, elementsFrom, follows, isOpen, isShut, left as leftOf, memberAt, members, membersFrom, more, next, part, lastOf, isWs}
 use Rattle.json.specs.Places.{past, raw, size, spaces, valueOf}
 use Rattle.message.specs.Checks.{breaks, checked, lacks, lowest}
-use Rattle.fields.specs.Field.{addressRule, keeps}
+use Rattle.fields.specs.Field.{keeps}
 use Rattle.fields.specs.Hop.{destinationOf, hopOf, hostOf}
 use Rattle.fields.specs.Known.{has, note, noted, numberAt, repeated}
 use Rattle.message.specs.Message.{contentAt, disagrees, fromCaller, messageOf, methodOf, numberOf, requestDisagrees, sameSide, settingOf, sidesDisagree, toCaller}
@@ -24,7 +24,7 @@ use Rattle.octets.specs.Ascii.{ascii}
 use Rattle.octets.specs.Class.{all, among, isAlnum, isDigit, isLetter, isLower, isUpper}
 use Rattle.octets.specs.Splice.{written}
 use Rattle.octets.specs.Text.{same, standsAt}
-use Rattle.rules.specs.Address.{addressOf, calleeEnd, calleeRule, callerEnd, callerRule, userEnd}
+use Rattle.rules.specs.Address.{addressOf, addressRule, calleeEnd, calleeRule, callerEnd, callerRule, userEnd}
 use Rattle.rules.specs.Classes.{holds}
 use Rattle.rules.specs.Date.{dateRule, daysIn, leap}
 use Rattle.rules.specs.Asks.{isIn, methodAsks, tagAsks}

@@ -14,12 +14,13 @@ use Rattle.json.proofs.ScanLaws.{Opener, Opened}
 use Rattle.json.specs.inner.Machine.{answer}
 use Rattle.json.specs.Places.{bytes, behind, past, raw, valueOf, members, elements, spell}
 use Rattle.json.specs.declared.Walked.the-variants.{End}
-use Rattle.fields.specs.Field.{addressRule, keeps}
+use Rattle.fields.specs.Field.{keeps}
 use Rattle.message.specs.Shape.{tagOf, objectOf}
 use Rattle.fields.specs.Value.{isString, ruled, wordSpelled}
 use Rattle.fields.specs.declared.judging.Setting.{Setting}
 use Rattle.octets.specs.Ascii.{ascii}
 use Rattle.octets.specs.Text.{same}
+use Rattle.rules.specs.Address.{addressRule}
 use Rattle.rules.specs.Names.{tags}
 use Rattle.rules.specs.Pieces.{wordNumberFrom}
 use Rattle.utf8.specs.Rfc3629.{verdict}

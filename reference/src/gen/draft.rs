@@ -2,6 +2,7 @@
 //! place or more, then written with or without white space.
 
 use super::escapes;
+use super::misses::{self, Miss};
 use super::node::{Node, Spacing};
 use super::rng::Rng;
 use super::texts;
@@ -354,13 +355,14 @@ impl Draft {
 
     /// Spoils the draft in one way, for one of the rows 5 to 10.
     pub fn spoil(&mut self, rng: &mut Rng) {
-        match rng.below(16) {
+        match rng.below(20) {
             0 => self.spoil_envelope(rng),
             1..=2 => self.double_a_field(rng),
             3..=5 => self.drop_a_field(rng),
             6..=10 => self.break_a_field(rng),
             11 => self.nest(rng),
-            _ => self.disagree(rng),
+            12..=15 => self.disagree(rng),
+            _ => self.miss_a_letter(rng),
         }
     }
 
@@ -430,6 +432,24 @@ impl Draft {
         let is_notify = self.get("Content-Type").is_some() && self.get("Message-ID").is_none();
         if is_notify && rng.one_in(6) {
             self.set_body(rng, ContentType::MessageImage);
+        }
+    }
+
+    /// Row 9 in one of the fields whose letters are told (02 §12).
+    fn miss_a_letter(&mut self, rng: &mut Rng) {
+        let field = match self.get("CSeq").is_some() {
+            true => *rng.pick(&misses::FIELDS),
+            false => fields::DATE,
+        };
+        let miss = *rng.pick(&Miss::ALL);
+        self.miss(rng, field, miss);
+    }
+
+    /// Puts a near miss in the place of a field's value, if it is there.
+    pub fn miss(&mut self, rng: &mut Rng, field: usize, miss: Miss) {
+        if let Some(index) = self.index(fields::NAMES[field - 1]) {
+            let value = &mut self.fields[index].1;
+            *value = misses::near(rng, field, miss, value);
         }
     }
 

@@ -29,6 +29,8 @@ const LONE: &[&str] = &[
 /// Which letters of a string are escapes.
 #[derive(Clone, Copy)]
 enum Share {
+    /// Those alone that must be.
+    Needed,
     One,
     /// The letters before some place.
     Head,
@@ -78,6 +80,16 @@ pub fn spell(rng: &mut Rng, spelled: &[u8]) -> Vec<u8> {
     letters(rng, spelled, share).concat()
 }
 
+/// A text as it may stand between quotes: mostly with no escape that it can do
+/// without.
+pub fn quotable(rng: &mut Rng, text: &str) -> Vec<u8> {
+    let share = match rng.one_in(3) {
+        true => rng.weighted(&SHARES),
+        false => Share::Needed,
+    };
+    letters_of(rng, text, share).concat()
+}
+
 /// The letters of a spelled text in other letters.
 fn letters(rng: &mut Rng, spelled: &[u8], share: Share) -> Vec<Vec<u8>> {
     let text = escapes::text(spelled).and_then(|text| String::from_utf8(text).ok());
@@ -92,6 +104,7 @@ fn letters_of(rng: &mut Rng, text: &str, share: Share) -> Vec<Vec<u8>> {
     let at = rng.below(text.chars().count().max(1));
     let letter = |(index, point): (usize, char)| {
         let chosen = match share {
+            Share::Needed => false,
             Share::One => index == at,
             Share::Head => index < at,
             Share::Tail => index >= at,
@@ -163,7 +176,7 @@ pub fn broken(rng: &mut Rng, value: &Node) -> Node {
 }
 
 /// What stands between the quotes of a value that is a string.
-fn string(value: &Node) -> Option<&[u8]> {
+pub fn string(value: &Node) -> Option<&[u8]> {
     match value {
         Node::Raw(bytes) => bytes.strip_prefix(b"\"")?.strip_suffix(b"\""),
         _ => None,

@@ -7,7 +7,9 @@ mod draft;
 mod escapes;
 mod flow;
 mod image;
+mod letters;
 mod log;
+mod misses;
 mod node;
 mod photos;
 mod questions;
@@ -51,6 +53,12 @@ pub fn ceiling_lines(seed: u64, count: u64, output: impl Write) -> io::Result<()
     write_lines(seed, count, output, || ceilings::pair(&mut rng))
 }
 
+/// So many lines for `probe` that read messages with a bad letter.
+pub fn letter_lines(seed: u64, count: u64, output: impl Write) -> io::Result<()> {
+    let mut letters = letters::Letters::new(seed);
+    write_lines(seed, count, output, || letters.line())
+}
+
 /// So many lines for `json`.
 pub fn json_lines(seed: u64, count: u64, output: impl Write) -> io::Result<()> {
     let mut rng = Rng::new(seed);
@@ -85,7 +93,9 @@ fn write_lines(
 mod tests {
     use super::*;
     use crate::count;
+    use crate::fields;
     use crate::hex;
+    use crate::json::{self, Value};
     use crate::json_lines::JsonLines;
     use crate::keep::Keep;
     use crate::lines::tests::written;
@@ -94,6 +104,7 @@ mod tests {
     use crate::probe::Probe;
     use crate::rules::Method;
     use crate::table;
+    use std::collections::BTreeSet;
 
     /// What a generator puts into an output.
     fn made(put: impl FnOnce(&mut Vec<u8>) -> io::Result<()>) -> Vec<u8> {
@@ -122,6 +133,10 @@ mod tests {
         made(|out| ceiling_lines(seed, count, out))
     }
 
+    fn letter_script(seed: u64, count: u64) -> Vec<u8> {
+        made(|out| letter_lines(seed, count, out))
+    }
+
     fn json_script(seed: u64, count: u64) -> Vec<u8> {
         made(|out| json_lines(seed, count, out))
     }
@@ -137,11 +152,13 @@ mod tests {
         assert_eq!(photo_script(5, 500), photo_script(5, 500));
         assert_eq!(utf8_script(5, 500), utf8_script(5, 500));
         assert_eq!(ceiling_script(5, 500), ceiling_script(5, 500));
+        assert_eq!(letter_script(5, 500), letter_script(5, 500));
         assert_eq!(json_script(5, 500), json_script(5, 500));
         assert_eq!(rule_script(5, 500), rule_script(5, 500));
         assert_ne!(photo_script(5, 500), photo_script(6, 500));
         assert_ne!(utf8_script(5, 500), utf8_script(6, 500));
         assert_ne!(ceiling_script(5, 500), ceiling_script(6, 500));
+        assert_ne!(letter_script(5, 500), letter_script(6, 500));
         assert_ne!(json_script(5, 500), json_script(6, 500));
         assert_ne!(rule_script(5, 500), rule_script(6, 500));
         assert_ne!(keep_log(5, 500), keep_log(6, 500));
@@ -158,6 +175,7 @@ mod tests {
                 photo_script(seed, 300),
                 utf8_script(seed, 300),
                 ceiling_script(seed, 150),
+                letter_script(seed, 300),
                 json_script(seed, 300),
                 rule_script(seed, 300),
             ] {
@@ -377,6 +395,51 @@ mod tests {
             values(message, "Content-Type") == [PHOTO] && message.contains(" NOTIFY\"")
         });
         assert!(photos.count() >= 5);
+    }
+
+    /// The field whose value the place of 9 stands in, and how far from its start.
+    fn place_of_9(message: &[u8]) -> Option<(usize, usize)> {
+        let refusal = message::read(message, CEILING).answer.err()?;
+        let text = json::parse(message, CEILING).ok()?;
+        let members = text.outermost.array()?.get(1)?.object()?;
+        let within = |value: &Value| (value.start..value.end).contains(&refusal.place);
+        let member = members.iter().find(|member| within(&member.value))?;
+        let field = fields::number_of(&member.name.text(message)?)?;
+        (refusal.number == 9).then_some((field, refusal.place - member.value.start))
+    }
+
+    /// The fields come in turn, and their first bad letters stand everywhere.
+    #[test]
+    fn letters_reach_every_place() {
+        let mut reached = misses::FIELDS.map(|_| BTreeSet::new());
+        let messages = messages_read(&letter_script(1, 15_000));
+        assert_eq!(messages.len(), 15_000);
+        for (index, message) in messages.iter().enumerate() {
+            let turn = index % misses::FIELDS.len();
+            let (field, letter) = place_of_9(message.as_bytes()).unwrap();
+            assert_eq!(field, misses::FIELDS[turn]);
+            reached[turn].insert(letter);
+        }
+        // From the first byte to the quote behind the longest text that is good.
+        for (reached, longest) in reached.iter().zip([19, 45, 45, 24, 64]) {
+            let all = 0..=longest + 1;
+            let missed: Vec<usize> = all.filter(|place| !reached.contains(place)).collect();
+            assert_eq!(missed, []);
+        }
+    }
+
+    #[test]
+    fn a_script_has_bad_letters_in_each_field() {
+        let messages = messages_read(&probe_script(1, 15_000));
+        let places = messages.iter().filter_map(|m| place_of_9(m.as_bytes()));
+        let letters: Vec<usize> = places
+            .filter(|place| place.1 > 0)
+            .map(|place| place.0)
+            .collect();
+        for field in misses::FIELDS {
+            let count = letters.iter().filter(|letter| **letter == field).count();
+            assert!(count >= 20, "{field}: {count}");
+        }
     }
 
     /// Whatever happens, a table that was well-formed stays so.

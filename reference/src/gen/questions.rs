@@ -3,7 +3,7 @@
 
 use super::draft;
 use super::rng::Rng;
-use super::texts;
+use super::texts::{self, at_length};
 use crate::fields::{self, Tag};
 use crate::hex;
 use crate::rules::{self, ContentType, Method};
@@ -68,11 +68,10 @@ static NAMES: [Name; 32] = [
         at_length(rng, b"azAZ09", 1, 15)
     }),
     made("call-id", 4, texts::call_id, |rng| {
-        let near = |rng: &mut Rng| at_length(rng, b"azAZ09-.", 2, 64);
-        either(rng, texts::bad_call_id, near)
+        either(rng, texts::bad_call_id, texts::near_call_id)
     }),
     made("date", 12, texts::date, |rng| {
-        either(rng, texts::bad_date, near_date)
+        either(rng, texts::bad_date, texts::near_date)
     }),
     made("host", 4, texts::host, |rng| {
         let near = |rng: &mut Rng| at_length(rng, b"azAZ09-.", 1, 253);
@@ -100,7 +99,7 @@ static NAMES: [Name; 32] = [
     made("language", 3, language, |rng| at_length(rng, b"az", 2, 2)),
     made("cseq", 10, cseq, near_cseq),
     made("address", 10, address, |rng| {
-        either(rng, texts::bad_address, near_address)
+        either(rng, texts::bad_address, texts::near_address)
     }),
     made("status", 5, status, |rng| {
         either(rng, texts::bad_status, near_status)
@@ -179,12 +178,6 @@ fn either(rng: &mut Rng, one: Maker, other: Maker) -> Vec<u8> {
     }
 }
 
-/// Bytes of a class, at either end of the range of lengths or just outside.
-fn at_length(rng: &mut Rng, class: &[u8], low: usize, high: usize) -> Vec<u8> {
-    let length = *rng.pick(&[low - 1, low, low + 1, high - 1, high, high + 1]);
-    rng.text(class, length)
-}
-
 /// Changes, adds or removes one byte, often by little.
 fn change_a_byte(rng: &mut Rng, text: &mut Vec<u8>) {
     if text.is_empty() {
@@ -243,38 +236,6 @@ fn near_message_id(rng: &mut Rng) -> Vec<u8> {
     [side.as_bytes().to_vec(), fire, own].join(&b'-')
 }
 
-/// A date with one or two of its numbers at or past an end of their range, or
-/// the end of a February.
-fn near_date(rng: &mut Rng) -> Vec<u8> {
-    if rng.one_in(3) {
-        let year = match rng.below(4) {
-            0 => rng.between(1, 24) * 400,
-            1 => rng.between(1, 99) * 100,
-            2 => rng.between(1, 2499) * 4,
-            _ => rng.between(1, 9999),
-        };
-        let day = rng.between(28, 30);
-        return format!("{year:04}-02-{day}T00:00:00+0000").into();
-    }
-    const EDGES: [(usize, &[&str]); 8] = [
-        (0, &["0000", "0001", "9999"]),
-        (5, &["00", "01", "12", "13"]),
-        (8, &["00", "01", "28", "29", "30", "31", "32"]),
-        (11, &["00", "23", "24"]),
-        (14, &["00", "59", "60"]),
-        (17, &["00", "59", "60"]),
-        (20, &["00", "14", "15"]),
-        (22, &["00", "59", "60"]),
-    ];
-    let mut text = texts::date(rng);
-    for _ in 0..rng.between(1, 2) {
-        let (at, numbers) = *rng.pick(&EDGES);
-        let number = rng.pick(numbers).as_bytes();
-        text[at..at + number.len()].copy_from_slice(number);
-    }
-    text
-}
-
 fn content_type(rng: &mut Rng) -> Vec<u8> {
     rng.one_of(&ContentType::NAMES)
 }
@@ -326,19 +287,13 @@ fn cseq(rng: &mut Rng) -> Vec<u8> {
     format!("{} {method}", draft::number(rng)).into()
 }
 
-/// A bad CSeq, or a number around a power of ten or the end of its range.
+/// A bad CSeq, or one with a number near a mark.
 fn near_cseq(rng: &mut Rng) -> Vec<u8> {
     let method = *rng.pick(&Method::NAMES);
-    if rng.one_in(2) {
-        return texts::bad_cseq(rng, method);
+    match rng.one_in(2) {
+        true => texts::bad_cseq(rng, method),
+        false => format!("{} {method}", texts::near_number(rng)).into(),
     }
-    let middle = match rng.below(3) {
-        0 => u64::from(u32::MAX),
-        1 => 10u64.pow(rng.below(20) as u32),
-        _ => rng.below(5_000_000_000) as u64,
-    };
-    let number = (middle + rng.below(4) as u64).saturating_sub(1);
-    format!("{number} {method}").into()
 }
 
 fn address(rng: &mut Rng) -> Vec<u8> {
@@ -348,23 +303,6 @@ fn address(rng: &mut Rng) -> Vec<u8> {
     } else {
         texts::caller_address(&texts::user_id(rng), &fire)
     }
-}
-
-/// An address of parts that are each near their marks.
-fn near_address(rng: &mut Rng) -> Vec<u8> {
-    let scheme = *rng.pick(&["net119:", "net119:", "net119:", "net119", ""]);
-    let user = match rng.below(3) {
-        0 => b"fire".to_vec(),
-        1 => texts::user_id(rng),
-        _ => at_length(rng, b"azAZ09", 1, 15),
-    };
-    let fire = match rng.below(3) {
-        0 => texts::fire_id(rng),
-        1 => at_length(rng, b"abz09", 2, 15),
-        _ => at_length(rng, b"abz09_", 2, 15),
-    };
-    let side = *rng.pick(&[".caller", ".callee", ".caller", ".callee", ".caller.callee"]);
-    [scheme.as_bytes(), &user, b"@", &fire, side.as_bytes()].concat()
 }
 
 fn status(rng: &mut Rng) -> Vec<u8> {

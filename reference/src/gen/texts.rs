@@ -34,6 +34,12 @@ fn bounded(rng: &mut Rng, ends: &[u8], inner: &[u8], low: usize, high: usize) ->
     text
 }
 
+/// Bytes of a class, at either end of the range of lengths or just outside.
+pub fn at_length(rng: &mut Rng, class: &[u8], low: usize, high: usize) -> Vec<u8> {
+    let length = *rng.pick(&[low - 1, low, low + 1, high - 1, high, high + 1]);
+    rng.text(class, length)
+}
+
 pub fn fire_id(rng: &mut Rng) -> Vec<u8> {
     if rng.percent(70) {
         rng.one_of(&["kita", "nishi", "tokyo", "osaka", "a1", "k_2", "sakai"])
@@ -96,6 +102,10 @@ pub fn bad_call_id(rng: &mut Rng) -> Vec<u8> {
     }
 }
 
+pub fn near_call_id(rng: &mut Rng) -> Vec<u8> {
+    at_length(rng, b"azAZ09-.", 2, 64)
+}
+
 pub fn caller_address(user: &[u8], fire: &[u8]) -> Vec<u8> {
     [b"net119:", user, b"@", fire, b".caller"].concat()
 }
@@ -135,6 +145,23 @@ pub fn bad_address(rng: &mut Rng) -> Vec<u8> {
     rng.one_of(BAD_ADDRESSES)
 }
 
+/// An address of parts that are each near their marks.
+pub fn near_address(rng: &mut Rng) -> Vec<u8> {
+    let scheme = *rng.pick(&["net119:", "net119:", "net119:", "net119", ""]);
+    let user = match rng.below(3) {
+        0 => b"fire".to_vec(),
+        1 => user_id(rng),
+        _ => at_length(rng, b"azAZ09", 1, 15),
+    };
+    let fire = match rng.below(3) {
+        0 => fire_id(rng),
+        1 => at_length(rng, b"abz09", 2, 15),
+        _ => at_length(rng, b"abz09_", 2, 15),
+    };
+    let side = *rng.pick(&[".caller", ".callee", ".caller", ".callee", ".caller.callee"]);
+    [scheme.as_bytes(), &user, b"@", &fire, side.as_bytes()].concat()
+}
+
 pub fn bad_cseqs(method: &str) -> [String; 20] {
     [
         format!("0 {method}"),
@@ -162,6 +189,16 @@ pub fn bad_cseqs(method: &str) -> [String; 20] {
 
 pub fn bad_cseq(rng: &mut Rng, method: &str) -> Vec<u8> {
     rng.pick(&bad_cseqs(method)).as_bytes().to_vec()
+}
+
+/// A CSeq's number, around a power of ten or the end of its range.
+pub fn near_number(rng: &mut Rng) -> u64 {
+    let middle = match rng.below(3) {
+        0 => u64::from(u32::MAX),
+        1 => 10u64.pow(rng.below(20) as u32),
+        _ => rng.below(5_000_000_000) as u64,
+    };
+    (middle + rng.below(4) as u64).saturating_sub(1)
 }
 
 /// Days that there are, at the ends of months and of ranges.
@@ -242,6 +279,38 @@ pub fn bad_date(rng: &mut Rng) -> Vec<u8> {
     let mut text = date(rng);
     let at = rng.below(text.len());
     text[at] = *rng.pick(b"0123456789-T:+ Z/");
+    text
+}
+
+/// A date with one or two of its numbers at or past an end of their range, or
+/// the end of a February.
+pub fn near_date(rng: &mut Rng) -> Vec<u8> {
+    if rng.one_in(3) {
+        let year = match rng.below(4) {
+            0 => rng.between(1, 24) * 400,
+            1 => rng.between(1, 99) * 100,
+            2 => rng.between(1, 2499) * 4,
+            _ => rng.between(1, 9999),
+        };
+        let day = rng.between(28, 30);
+        return format!("{year:04}-02-{day}T00:00:00+0000").into();
+    }
+    const EDGES: [(usize, &[&str]); 8] = [
+        (0, &["0000", "0001", "9999"]),
+        (5, &["00", "01", "12", "13"]),
+        (8, &["00", "01", "28", "29", "30", "31", "32"]),
+        (11, &["00", "23", "24"]),
+        (14, &["00", "59", "60"]),
+        (17, &["00", "59", "60"]),
+        (20, &["00", "14", "15"]),
+        (22, &["00", "59", "60"]),
+    ];
+    let mut text = date(rng);
+    for _ in 0..rng.between(1, 2) {
+        let (at, numbers) = *rng.pick(&EDGES);
+        let number = rng.pick(numbers).as_bytes();
+        text[at..at + number.len()].copy_from_slice(number);
+    }
     text
 }
 

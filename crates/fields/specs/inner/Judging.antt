@@ -1,7 +1,7 @@
 -- What the rule of a field answers (01 Reading, 9): kept, with the facts that the value tells, or broken, with the place in the value. Each
 -- goes by the rules of Field.antt and Via.antt themselves. Assumes nothing.
 use Prim.Native.Nat.{ℕ}
-use Rattle.fields.specs.Field.{addressRule, keeps, faultAt}
+use Rattle.fields.specs.Field.{keeps, letterAt, faultAt}
 use Rattle.fields.specs.Trail.{trailOf}
 use Rattle.fields.specs.Value.{textOf, freely, ruled}
 use Rattle.fields.specs.Via.{viaRule}
@@ -17,7 +17,7 @@ use Rattle.fields.specs.declared.judging.Status.{Status}
 use Rattle.fields.specs.declared.vias.Via.the-variants as vias
 use Rattle.fields.specs.declared.vias.Via.{Via}
 use Rattle.json.specs.Places.{elements}
-use Rattle.rules.specs.Address.{addressOf}
+use Rattle.rules.specs.Address.{addressOf, addressRule}
 use Rattle.rules.specs.Pieces.{decimalAt}
 use Rattle.rules.specs.Sequence.{sequenceRule, cseqNumber, cseqMethod}
 use Rattle.rules.specs.Status.{statusRule}
@@ -30,11 +30,11 @@ judgedValue k n v = cond (keeps k n v) judgeds.Kept (judgeds.Broken (faultAt k n
 
 -- 1 CSeq: its number and its method's code
 unfoldable pub cseqOf : List ℕ → CSeq
-cseqOf v = cond (ruled sequenceRule v) (cseqs.Kept (cseqNumber (textOf v)) (cseqMethod (textOf v))) (cseqs.Broken 0)
+cseqOf v = cond (ruled sequenceRule v) (cseqs.Kept (cseqNumber (textOf v)) (cseqMethod (textOf v))) (cseqs.Broken (letterAt 1 v))
 
--- 2 To, 3 From: the address
+-- 2 To, 3 From: the address; both are under one rule
 unfoldable pub partyOf : List ℕ → Party
-partyOf v = cond (ruled addressRule v) (parties.Kept (addressOf (textOf v))) (parties.Broken 0)
+partyOf v = cond (ruled addressRule v) (parties.Kept (addressOf (textOf v))) (parties.Broken (letterAt 2 v))
 
 -- 6 Via: its trail
 unfoldable pub viaOf : List ℕ → Via

@@ -2,32 +2,31 @@
 use Rattle.fields.proofs.JudgingLaws.{party-untold, party-caller, party-callee, party-broken}
 use Rattle.fields.proofs.judging.judge_party.Statement.{statement}
 use Rattle.fields.proofs.judging.judge_party.Tie as tie
-use Rattle.fields.proofs.ValueLaws.{text-is}
 use borrow.Author.Needs.{needs}
 use borrow.Author.Tests.{not-true, not-false}
 
 returns : tie.Need-returns
 returns c = let a = c .before .before in
-    party-untold (a .before .before .args .v .now) _ (text-is (a .before .before .args .v .now) (a .own-spelling .ensures)) (c .before .is-string .ensures)
+    party-untold (a .before .before .args .v .now) _ (a .own-spelling .ensures) (c .before .is-string .ensures)
     (not-true _ (c .if1 .taken))
 
 returns-2 : tie.Need-returns-2
 returns-2 c = let q = c .before .before in let u = q .before .before in let a = u .before in
-    party-caller (a .before .before .args .v .now) _ (text-is (a .before .before .args .v .now) (a .own-spelling .ensures)) (u .is-string .ensures)
+    party-caller (a .before .before .args .v .now) _ (a .own-spelling .ensures) (u .is-string .ensures)
     (not-false _ (q .before .if1 .left)) (q .address-of .ensures)
     (c .enum-told .given .0 .0) (c .enum-told .given .0 .1 .0) (c .enum-told .given .1)
 
 returns-3 : tie.Need-returns-3
 returns-3 c = let q = c .before .before in let u = q .before .before in let a = u .before in
-    party-callee (a .before .before .args .v .now) _ (text-is (a .before .before .args .v .now) (a .own-spelling .ensures)) (u .is-string .ensures)
+    party-callee (a .before .before .args .v .now) _ (a .own-spelling .ensures) (u .is-string .ensures)
     (not-false _ (q .before .if1 .left)) (q .address-of .ensures)
     (c .enum-told2 .given .0 .0) (c .enum-told2 .given .1)
 
 returns-4 : tie.Need-returns-4
-returns-4 c = let q = c .before .before in let u = q .before .before in let a = u .before in
-    party-broken (a .before .before .args .v .now) _ (text-is (a .before .before .args .v .now) (a .own-spelling .ensures)) (u .is-string .ensures)
+returns-4 c = let q = c .before .before .before in let u = q .before .before in let a = u .before in
+    party-broken (a .before .before .args .v .now) _ (a .own-spelling .ensures) (u .is-string .ensures)
     (not-false _ (q .before .if1 .left)) (q .address-of .ensures)
-    (c .enum-told3 .given .1)
+    (c .before .enum-told3 .given .1) (c .letter-at .ensures)
 
 pub judge-party-spec : {M : Type 1} → statement M
 judge-party-spec =
@@ -40,6 +39,7 @@ judge-party-spec =
     (λ c. search needs)
     (λ c. search needs)
     (λ c. search needs)
+    (λ c κs. search needs)
     returns-2
     returns-3
     returns-4)

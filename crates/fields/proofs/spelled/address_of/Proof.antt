@@ -1,9 +1,10 @@
 -- `fields::spelled::address_of` meets its contract. As it is spelled, and else decoded. Assumes nothing.
 use Rattle.fields.proofs.FieldLaws.{callee-kept, caller-kept}
 use Rattle.fields.proofs.SpelledLaws.{own-text, within-same}
-use Rattle.fields.proofs.TriedLaws.{address-plain, broken-address}
+use Rattle.fields.proofs.TriedLaws.{broken-address}
 use Rattle.fields.proofs.spelled.address_of.Statement.{statement}
 use Rattle.fields.proofs.spelled.address_of.Tie as tie
+use Rattle.rules.proofs.PlainLaws.{address-plain}
 use Rattle.rules.specs.Address.{addressOf}
 use Rattle.rules.specs.declared.addresses.Address.the-variants.{Broken}
 use borrow.Author.Needs.{needs}

@@ -1,11 +1,12 @@
 -- `message::checking::breaking` meets its contract. The loop keeps that row 9 is what it says from here on. Assumes nothing.
 use Prim.Native.Nat.{_-_, _≤_}
-use Rattle.message.proofs.CheckLaws.{field-fault, field-kept, over, passes, stops}
+use Rattle.message.proofs.CheckLaws.{fault-there, field-fault, field-kept, over, passes, stops}
 use Rattle.message.proofs.checking.breaking.Statement.{statement}
 use Rattle.message.proofs.checking.breaking.Tie as tie
 use Rattle.message.specs.inner.Facts.{nineFrom}
 use borrow.Author.Needs.{needs}
-use mathlib.Core.Path.{_≡_, sym, _∙_}
+use lib.ListN.{getD}
+use mathlib.Core.Path.{_≡_, refl, sym, _∙_}
 use native.Mathlib.Omega.{arith}
 
 abbrev Inv-loop : tie.InvT-loop
@@ -18,11 +19,13 @@ loop-holds : tie.Need-loop-holds Inv-loop μ-loop
 loop-holds c = (search needs, (search needs, c .before .pre .1 .1 .1))
 
 place-in-requires : tie.Need-place-in-requires Inv-loop μ-loop
-place-in-requires c κs =
+place-in-requires c κs h =
     let at-judge-field = c .before .before .before .before in
     let at-loop = at-judge-field .before .before in
     let start = at-loop .before .before in
-    let x = start .args in field-fault (x .s .now) (x .run) (x .k) (x .at .now) (at-loop .loop .n) (sym (c .before .before .j .given .1) ∙ at-judge-field .judge-field .ensures) .0
+    let x = start .args in let l = at-loop .loop in
+    let f = field-fault (x .s .now) (x .run) (x .k) (x .at .now) (l .n) (sym (c .before .before .j .given .1) ∙ at-judge-field .judge-field .ensures) in
+    omega (arith, fault-there (x .s .now) (x .k) (l .n) (getD (x .at .now) (l .n) 0) refl (f .0) h)
 
 returns : tie.Need-returns Inv-loop μ-loop
 returns c =

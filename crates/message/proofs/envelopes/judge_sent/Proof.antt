@@ -2,8 +2,10 @@
 use Rattle.fields.specs.inner.Asked.{Own}
 use Prim.Native.Nat.{ℕ}
 use Rattle.fields.proofs.JudgingLaws.{judged-fault, judged-tells, via-fault, via-tells}
+use Rattle.fields.proofs.LetterLaws.{fault-first}
 use Rattle.fields.proofs.SpellingLaws.{own-bytes}
 use Rattle.fields.specs.Field.{keeps}
+use Rattle.message.proofs.CheckLaws.{fault-there}
 use Rattle.message.proofs.EnvelopeLaws.{passing, stopping, trail-told}
 use Rattle.message.proofs.envelopes.judge_sent.Statement.{statement}
 use Rattle.message.proofs.envelopes.judge_sent.Tie as tie
@@ -23,10 +25,13 @@ judge-requires c κs =
     (subst (λ (l : List ℕ). Own l) (sym (c .value-at .ensures)) (own-bytes (start .args .s .now) (getD (start .args .at .now) 4 0)), (omega arith, omega arith))
 
 place-in-requires : tie.Need-place-in-requires
-place-in-requires c κs =
+place-in-requires c κs h =
     let at-judge = c .before .before .before .before in
-    let start = at-judge .before .before .before .before .before in
-    judged-fault _ (firstSetting (start .args .tag)) 4 (sym (c .before .before .p .given .1) ∙ at-judge .judge .ensures) .0
+    let at-value = at-judge .before in
+    let start = at-value .before .before .before .before in
+    let x = start .args in let k = firstSetting (x .tag) in
+    let f = judged-fault _ k 4 (sym (c .before .before .p .given .1) ∙ at-judge .judge .ensures) in
+    omega (arith, fault-there (x .s .now) k 4 (getD (x .at .now) 4 0) (at-value .value-at .ensures) (f .0) h)
 
 value-at-requires-2 : tie.Need-value-at-requires-2
 value-at-requires-2 c κs = c .before .before .before .before .before .before .before .before .before .pre .1 .ends 5
@@ -37,16 +42,21 @@ judge-requires-2 c κs =
     (subst (λ (l : List ℕ). Own l) (sym (c .value-at2 .ensures)) (own-bytes (start .args .s .now) (getD (start .args .at .now) 5 0)), (omega arith, omega arith))
 
 place-in-requires-2 : tie.Need-place-in-requires-2
-place-in-requires-2 c κs =
-    let at-judge2 = c .before .before .before .before in
-    let start = at-judge2 .before .before .before .before .before .before .before .before .before .before .before in
-    judged-fault _ (firstSetting (start .args .tag)) 5 (sym (c .before .before .p2 .given .1) ∙ at-judge2 .judge2 .ensures) .0
+place-in-requires-2 c κs h =
+    let at-judge = c .before .before .before .before in
+    let at-value = at-judge .before in
+    let start = at-value .before .before .before .before .before .before .before .before .before .before in
+    let x = start .args in let k = firstSetting (x .tag) in
+    let f = judged-fault _ k 5 (sym (c .before .before .p2 .given .1) ∙ at-judge .judge2 .ensures) in
+    omega (arith, fault-there (x .s .now) k 5 (getD (x .at .now) 5 0) (at-value .value-at2 .ensures) (f .0) h)
 
 value-at-requires-3 : tie.Need-value-at-requires-3
 value-at-requires-3 c κs = c .before .before .before .before .before .before .before .before .before .before .before .before .before .before .before .pre .1 .ends 6
 
 place-in-requires-3 : tie.Need-place-in-requires-3
-place-in-requires-3 c κs = via-fault _ (sym (c .before .before .p3 .given .1) ∙ c .before .before .before .before .judge-via .ensures) .0
+place-in-requires-3 c κs h =
+    let z = via-fault _ (sym (c .before .before .p3 .given .1) ∙ c .before .before .before .before .judge-via .ensures) .0 in
+    absurd (omega arith)
 
 returns : tie.Need-returns
 returns c =
@@ -86,7 +96,8 @@ returns-3 c =
     let f = via-fault _ (sym (c .before .before .before .p3 .given .1) ∙ at-judge-via .judge-via .ensures) in
     passing (x .s .now) k (x .at .now) 4 (omega arith) (omega arith) (at-value-at .value-at .ensures) d
     ∙ passing (x .s .now) k (x .at .now) 5 (omega arith) (omega arith) (at-value-at2 .value-at2 .ensures) i
-    ∙ stopping (x .s .now) k (x .at .now) 6 (omega arith) (omega arith) (at-value-at3 .value-at3 .ensures) (start .pre .0 .six) (f .1) (f .0) (c .place-in3 .ensures)
+    ∙ stopping (x .s .now) k (x .at .now) 6 (omega arith) (omega arith) (at-value-at3 .value-at3 .ensures) (start .pre .0 .six) (f .1)
+    (f .0 ∙ sym (fault-first k 6 _ (omega arith))) (c .place-in3 .ensures)
 
 returns-4 : tie.Need-returns-4
 unfolding keeps

