@@ -86,10 +86,15 @@ static void put(const char *text) {
     length += strlen(text);
 }
 
+/* A message of these bytes alone. */
+static void set(const char *text) {
+    length = 0;
+    put(text);
+}
+
 /* A message with so many Via objects, and as many spaces behind it as make it the longest. Every other object is spelled with escapes. */
 static void make(const char *tag, const char *call, const char *cseq, int vias, const char *more) {
-    length = 0;
-    put("[\"");
+    set("[\"");
     put(tag);
     put("\",{\"CSeq\":\"");
     put(cseq);
@@ -139,15 +144,12 @@ static void parts(void) {
     decode("text, a byte more", 7, NET119_OK, "host/x");
     decode("text, a byte less", 5, NET119_NO_ROOM, "");
     decode("text, no room", 0, NET119_NO_ROOM, "");
-    length = 0;
-    put("\\\"\\\\\\b\\f\\n\\r\\t\\u00e9\\u3042\\uD83D\\ude92");
+    set("\\\"\\\\\\b\\f\\n\\r\\t\\u00e9\\u3042\\uD83D\\ude92");
     decode("text, each kind of escape", 16, NET119_OK, "\"\\\b\f\n\r\t\xc3\xa9\xe3\x81\x82\xf0\x9f\x9a\x92");
     decode("text, each kind of escape, a byte less", 15, NET119_NO_ROOM, "");
-    length = 0;
-    put("\\x\\u12");
+    set("\\x\\u12");
     decode("text, no escapes", 6, NET119_OK, "\\x\\u12");
-    length = 0;
-    put("h\\ude92\\ud83d");
+    set("h\\ude92\\ud83d");
     decode("text, a lone surrogate", NET119_LONGEST, NET119_BAD_VALUE, "");
     decode("text, a lone surrogate, no room", 0, NET119_BAD_VALUE, "");
 
@@ -186,11 +188,9 @@ int main(void) {
     run("blank", blanks, NET119_OK);
 
     /* Texts that the reading goes through and refuses. */
-    length = 0;
-    put("[[[[[[[[-1.5e+10]]]]]]]]");
+    set("[[[[[[[[-1.5e+10]]]]]]]]");
     run("eight arrays", reads, NET119_NOT_A_MESSAGE);
-    length = 0;
-    put("[1,{\"x\":[[[[[[[]]]]]]]}]");
+    set("[1,{\"x\":[[[[[[[]]]]]]]}]");
     run("a ninth level", reads, NET119_TOO_DEEP);
     run("a ninth level, counted", counts, NET119_TOO_DEEP);
 
@@ -217,11 +217,9 @@ int main(void) {
     run("a bad CSeq", hears, NET119_BAD_VALUE);
     make("request", "C254\\u002f", "2 BYE", 16, DEEPEST);
     run("a bad Call-ID", hears, NET119_BAD_VALUE);
-    length = 0;
-    put("[\"request\",{\"CSeq\":\"2 BYE\",\"To\":\"net119:fire@kita_.callee\",\"From\":0,\"Call-ID\":0,\"Date\":0,\"Via\":0}]");
+    set("[\"request\",{\"CSeq\":\"2 BYE\",\"To\":\"net119:fire@kita_.callee\",\"From\":0,\"Call-ID\":0,\"Date\":0,\"Via\":0}]");
     run("a bad To", hears, NET119_BAD_VALUE);
-    length = 0;
-    put("[\"ping\",{\"Date\":\"2024-02-30T\",\"Via\":0,\"Destination\":0}]");
+    set("[\"ping\",{\"Date\":\"2024-02-30T\",\"Via\":0,\"Destination\":0}]");
     run("a bad Date", hears, NET119_BAD_VALUE);
 
     make("request", "C254", "1 ACK", 16, DEEPEST);

@@ -1,18 +1,18 @@
 -- The reach of a number without leading zeros. Behind it stands what no digit can begin. Assumes nothing.
 use Prim.Native.Nat.{ℕ, _+_, _-_, _*_, _≤_, _<_}
-use Rattle.letters.proofs.Reaches.{Reaches, at-end, at-letter, here, none-here, none-left, opens, past-letter}
+use Rattle.letters.proofs.Reaches.{Reaches, at-end, at-letter, here, none-either, none-here, none-left, opens, past-letter}
 use Rattle.letters.specs.BadLetter.{Begins}
 use Rattle.letters.specs.inner.Reach.{countReach}
 use Rattle.letters.specs.inner.Rest.{countRest}
 use Rattle.octets.proofs.ClassLaws.{among-high, among-in, among-low, in-among}
-use Rattle.octets.proofs.TestLaws.{Either, clash, either, picked}
+use Rattle.octets.proofs.TestLaws.{Either, clash, either}
 use Rattle.octets.specs.Class.{among, isDigit}
 use borrow.Author.Tests.{lt-ltb, ltb-false, ltb-true}
 use lib.Dec.{ltb}
-use mathlib.Core.Bool.{Bool, true, false, and-false, cond}
+use mathlib.Core.Bool.{Bool, true, false, and-false}
 use mathlib.Core.List.{List, [], _∷_}
 use mathlib.Core.Logic.{inl, inr}
-use mathlib.Core.Path.{_≡_, refl}
+use mathlib.Core.Path.{_≡_}
 use native.Mathlib.Omega.{arith}
 
 module _ (hi : ℕ) (Q : List ℕ → Bool) (room : 1 ≤ hi) where
@@ -50,12 +50,9 @@ module _ (hi : ℕ) (Q : List ℕ → Bool) (room : 1 ≤ hi) where
         go (inl a) = let i = ltb-true 0 v a in number-opens v (omega arith) h
         go (inr a) = let z : v ≡ 0 = let i = ltb-false 0 v a in omega arith in rw z (one-opens (number-opens 1 (omega arith) room))
 
-    none : (b : Bool) (t : List ℕ) → K t ≡ 0 → cond b (K t) 0 ≡ 0
-    none b t z = picked (λ (k : ℕ). k ≡ 0) b z refl
-
     pub count-reaches : (t : List ℕ) (v : ℕ) → v ≤ hi → Reaches (countRest hi Q v) t (countReach hi K v t)
     unfolding countReach countRest
-    count-reaches [] v h = rw (none (ltb 0 v) [] (none-left (goes []))) (at-end (count-opens v h))
+    count-reaches [] v h = rw (none-either (ltb 0 v) (none-left (goes []))) (at-end (count-opens v h))
     count-reaches (x ∷ t) v h = go (either (isDigit x)) (either (among 1 hi w)) (either (ltb 0 v)) (count-reaches t w)
       where
         w : ℕ
@@ -78,7 +75,7 @@ module _ (hi : ℕ) (Q : List ℕ → Bool) (room : 1 ≤ hi) where
         go : Either (isDigit x) → Either (among 1 hi w) → Either (ltb 0 v) → Next → Reaches (countRest hi Q v) (x ∷ t) (countReach hi K v (x ∷ t))
         go (inl d) (inl a) p next = let i = among-in 1 hi w a in rw (d, a) (past-letter (λ u. rw (d, lt-ltb 0 w (omega arith))) (next (i .1)))
         go (inl d) (inr a) p next =
-            rw (d, a, none (ltb 0 v) (x ∷ t) (none-here (K (x ∷ t)) (λ u. shut x u d) (goes (x ∷ t)))) (at-letter opened (no-more d a))
+            rw (d, a, none-either (ltb 0 v) (none-here (K (x ∷ t)) (λ u. shut x u d) (goes (x ∷ t)))) (at-letter opened (no-more d a))
         go (inr d) a (inl p) next =
             let i = ltb-true 0 v p in
             rw (d, p) (here (K (x ∷ t)) opened (λ u. rw (d, in-among 1 hi v (omega arith) h)) (goes (x ∷ t)))

@@ -3,12 +3,12 @@
 use Prim.Native.Nat.{ℕ, suc, zero, _≤_, _<_}
 use Rattle.letters.specs.BadLetter.{BadLetter, Begins}
 use Rattle.letters.specs.inner.Reach.{higher}
-use Rattle.octets.proofs.TestLaws.{Either, clash, either}
+use Rattle.octets.proofs.TestLaws.{Either, clash, either, picked}
 use borrow.Author.Tests.{leb-false, leb-true}
 use lib.Dec.{leb}
 use lib.ListN.{drop, length, length-append, length-take, take, take-append-drop}
 use lib.Seq.{take-nil, take-take}
-use mathlib.Core.Bool.{Bool, true, false, _||_}
+use mathlib.Core.Bool.{Bool, true, false, _||_, cond}
 use mathlib.Core.List.{List, [], _∷_, _++_, append-assoc}
 use mathlib.Core.Logic.{inl, inr}
 use mathlib.Core.Path.{_≡_, refl, sym, ap, _∙_}
@@ -99,6 +99,10 @@ module _ {R : List ℕ → Bool} where
         goes = rw (← take-take k n t (let z : k ≤ n = omega arith in z)) (r .goes);
         ends = λ o b. r .ends (omega arith) (rw (take-take (suc k) n t h) b);
       }
+
+-- where nothing is reached, it is the same whether it is asked or not
+pub none-either : (b : Bool) {k : ℕ} → k ≡ 0 → cond b k 0 ≡ 0
+none-either b e = picked (λ (k : ℕ). k ≡ 0) b e refl
 
 module _ {R Q : List ℕ → Bool} where
   -- a letter that goes on, to what is asked behind it

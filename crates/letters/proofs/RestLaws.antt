@@ -14,7 +14,7 @@ use borrow.Author.Tests.{eq-eqb, eqb-false, eqb-true, ltb-false, ltb-true, ne-eq
 use lib.Dec.{eqb, ltb}
 use lib.ListN.{List·getD-eq-default, drop, drop-of-length-le, getD, length, length-drop, take}
 use lib.Seq.{drop-cons, drop-drop}
-use mathlib.Core.Bool.{Bool, true, false, not, _&&_, _||_, and-false}
+use mathlib.Core.Bool.{Bool, true, false, not, _&&_, _||_, and-assoc, and-false}
 use mathlib.Core.List.{List, [], _∷_}
 use mathlib.Core.Logic.{inl, inr}
 use mathlib.Core.Path.{_≡_, refl, sym, ap, _∙_}
@@ -33,10 +33,6 @@ end-same s at h = go (either (ltb at (length s)))
     go (inr e) = let k = ltb-false at (length s) e in rw (eq-eqb at (length s) (omega arith), drop-of-length-le s k)
 
 -- fixed letters
-and-assoc : (a b x : Bool) → ((a && b) && x) ≡ (a && (b && x))
-and-assoc true b x = refl
-and-assoc false b x = refl
-
 module _ (Q : List ℕ → Bool) where
   fixed-is : (w t : List ℕ) (x : Bool) → (length w ≤ length t → x ≡ Q (drop (length w) t)) → (same (take (length w) t) w && x) ≡ fixedRest w Q t
   unfolding fixedRest same

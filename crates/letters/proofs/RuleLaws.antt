@@ -20,9 +20,9 @@ use Rattle.rules.specs.Sequence.{sequence, sequenceRule}
 use Rattle.rules.specs.Texts.{callId, callIdRule}
 use Rattle.rules.specs.declared.classes.Class.the-variants.{Digit}
 use Rattle.rules.specs.declared.classes.Class.{Class}
-use borrow.Author.Tests.{eq-eqb, eqb-true, le-leb, leb-true, ltb-true, not-true}
+use borrow.Author.Tests.{eq-eqb, eqb-true, le-leb, leb-true, ltb-false, ltb-true, not-true}
 use lib.Dec.{eqb, leb, ltb}
-use lib.ListN.{drop, getD, length}
+use lib.ListN.{List·getD-eq-default, drop, getD, length}
 use mathlib.Core.Bool.{Bool, true, false, not, _&&_, and-true}
 use mathlib.Core.List.{List, [], _∷_}
 use mathlib.Core.Logic.{inl, inr}
@@ -129,27 +129,26 @@ unfolding callIdRule callIdReach sound shutOff holds isAlnum isLetter isLower is
 call-id-reaches = pieces-reach (callId ∷ []) refl
 
 -- Date: every month has days, and few
-all-some : (l : List ℕ) (i : ℕ) → all (ltb 0) l ≡ true → i < length l → 1 ≤ getD l i 0
+all-at : (f : ℕ → Bool) (l : List ℕ) (i : ℕ) → all f l ≡ true → i < length l → f (getD l i 0) ≡ true
 unfolding all
-all-some [] i e h = absurd (omega arith)
-all-some (d ∷ l) zero e h = ltb-true 0 d (and-left (ltb 0 d) (all (ltb 0) l) e)
-all-some (d ∷ l) (suc i) e h = all-some l i (and-right (ltb 0 d) (all (ltb 0) l) e) (omega arith)
+all-at f [] i e h = absurd (omega arith)
+all-at f (d ∷ l) zero e h = and-left (f d) (all f l) e
+all-at f (d ∷ l) (suc i) e h = all-at f l i (and-right (f d) (all f l) e) (omega arith)
 
 some-days : (y m : ℕ) → 1 ≤ m → m ≤ 12 → 1 ≤ daysIn y m
 unfolding daysIn all
 some-days y zero h k = absurd (omega arith)
 some-days y (suc m) h k =
-    picked (λ (d : ℕ). 1 ≤ d) (eqb (suc m) 2) (picked (λ (d : ℕ). 1 ≤ d) (leap y) (omega arith) (omega arith)) (all-some (drop 1 days) m refl (omega arith))
-
-all-few : (l : List ℕ) (i : ℕ) → all (λ d. leb d 31) l ≡ true → getD l i 0 ≤ 31
-unfolding all
-all-few [] i e = omega arith
-all-few (d ∷ l) zero e = leb-true d 31 (and-left (leb d 31) (all (λ d. leb d 31) l) e)
-all-few (d ∷ l) (suc i) e = all-few l i (and-right (leb d 31) (all (λ d. leb d 31) l) e)
+    picked (λ (d : ℕ). 1 ≤ d) (eqb (suc m) 2) (picked (λ (d : ℕ). 1 ≤ d) (leap y) (omega arith) (omega arith))
+    (ltb-true 0 _ (all-at (ltb 0) (drop 1 days) m refl (omega arith)))
 
 pub few-days : (y m : ℕ) → daysIn y m ≤ 31
 unfolding daysIn all
-few-days y m = picked (λ (d : ℕ). d ≤ 31) (eqb m 2) (picked (λ (d : ℕ). d ≤ 31) (leap y) (omega arith) (omega arith)) (all-few days m refl)
+few-days y m = picked (λ (d : ℕ). d ≤ 31) (eqb m 2) (picked (λ (d : ℕ). d ≤ 31) (leap y) (omega arith) (omega arith)) (go (either (ltb m 13)))
+  where
+    go : Either (ltb m 13) → getD days m 0 ≤ 31
+    go (inl h) = leb-true (getD days m 0) 31 (all-at (λ d. leb d 31) days m refl (ltb-true m 13 h))
+    go (inr h) = let z : getD days m 0 ≡ 0 = List·getD-eq-default days 0 (ltb-false m 13 h) in omega arith
 
 -- the day of a month in a year, and what stands behind it; the month; the year
 dayPieces : ℕ → ℕ → List Piece

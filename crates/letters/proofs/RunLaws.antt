@@ -1,17 +1,17 @@
 -- The reach of a run. Behind it stands what no letter of the run's class can begin, so a letter of the class that does not follow is bad. Assumes nothing.
 use Prim.Native.Nat.{ℕ, zero, suc, _+_, _-_, _≤_, _<_}
-use Rattle.letters.proofs.Reaches.{Reaches, at-end, at-letter, here, none-here, none-left, opens, past-letter}
+use Rattle.letters.proofs.Reaches.{Reaches, at-end, at-letter, here, none-either, none-here, none-left, opens, past-letter}
 use Rattle.letters.specs.BadLetter.{Begins}
 use Rattle.letters.specs.inner.Reach.{follows, runReach}
 use Rattle.letters.specs.inner.Rest.{runRest}
 use Rattle.octets.proofs.ClassLaws.{among-high, in-among}
-use Rattle.octets.proofs.TestLaws.{Either, and-parts, clash, either, picked}
+use Rattle.octets.proofs.TestLaws.{Either, and-parts, clash, either}
 use Rattle.octets.specs.Class.{among}
 use Rattle.rules.specs.Classes.{holds}
 use Rattle.rules.specs.declared.classes.Class.{Class}
 use borrow.Author.Tests.{eq-eqb, eqb-true, ltb-false, ltb-true}
 use lib.Dec.{eqb, ltb}
-use mathlib.Core.Bool.{Bool, true, false, not, _&&_, _||_, and-false, cond}
+use mathlib.Core.Bool.{Bool, true, false, not, _&&_, _||_, and-false, or-true}
 use mathlib.Core.List.{List, [], _∷_}
 use mathlib.Core.Logic.{inl, inr}
 use mathlib.Core.Path.{_≡_, refl}
@@ -20,10 +20,6 @@ use native.Mathlib.Omega.{arith}
 -- no letter of class c begins what Q allows
 abbrev pub Shut : Class → (List ℕ → Bool) → Type 0
 Shut c Q = (x : ℕ) (u : List ℕ) → holds c x ≡ true → Q (x ∷ u) ≡ false
-
-or-right : (a : Bool) → (a || true) ≡ true
-or-right true = refl
-or-right false = refl
 
 -- what it means that a letter may follow
 record May (hi : ℕ) (c e : Class) (n x : ℕ) : Type 0 where
@@ -45,7 +41,7 @@ may hi c e n x a =
     }
   where
     at-first : (a b d : Bool) → (a || (not b && d)) ≡ true → (not b || a) ≡ true
-    at-first true b d q = or-right (not b)
+    at-first true b d q = or-true (not b)
     at-first false true d q = q
     at-first false false d q = refl
 
@@ -104,7 +100,7 @@ module _ (lo hi : ℕ) (c e : Class) (Q : List ℕ → Bool) (some : 1 ≤ lo) (
 
     one-filler : (n : ℕ) (l : Bool) → Begins (runRest lo hi c e Q (suc n) true) [] → Begins (runRest lo hi c e Q n l) []
     unfolding runRest
-    one-filler n l b = record { rest = w ∷ b .rest; allowed = rw (wc, we, or-right (not (eqb n 0))) (b .allowed) }
+    one-filler n l b = record { rest = w ∷ b .rest; allowed = rw (wc, we, or-true (not (eqb n 0))) (b .allowed) }
 
     fillers : (k n : ℕ) (l : Bool) → lo ≤ n + suc k → n + suc k ≤ hi → Begins (runRest lo hi c e Q n l) []
     fillers zero n l h i = one-filler n l (whole-opens (suc n) (omega arith) (omega arith))
@@ -117,12 +113,9 @@ module _ (lo hi : ℕ) (c e : Class) (Q : List ℕ → Bool) (some : 1 ≤ lo) (
         go (inl a) = let i = ltb-true n hi a in fillers ((lo - n) - 1) n l (omega arith) (omega arith)
         go (inr a) = let i = ltb-false n hi a in rw (f (omega arith)) (whole-opens n (omega arith) h)
 
-    none : (b : Bool) (t : List ℕ) → K t ≡ 0 → cond b (K t) 0 ≡ 0
-    none b t z = picked (λ (k : ℕ). k ≡ 0) b z refl
-
     pub run-reaches : (t : List ℕ) (n : ℕ) (l : Bool) → n ≤ hi → (n ≡ hi → l ≡ true) → Reaches (runRest lo hi c e Q n l) t (runReach lo hi c e K n l t)
     unfolding runReach runRest
-    run-reaches [] n l h f = rw (none (among lo hi n && l) [] (none-left (goes []))) (at-end (run-opens n l h f))
+    run-reaches [] n l h f = rw (none-either (among lo hi n && l) (none-left (goes []))) (at-end (run-opens n l h f))
     run-reaches (x ∷ t) n l h f = go (either (follows hi c e n x)) (either (holds c x)) (either (among lo hi n && l)) (run-reaches t (suc n) (holds e x))
       where
         Next : Type 0
@@ -134,6 +127,6 @@ module _ (lo hi : ℕ) (c e : Class) (Q : List ℕ → Bool) (some : 1 ≤ lo) (
         go : Either (follows hi c e n x) → Either (holds c x) → Either (among lo hi n && l) → Next → Reaches (runRest lo hi c e Q n l) (x ∷ t) (runReach lo hi c e K n l (x ∷ t))
         go (inl a) k m next = let m = may hi c e n x a in rw a (past-letter (λ u. rw (m .classed, m .first)) (next (m .room) (m .last)))
         go (inr a) (inl k) m next =
-            rw (a, none (among lo hi n && l) (x ∷ t) (none-here (K (x ∷ t)) (λ u. shut x u k) (goes (x ∷ t)))) (at-letter opened (λ u. no-more n l x u k a))
+            rw (a, none-either (among lo hi n && l) (none-here (K (x ∷ t)) (λ u. shut x u k) (goes (x ∷ t)))) (at-letter opened (λ u. no-more n l x u k a))
         go (inr a) (inr k) (inl m) next = rw (a, m) (here (K (x ∷ t)) opened (λ u. rw (k, m)) (goes (x ∷ t)))
         go (inr a) (inr k) (inr m) next = rw (a, m) (at-letter opened (λ u. rw (k, m)))

@@ -3,12 +3,16 @@ use Rattle.letters.proofs.JoinLaws.{fixed-is, number-is}
 use Rattle.letters.proofs.RuleLaws.{few-days}
 use Rattle.letters.proofs.values.date_reach.Statement.{statement}
 use Rattle.letters.proofs.values.date_reach.Tie as tie
-use Rattle.letters.specs.inner.Reach.{dateReach, dayReach, monthReach, reachOf}
+use Rattle.letters.specs.inner.Reach.{dateReach, dayReach, monthReach, numberLetters, reachOf}
 use Rattle.octets.specs.Ascii.{ascii}
 use Rattle.rules.specs.Date.{daysIn}
 use Rattle.rules.specs.Pieces.{decimalAt}
 use borrow.Author.Needs.{needs}
-use mathlib.Core.Path.{_≡_, _∙_}
+use Prim.Native.Nat.{ℕ, _+_}
+use lib.Dec.{eqb}
+use lib.ListN.{drop}
+use mathlib.Core.Bool.{cond}
+use mathlib.Core.Path.{_≡_, subst, _∙_}
 use native.Mathlib.Nat.{zero-add}
 use native.Mathlib.Omega.{arith}
 
@@ -23,12 +27,14 @@ returns c =
     let m = decimalAt 2 s 5 in
     let at-days = c .before .before .before .before .before .before .before .before in
     let last : at-days .days-in .result ≡ daysIn y m = at-days .days-in .ensures ∙ rw (at-days .before .before .number-at .ensures, at-days .before .number-at2 .ensures) in
+    let Says : ℕ → Type 0 = λ h. c .before .before .before .before .before .before .number-or .result ≡ cond (eqb (numberLetters 1 h 2 0 (drop 8 s)) 2)
+    (c .before .before .before .before .before .before .before .time-reach .result) (8 + numberLetters 1 h 2 0 (drop 8 s)) in
     number-is 1 9999 monthReach s 0 4
     (fixed-is _ s 4 (ascii "-")
     (number-is 1 12 (dayReach y) s 5 2
     (fixed-is _ s 7 (ascii "-")
     (number-is 1 (daysIn y m) _ s 8 2 (c .before .before .before .before .before .before .before .time-reach .ensures)
-    (rw last at (c .before .before .before .before .before .before .number-or .ensures)))
+    (subst Says last (c .before .before .before .before .before .before .number-or .ensures)))
     (c .before .before .before .before .fixed-or .ensures))
     (c .before .before .before .number-or2 .ensures))
     (c .before .fixed-or2 .ensures))
