@@ -1,6 +1,8 @@
 // What is answered to an event: accepted, with its word and the new state, or refused (01 Events).
 // The paper's words and numbers for each case are definitions of specs/Answer.antt; every function is proved to give them.
 // It knows of no call and no message: whoever only shows an answer needs nothing else.
+#![tactic(auto)]
+
 ghost use Rattle.std.specs.Prelude.{◌≡◌, ◌+◌, ◌≤◌, length};
 ghost use Rattle.octets.specs.Splice.{splice};
 ghost use Rattle.answers.specs.Answer.{refusal_number, refusal_place, reason_number, reason_reply, refusal_reply, waiting_reply, shown_of, spelling, state_number};
@@ -8,7 +10,7 @@ ghost use Rattle.answers.specs.Answer.{refusal_number, refusal_place, reason_num
 use octets::put;
 
 // The states of a call (01 Events), 1 to 6 in the paper.
-#[derive(Drop)]
+#[derive(Clone, Copy)]
 pub enum State {
     Calling,
     Ringing,
@@ -38,7 +40,7 @@ pub enum Word {
 }
 
 // Numbers 20 to 27.
-#[derive(Drop)]
+#[derive(Clone, Copy)]
 pub enum Reason {
     NoCall,
     OtherParty,
@@ -51,14 +53,14 @@ pub enum Reason {
 }
 
 // Who waits for a reply: nobody where the event is a response, a tick or an ACK.
-#[derive(Drop)]
+#[derive(Clone, Copy)]
 pub enum Waiting {
     Nobody,
     Requester,
     CallbackRequester,
 }
 
-#[derive(Drop)]
+#[derive(Clone, Copy)]
 pub enum Refusal {
     // 1: the table is not well-formed.
     Table,

@@ -1,7 +1,7 @@
 // An event as facts: what a message says, apart from its texts, or a tick.
 
 // The eight methods.
-#[derive(Drop)]
+#[derive(Clone, Copy)]
 pub enum Method {
     Invite,
     Bye,
@@ -14,7 +14,7 @@ pub enum Method {
 }
 
 // Which side a message is from.
-#[derive(Drop)]
+#[derive(Clone, Copy)]
 pub enum Side {
     Caller,
     Callee,

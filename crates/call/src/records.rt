@@ -5,13 +5,13 @@ ghost use Rattle.call.specs.Outcomes.{chat_on_entering, entered, freed, goes, he
 use answers::{Answer, Reason, Refusal, Shown, State, Waiting, Word};
 
 // The highest number of one side, and its method's code (0 and 0: none).
-#[derive(Drop)]
+#[derive(Clone, Copy)]
 pub struct Highest {
     pub number: u32,
     pub method: u8,
 }
 
-#[derive(Drop)]
+#[derive(Clone, Copy)]
 pub struct Call {
     pub state: State,
     pub secure: bool,

@@ -3,6 +3,8 @@
 // Proved: every answer and every lent byte equals a definition of specs/, on any bytes.
 // A caller may count on it: a string without a backslash is its own text, no text is longer than its spelling, and what good UTF-8 spells is good
 // UTF-8 where it is not broken (proofs/PlainLaws.antt, LengthLaws.antt, Utf8Laws.antt).
+#![tactic(auto)]
+
 mod comparing;
 mod decoding;
 mod finding;

@@ -11,14 +11,14 @@ use json_text::{Member, member_at, part, skip};
 use octets::{and, byte, or};
 
 // Where a value begins, and where it ends; 0 and 0 for one that is missing.
-#[derive(Drop)]
+#[derive(Clone, Copy)]
 pub struct Value {
     pub at: usize,
     pub end: usize,
 }
 
 // The values of the three members of an object of Via; and the opening quote of the first repeat, 0 where there is none.
-#[derive(Drop)]
+#[derive(Clone, Copy)]
 pub struct Members {
     pub twice: usize,
     pub host: Value,

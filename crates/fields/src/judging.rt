@@ -25,7 +25,7 @@ use rules::{
 };
 
 // What a rule sees besides its value: the tag, the method's code and the Content-Type's number.
-#[derive(Drop)]
+#[derive(Clone, Copy)]
 pub struct Setting {
     pub tag: u8,
     pub method: u8,

@@ -1,6 +1,8 @@
 // The rules of a message's fields (01 Reading, 'Rules'), each on the bytes of its own value: what kind of value it is, its text, and Via's objects.
 // Proved: every answer equals a definition of specs/, which stands beside document 01's list of rules.
 // Whoever reads a message says where its values stand; what a string's text is, is settled in `escapes` alone.
+#![tactic(auto)]
+
 mod faults;
 mod hops;
 mod judging;

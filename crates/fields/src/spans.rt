@@ -7,7 +7,7 @@ use crate::values::spelling_at;
 use json_text::part;
 
 // From `start` up to `end`: of the message, of a value's bytes, or of a text.
-#[derive(Drop)]
+#[derive(Clone, Copy)]
 pub struct Span {
     pub start: usize,
     pub end: usize,

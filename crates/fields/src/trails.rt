@@ -6,7 +6,7 @@ use crate::spans::Span;
 
 // What the writer goes by in Via: how many objects it has, where the last begins, where the last and the last but one end, and where the
 // host of the last but one stands. With one object alone the seam and the host are at Via's first byte; of a ping or a pong all is 0.
-#[derive(Drop)]
+#[derive(Clone, Copy)]
 pub struct Trail {
     pub count: usize,
     pub last: usize,

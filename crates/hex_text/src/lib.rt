@@ -1,6 +1,8 @@
 // Bytes as lower-case hex, for the programs whose lines show bytes.
 // Each contract is an equation with a definition of specs/; what is encoded is decoded again (proofs/HexLaws.antt).
 // A caller of `decode` and `encode` lends room for the whole result.
+#![tactic(auto)]
+
 ghost use Rattle.std.specs.Prelude.{◌≡◌, ◌*◌, ◌/◌, ◌<◌, ◌≤◌, length};
 ghost use Rattle.hex_text.specs.Digits.{decoded, digit_of, encoded, is_hex, is_lower_hex, worth_of};
 ghost use Rattle.octets.specs.Splice.{written};

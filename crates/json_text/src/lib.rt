@@ -1,6 +1,8 @@
 // JSON (RFC 7159) to a depth of eight and under a ceiling of values: whether bytes are a text, with how many values, and where not; where values,
 // members and elements stand. The answer of `read` is proved right in the words of the RFC's own grammar, kind, count and place, and a text has
 // one answer only under one ceiling. Any bytes may be handed over, and any place; nothing is kept, and the stack grows with the nesting alone.
+#![tactic(auto)]
+
 mod literals;
 mod numbers;
 mod passing;

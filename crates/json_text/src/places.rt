@@ -168,7 +168,7 @@ fn past_colon(s: &[u8], e: usize) -> usize
 
 // A member by its places: where its name ends (behind the closing quote), where its value begins,
 // where that ends, and what follows it: in an accepted text a comma or the closing brace.
-#[derive(Drop)]
+#[derive(Clone, Copy)]
 pub struct Member {
     pub name: usize,
     pub value: usize,

@@ -1,5 +1,7 @@
 // Runs the stored JSON texts: a line of standard input is a ceiling of values, a space and a text in hex, and its answer is a line,
 // `ok COUNT`, `no 4 PLACE`, `no 5 PLACE` or `no 11 PLACE`. A text has 1,024 bytes at most, all lines 65,536.
+#![tactic(auto)]
+
 ghost use Rattle.std.specs.Prelude.{◌≤◌};
 
 use json_text::Visited;

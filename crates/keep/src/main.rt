@@ -2,6 +2,8 @@
 // Input is taken in pieces of 64 KiB at most; answers go out before the next read, so that it can sit in a pipe.
 // An input of any length is worked off in the same memory. Where a write or a read fails it says so on standard error and ends, and
 // nothing more is written; a last line without its line feed is answered only where the input has ended.
+#![tactic(auto)]
+
 mod answering;
 mod pieces;
 

@@ -1,6 +1,8 @@
 // The keeper (01 Events): what a message or a tick is answered, and what it leaves in the table that the caller lends.
 // Proved: the answer and every byte of the table after it, for any bytes, any time and any table image; a refusal leaves the table as it was.
 // `message` and `tick` check everything themselves; `message_step` and `tick_step` ask for a well-formed table, and leave one.
+#![tactic(auto)]
+
 mod facts;
 mod steps;
 

@@ -12,7 +12,7 @@ use octets::{and, same};
 use rules::{CALL_ID, CSEQ, FROM, INVITE, REQUEST, SECURE_CALL, TO, VIA};
 
 // What the fields 1 to 7 tell on the way through row 9: CSeq's number and method, To and From, Via's trail, a response's status code.
-#[derive(Drop)]
+#[derive(Clone, Copy)]
 pub struct Facts {
     pub number: u32,
     pub method: u8,
@@ -25,7 +25,7 @@ pub struct Facts {
 // The facts that the keeper and the writer go by: the tag, the method's code, CSeq's number, a
 // response's status code, whether it is from a caller, Secure-Call of an INVITE, where the five values stand that a reply copies, where
 // the Call-ID and the two addresses are spelled, where the user and the Fire-IDs stand in the addresses' texts, and the trail.
-#[derive(Drop)]
+#[derive(Clone, Copy)]
 pub struct Message {
     pub tag: u8,
     pub method: u8,

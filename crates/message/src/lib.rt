@@ -2,6 +2,8 @@
 // `read_and_count` is proved equal to document 01's rows 2 to 10 and document 02's 11, tried in their order, under any ceiling of JSON values, with the
 // number of those visited; each field's rule sees the bytes of its own value alone.
 // A caller may count on every place of a message that is read, and gets the texts that name its call here alone.
+#![tactic(auto)]
+
 mod checking;
 mod disagreeing;
 mod envelopes;

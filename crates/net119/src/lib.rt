@@ -1,6 +1,8 @@
 // The library for C (libnet119.a, include/net119.h): the public entries of the crates below, with flat answers.
 // Proved: each function answers what the entry behind it answers, and leaves in each lent buffer what that leaves.
 // A caller may hand over any bytes; what it must hold to about its pointers is in the header.
+#![tactic(auto)]
+
 mod flat;
 
 ghost use Rattle.std.specs.Prelude.{◌≡◌, length};

@@ -1,6 +1,8 @@
 // Bytes: comparing, finding and copying them, their classes, and the numbers that they spell.
 // Every contract is an equation with a definition of specs/ that decides the answer and each lent byte.
 // Functions that read take any place and any text; those that write want room, and say so.
+#![tactic(auto)]
+
 mod classes;
 mod copying;
 mod decimals;

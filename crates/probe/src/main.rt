@@ -3,6 +3,8 @@
 // Proved: what each line is answered, byte for byte, and the table and the ceiling that are held after it; what becomes of the open line
 // and of these turn by turn. The answer is then handed to `write`. Where a write or a read fails it says so on standard error and ends, and nothing
 // more is written.
+#![tactic(auto)]
+
 mod ceilings;
 mod commands;
 mod events;

@@ -8,7 +8,7 @@ use octets::{and, stands_at};
 
 // A caller's address with the places where its user, which begins at 7, and its Fire-ID, one further
 // on, end; a callee's with the end of its Fire-ID, which begins at 12; or that the text is neither.
-#[derive(Drop)]
+#[derive(Clone, Copy)]
 pub enum Address {
     Caller(usize, usize),
     Callee(usize),

@@ -4,7 +4,7 @@ ghost use Rattle.rules.specs.Classes.{holds};
 
 use octets::{among, and, is_alnum, is_digit, is_lower, or};
 
-#[derive(Drop)]
+#[derive(Clone, Copy)]
 pub enum Class {
     Digit,
     Lower,

@@ -1,6 +1,8 @@
 // The texts of TS-1022 that document 01 names: each field's rule, on the bytes of the field's own text.
 // Proved: every answer equals a definition of specs/, which stands beside document 01's list of rules.
 // Any bytes will do, a part of a message or not; only what is written or looked up by number asks for a range.
+#![tactic(auto)]
+
 mod addresses;
 mod asks;
 mod classes;

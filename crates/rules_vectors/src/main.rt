@@ -1,5 +1,7 @@
 // Reads lines `NAME HEX` and writes for each what the rule of that name says of those bytes: yes or no, a number, or
 // the parts that the value has. A line that is none of these is answered `?`.
+#![tactic(auto)]
+
 ghost use Rattle.std.specs.Prelude.{◌≤◌};
 
 use libc::STDOUT_FILENO;

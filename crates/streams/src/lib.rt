@@ -2,6 +2,8 @@
 // interrupts is made again, and a write that takes only a part is gone on with. A call that fails is told on standard error: the words
 // that the caller gives, and the system's reason. No contract can say what a call of the system reads or takes, so these functions are to
 // be read.
+#![tactic(auto)]
+
 ghost use Rattle.std.specs.Prelude.{true, ◌≡◌, ◌≤◌, length};
 
 use libc::{STDIN_FILENO, STDOUT_FILENO};

@@ -12,7 +12,7 @@ use crate::layout::{
 
 // The fields of a record that are numbers, as they stand in it; `callermethod` and `calleemethod`
 // are the methods of the two sides' highest numbers.
-#[derive(Drop)]
+#[derive(Clone, Copy)]
 pub struct Fields {
     pub state: u8,
     pub secure: u8,

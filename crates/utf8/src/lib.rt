@@ -1,6 +1,8 @@
 // UTF-8 as RFC 3629 has it: a text is good, or its first bad sequence begins at a place.
 // `check` is proved to answer the RFC's own syntax on any bytes.
 // A caller may count on joined texts: what is good by itself is good behind what is good (proofs/Join.antt).
+#![tactic(auto)]
+
 mod ascii;
 mod sequences;
 mod threes;

@@ -1,5 +1,7 @@
 // The check of UTF-8 alone, for C: what `bench/run` counts beside a peer's. No part of the library for C.
 // Proved: it answers what `utf8::check` answers, as one number.
+#![tactic(auto)]
+
 ghost use Rattle.std.specs.Prelude.{◌≡◌, length};
 ghost use Rattle.utf8.specs.Rfc3629.{verdict};
 ghost use Rattle.utf8_alone.specs.Alone.{good_bytes};

@@ -3,7 +3,7 @@
 ghost use Rattle.std.specs.Prelude.{◌≡◌};
 ghost use Rattle.writing.specs.Outcome.{writing_number};
 
-#[derive(Drop)]
+#[derive(Clone, Copy)]
 pub enum Refusal {
     // 38: our own path breaks the Via rules.
     Path,
@@ -37,7 +37,7 @@ pub enum Written {
 }
 
 // The same, and where the next host begins and ends in the message.
-#[derive(Drop)]
+#[derive(Clone, Copy)]
 pub enum Removed {
     Done(usize, usize, usize),
     Refused(Refusal),

@@ -2,6 +2,8 @@
 // and the text of a part of a message.
 // Proved: answer and output are what specs/ says, byte for byte; what is written is read back; taking our entry off undoes adding it.
 // A caller may hand over any bytes and any room: on a refusal the output is as it was, and bytes past the result always stay.
+#![tactic(auto)]
+
 mod answers;
 mod edits;
 mod objects;

@@ -1,0 +1,20 @@
+-- `call::responses::to_callback` meets its contract. Each arm puts in the constructor or the test that led there, and takes what its callee ensures. Assumes nothing.
+use Rattle.call.proofs.responses.to_callback.Goals as goal
+
+pub returns-in-Calling : goal.returns-in-Calling
+returns-in-Calling c = rw c.in-Calling.is c.not_now.ensures
+
+pub returns-in-Ringing : goal.returns-in-Ringing
+returns-in-Ringing c = rw c.in-Ringing.is c.not_now-in-Ringing.ensures
+
+pub returns-in-Answered : goal.returns-in-Answered
+returns-in-Answered c = rw c.in-Answered.is c.not_now-in-Answered.ensures
+
+pub returns-in-Talking : goal.returns-in-Talking
+returns-in-Talking c = rw c.in-Talking.is c.not_now-in-Talking.ensures
+
+pub returns-in-Ended : goal.returns-in-Ended
+returns-in-Ended c = rw c.in-Ended.is c.stays.ensures
+
+pub returns-in-Cancelling : goal.returns-in-Cancelling
+returns-in-Cancelling c = rw c.in-Cancelling.is c.not_now-in-Cancelling.ensures

@@ -1,0 +1,134 @@
+use Rattle.fields.proofs.ClosingLaws.{known_on, open_comma, opened, shut}
+use Rattle.fields.proofs.GatherLaws.{hop-few}
+use Rattle.fields.proofs.HopLaws.{walk-starts, walk-over, walk_twice, walk-again, walk-shut}
+use Rattle.fields.proofs.hops.hop_members.Goals as goal
+use Rattle.json_text.proofs.TurnLaws.{no_more, spent}
+use Rattle.octets.proofs.TextLaws.{there}
+use borrow.Author.Rules.{rules}
+use borrow.Author.Tests.{eqb-true}
+use mathlib.Core.Bool.{true}
+use mathlib.Core.Path.{sym, ◌∙◌}
+use native.Mathlib.Omega.{arith}
+
+pub loop-n-init : goal.loop-n-init
+loop-n-init c = let x = c in (
+  search rules,
+  (
+    search rules,
+    (
+      search rules,
+      (
+        walk-starts c.args.v.now c.args.o c.no_members-m.ensures,
+        λ e. opened c.args.v.now c.args.o (sym c.byte-known.ensures ∙ eqb-true c.byte-known.result 123 e),
+      ),
+    ),
+  ),
+)
+
+pub returns-then-byte-ne34 : goal.returns-then-byte-ne34
+returns-then-byte-ne34 c =
+    let at-loop = c in
+    let start = c in
+    let l = c in (
+      walk-over c.loop-n.invariant.1.1.1.0
+          (no_more c.args.v.now c.loop-n.n c.loop-n.p c.skip-q.ensures.is (λ e. c.if-byte-ne34.true (c.byte.ensures ∙ e))),
+      λ h. absurd (omega arith),
+    )
+
+pub overflow_add-q : goal.overflow_add-q
+overflow_add-q c = omega (
+  arith,
+  there c.args.v.now c.skip-q.result 33
+      (sym c.byte.ensures ∙ c.if-byte-ne34.false),
+)
+
+pub overflow_sub-name : goal.overflow_sub-name
+overflow_sub-name c = omega (arith, c.member_at-x.ensures.named.low, c.skip-q.ensures.low, c.loop-n.invariant.0)
+
+pub has_member-requires : goal.has_member-requires
+has_member-requires c = omega (arith, c.hop_member-k.ensures, hop-few c.part.result.now)
+
+pub returns-then-has_member : goal.returns-then-has_member
+returns-then-has_member c =
+    let at_part = c in
+    let at-member-at = c in
+    let at-if1 = c in
+    let at_byte = c in
+    let at-skip = c in
+    let at-loop-test = c in
+    let at-loop = c in (
+      walk_twice c.loop-n.invariant.1.1.1.0 c.loop-n-test.true c.skip-q.ensures.is (sym c.byte.ensures ∙ c.if-byte-ne34.false)
+          c.member_at-x.ensures c.part.ensures c.hop_member-k.ensures c.has_member.ensures
+          (omega (arith, c.skip-q.ensures.low, c.loop-n.invariant.0)) c.if-has_member.true c.repeating-twice.ensures,
+      λ h. absurd (omega arith),
+    )
+
+pub with_member-m-requires : goal.with_member-m-requires
+with_member-m-requires c = omega (arith, c.hop_member-k.ensures, hop-few c.part.result.now)
+
+pub returns-then-byte-ne44 : goal.returns-then-byte-ne44
+returns-then-byte-ne44 c =
+    let at-has-member = c in
+    let at-hop-member = c in
+    let at_part = c in
+    let at-member-at = c in
+    let at-if1 = c in
+    let at_byte = c in
+    let at-skip = c in
+    let at-loop-test = c in
+    let at-loop = c in
+    let start = c in
+    let quote = sym c.byte.ensures ∙ c.if-byte-ne34.false in
+    let known = known_on c.args.v.now c.args.o c.loop-n.invariant.1.1.1.1 c.skip-q.ensures.is quote c.member_at-x.ensures
+    c.is_plain.ensures c.and-known.ensures in (
+      walk-shut c.loop-n.invariant.1.1.1.0 c.loop-n-test.true c.skip-q.ensures.is quote
+          c.member_at-x.ensures c.part.ensures c.hop_member-k.ensures c.has_member.ensures
+          (omega (arith, c.skip-q.ensures.low, c.loop-n.invariant.0))
+          c.if-has_member.false c.with_member-m.ensures
+          (λ e. c.if-byte-ne44.true (c.byte-in-loop-n.ensures ∙ e)),
+      λ h. let r = c.shut_at-end.ensures h in r.1.1 ∙ shut c.args.v.now c.args.o r.1.0 (known r.0),
+    )
+
+pub overflow_add-p-in-loop-n : goal.overflow_add-p-in-loop-n
+overflow_add-p-in-loop-n c =
+    let at-member-at = c in
+    let at-loop = c in
+    let start = c in
+    omega (arith, c.loop-n.invariant.1.1.0, there c.args.v.now c.member_at-x.result.then 43 (sym c.byte-in-loop-n.ensures ∙ c.if-byte-ne44.false))
+
+pub loop-n-preserved : goal.loop-n-preserved
+loop-n-preserved c =
+    let at-has-member = c in
+    let at-hop-member = c in
+    let at_part = c in
+    let at-member-at = c in
+    let at-if1 = c in
+    let at_byte = c in
+    let at-skip = c in
+    let at-loop-test = c in
+    let at-loop = c in
+    let start = c in
+    let b = sym c.byte-in-loop-n.ensures ∙ c.if-byte-ne44.false in (
+      search rules,
+      (
+        omega (arith, there c.args.v.now c.member_at-x.result.then 43 b),
+        (
+          c.loop-n.invariant.1.1.0,
+          (
+            walk-again c.loop-n.invariant.1.1.1.0 c.loop-n-test.true c.skip-q.ensures.is (sym c.byte.ensures ∙ c.if-byte-ne34.false)
+                c.member_at-x.ensures c.part.ensures c.hop_member-k.ensures c.has_member.ensures
+                (omega (arith, c.skip-q.ensures.low, c.loop-n.invariant.0))
+                c.if-has_member.false c.with_member-m.ensures b,
+            λ e. open_comma c.args.v.now c.args.o b (known_on c.args.v.now c.args.o c.loop-n.invariant.1.1.1.1 c.skip-q.ensures.is
+                (sym c.byte.ensures ∙ c.if-byte-ne34.false) c.member_at-x.ensures c.is_plain.ensures
+                c.and-known.ensures e),
+          ),
+        ),
+      ),
+    )
+
+pub returns : goal.returns
+returns c = let l = c in (
+  walk-over c.loop-n.invariant.1.1.1.0 (spent c.args.v.now c.loop-n.n c.loop-n.p (omega arith)),
+  λ h. absurd (omega arith),
+)

@@ -1,0 +1,12 @@
+-- `fields::spelled::decoded_address` meets its contract. What is found in the buffer is the text as far as it goes. Assumes nothing.
+use Rattle.escapes.proofs.FindLaws.{found_within}
+use Rattle.fields.proofs.spelled.decoded_address.Goals as goal
+use Rattle.rules.specs.Address.{address_of}
+use mathlib.Core.Path.{ap, ◌∙◌}
+
+pub returns : goal.returns
+returns c =
+    let at-find-text = c in
+    let start = c in
+    c.address_of.ensures
+    ∙ ap address_of (found_within c.args.w.now _ _ c.find_text-f.ensures c.room-2-1.given c.text_part.ensures)

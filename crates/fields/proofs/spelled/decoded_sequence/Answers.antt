@@ -1,0 +1,12 @@
+-- `fields::spelled::decoded_sequence` meets its contract. What is found in the buffer is the text as far as it goes. Assumes nothing.
+use Rattle.escapes.proofs.FindLaws.{found_within}
+use Rattle.fields.proofs.spelled.decoded_sequence.Goals as goal
+use Rattle.rules.specs.Sequence.{sequence_of}
+use mathlib.Core.Path.{ap, ◌∙◌}
+
+pub returns : goal.returns
+returns c =
+    let at-find-text = c in
+    let start = c in
+    c.sequence_of.ensures
+    ∙ ap sequence_of (found_within c.args.w.now _ _ c.find_text-f.ensures c.room-2-1.given c.text_part.ensures)

@@ -1,0 +1,80 @@
+use Prim.Native.Nat.{◌-◌}
+use Rattle.json_text.proofs.MoveLaws.{moves, short, leaf_is, stuck}
+use Rattle.json_text.proofs.StepLaws.{str-quote, str-back, str_ctl, str-plain, not_plain}
+use Rattle.json_text.proofs.strings.string.Goals as goal
+use Rattle.json_text.specs.inner.Machine.{str, esc, live, dead, closed}
+use borrow.Author.Rules.{rules}
+use mathlib.Core.Path.{refl, ◌∙◌}
+use native.Mathlib.Omega.{arith}
+
+pub loop-at-init : goal.loop-at-init
+loop-at-init c = (search rules, search rules, λ w k. refl)
+
+pub returns-then-s-j : goal.returns-then-s-j
+returns-then-s-j c =
+    record {
+      low = search rules;
+      high = search rules;
+      same = λ w k.
+          c.loop-at.invariant.2 w k
+          ∙ c.past_plain-j.ensures.same (str w) k (str-plain w k)
+          ∙ short _ _ (str w) k (search rules) (search rules) refl;
+    }
+
+pub returns-then-b-eq34 : goal.returns-then-b-eq34
+returns-then-b-eq34 c =
+    record {
+      low = search rules;
+      high = search rules;
+      same = λ w k.
+          c.loop-at.invariant.2 w k
+          ∙ c.past_plain-j.ensures.same (str w) k (str-plain w k)
+          ∙ moves _ _ (str w) k (live (closed w) k) (search rules) (str-quote w k _ c.if-b-eq34.true);
+    }
+
+pub returns-then-b-ne92 : goal.returns-then-b-ne92
+returns-then-b-ne92 c =
+    let at-past-plain = c in
+    let at-loop = c in
+    record {
+      low = search rules;
+      high = search rules;
+      same = λ w k.
+          c.loop-at.invariant.2 w k
+          ∙ c.past_plain-j.ensures.same (str w) k (str-plain w k)
+          ∙ moves _ _ (str w) k dead (search rules)
+          (str_ctl w k _ c.if-b-eq34.false c.if-b-ne92.true (not_plain _ (c.past_plain-j.ensures.stop (search rules)) c.if-b-eq34.false c.if-b-ne92.true));
+    }
+
+pub returns-in_default : goal.returns-in_default
+returns-in_default c =
+    let at-past-plain = c in
+    let at-loop = c in
+    record {
+      low = omega (arith, c.escaped-r.ensures.low);
+      high = c.escaped-r.ensures.high;
+      same = λ w k.
+          c.loop-at.invariant.2 w k
+          ∙ c.past_plain-j.ensures.same (str w) k (str-plain w k)
+          ∙ moves _ _ (str w) k (live (esc w) k) (search rules) (str-back w k _ c.if-b-ne92.false)
+          ∙ c.escaped-r.ensures.same w k
+          ∙ stuck c.escaped-r.result _ (str w) (closed w) k k c.in_default.in_default-own.keys2;
+    }
+
+pub loop-at-smaller : goal.loop-at-smaller
+loop-at-smaller c = let l = leaf_is c.escaped-r.ensures c.in-End.is in omega (arith, l.low, l.high)
+
+pub loop-at-preserved : goal.loop-at-preserved
+loop-at-preserved c =
+    let at-if3 = c in
+    let at-past-plain = c in
+    let at-loop = c in
+    let l = leaf_is c.escaped-r.ensures c.in-End.is in (
+      omega (arith, l.low),
+      l.high,
+      λ w k.
+          c.loop-at.invariant.2 w k
+          ∙ c.past_plain-j.ensures.same (str w) k (str-plain w k)
+          ∙ moves _ _ (str w) k (live (esc w) k) (search rules) (str-back w k _ c.if-b-ne92.false)
+          ∙ l.same w k,
+    )

@@ -1,0 +1,34 @@
+-- `keeper::facts::state_of` meets its contract. The number is put in, or that it is none of those before. Assumes nothing.
+use Rattle.keeper.proofs.facts.state_of.Goals as goal
+use Rattle.keeper.specs.Facts.{state_of}
+use borrow.Author.Tests.{ne_eqb}
+
+pub returns-in-1 : goal.returns-in-1
+unfolding state_of
+returns-in-1 c = rw c.in-1.is
+
+pub returns-in-2 : goal.returns-in-2
+unfolding state_of
+returns-in-2 c = rw c.in-2.is
+
+pub returns-in-3 : goal.returns-in-3
+unfolding state_of
+returns-in-3 c = rw c.in-3.is
+
+pub returns-in-4 : goal.returns-in-4
+unfolding state_of
+returns-in-4 c = rw c.in-4.is
+
+pub returns-in-5 : goal.returns-in-5
+unfolding state_of
+returns-in-5 c = rw c.in-5.is
+
+pub returns-in_default : goal.returns-in_default
+unfolding state_of
+returns-in_default c = rw (
+  ne_eqb _ _ c.in_default.in_default-own.rest.0.0.0.0.1,
+  ne_eqb _ _ c.in_default.in_default-own.rest.0.0.0.1,
+  ne_eqb _ _ c.in_default.in_default-own.rest.0.0.1,
+  ne_eqb _ _ c.in_default.in_default-own.rest.0.1,
+  ne_eqb _ _ c.in_default.in_default-own.rest.1,
+)

@@ -1,0 +1,8 @@
+-- `texts::is_message_id` meets its contract: the definition opened, and the tests put in. Assumes nothing.
+use Rattle.rules.proofs.texts.is_message_id.Goals as goal
+use Rattle.rules.specs.Pieces.{piece_end, has_piece, reads}
+use Rattle.rules.specs.Texts.{message_id_rule}
+
+pub returns : goal.returns
+unfolding message_id_rule reads has_piece piece_end
+returns c = cc

@@ -1,0 +1,7 @@
+-- `texts::message_tail` meets its contract: the definition opened, and the tests put in. Assumes nothing.
+use Rattle.rules.proofs.texts.message_tail.Goals as goal
+use Rattle.rules.specs.Pieces.{piece_end, has_piece, reads}
+
+pub returns : goal.returns
+unfolding reads has_piece piece_end
+returns c = cc

@@ -1,0 +1,9 @@
+-- The part that was lent comes back at the front. Assumes nothing.
+use Rattle.showing.proofs.WriterLaws.{took-part}
+use Rattle.showing.proofs.writers.remove_into.Goals as goal
+
+pub returns : goal.returns
+returns c =
+    let start = c in
+    took-part c.args.n c.args.room.now c.remove.new.0 _ c.requires c.remove.auto.0
+    c.remove.ensures

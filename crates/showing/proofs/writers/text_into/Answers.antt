@@ -1,0 +1,8 @@
+-- The part that was lent comes back at the front. Assumes nothing.
+use Rattle.showing.proofs.WriterLaws.{wrote-part}
+use Rattle.showing.proofs.writers.text_into.Goals as goal
+
+pub returns : goal.returns
+returns c =
+    let start = c in
+    wrote-part c.args.n c.args.room.now c.text.new.0 _ c.requires c.text.auto.0 c.text.ensures

@@ -1,0 +1,31 @@
+-- `table::blanking::blank` meets its contract. Each answer is a law of `BlankLaws`; the table is the header, then 00 to the end. Assumes nothing.
+use Rattle.table.proofs.BlankLaws.{too_few, too_many, wrong-length, made}
+use Rattle.table.proofs.blanking.blank.Goals as goal
+use native.Mathlib.Omega.{arith}
+
+pub returns-then-count-lt1 : goal.returns-then-count-lt1
+returns-then-count-lt1 c = too_few c.args.out.now c.args.count c.if-count-lt1.true
+
+pub returns-then-count-gt-MOST_RECORDS : goal.returns-then-count-gt-MOST_RECORDS
+returns-then-count-gt-MOST_RECORDS c = too_many c.args.out.now c.args.count (omega arith) c.if-count-gt-MOST_RECORDS.true
+
+pub returns-then-out-n : goal.returns-then-out-n
+returns-then-out-n c =
+    let o = c in
+    wrong-length c.args.out.now c.args.count (omega arith) (omega arith) c.if-out-n.true
+
+pub returns : goal.returns
+returns c =
+    let at-put = c in
+    let at-header = c in
+    let at-if3 = c in
+    let at-if2 = c in
+    let at-if1 = c in
+    let start = c in
+    let o = c in
+    made c.args.out.now c.args.count
+    c.if-count-lt1.false
+    c.if-count-gt-MOST_RECORDS.false
+    c.if-out-n.false
+    c.header-h.ensures
+    c.put.ensures.1 c.clear.ensures

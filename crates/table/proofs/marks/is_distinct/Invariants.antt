@@ -1,0 +1,16 @@
+-- `table::marks::is_distinct` meets its contract. The loop's invariant: each record passed is apart from those before it, and its mark is kept. Assumes nothing.
+use Prim.Native.Nat.{ℕ, ◌≤◌, ◌<◌, ◌-◌}
+use Rattle.table.proofs.marks.is_distinct.Given as goal
+use Rattle.table.specs.Image.{record_count}
+use Rattle.table.specs.WellFormed.{apart_before}
+use Rattle.table.specs.inner.Mark.{Marks}
+use lib.ListN.{length}
+use mathlib.Core.Bool.{true}
+use mathlib.Core.Path.{◌≡◌}
+
+abbrev pub invariant-loop-k : goal.invariant-loop-k
+invariant-loop-k l =
+    (l.k ≤ l.n) × (l.n ≡ record_count l.t) × (length l.marks ≡ 255) × Marks l.t l.marks l.k × ((l : ℕ) → l < l.k → apart_before l.t l ≡ true)
+
+abbrev pub decreases-loop-k : goal.decreases-loop-k
+decreases-loop-k l = l.n - l.k

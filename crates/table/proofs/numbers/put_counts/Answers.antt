@@ -1,0 +1,14 @@
+-- `table::numbers::put_counts` meets its contract. The parts stand one behind the other. Assumes nothing.
+use Rattle.table.proofs.RecordLaws.{counts-written}
+use Rattle.table.proofs.numbers.put_counts.Goals as goal
+
+pub returns : goal.returns
+returns c =
+    let at-put-number2 = c in
+    let at-put-number = c in
+    let at-put = c in
+    let start = c in
+    let o =
+    c in
+    counts-written c.args.out.now c.args.p c.args.f c.requires
+    c.put.ensures.1 c.put_number.ensures c.put_number-2.ensures c.put_number-3.ensures
