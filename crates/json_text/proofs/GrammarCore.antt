@@ -18,7 +18,7 @@ use Rattle.json_text.proofs.StepLaws.{not-ws}
 use Rattle.json_text.proofs.Listing.{Ink, Blank, Starts, Sized, Label, starts-ink, ws_34, ws_91, ws_93, ws_123, ws_125}
 use Rattle.json_text.proofs.ScanLaws.{left-closes}
 use Rattle.json_text.proofs.EndLaws.{Unmarked, Marked, letter, unmark, plain_size}
-use Rattle.json_text.proofs.GrammarScan.{Passes, p_ws, p_chars, p_quote, p_values, p_members, p_end_93, p_end_125, p_value, ◌and-then◌}
+use Rattle.json_text.proofs.GrammarScan.{Passes, p_ws, p_chars, p_quote, p_values, p_members, p_end_93, p_end_125, p_value, ◌and_then◌}
 
 -- White space that is derived is blank.
 one-blank : (p : List ℕ) → (Byte 0x20 or Byte 0x09 or Byte 0x0A or Byte 0x0D) p → Blank p

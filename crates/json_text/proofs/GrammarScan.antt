@@ -48,9 +48,9 @@ module _ {x x' : Inside} {n n' : ℕ} where
   or-run A B f g s (one_of_lem y) = f.run s y
   or-run A B f g s (right y) = g.run s y
 
-  infixr 40 ◌or-else◌
-  ◌or-else◌ : {A B : Rule} → Passes A x n x' n' → Passes B x n x' n' → Passes (A or B) x n x' n'
-  ◌or-else◌ {A} {B} f g = record { run = or-run A B f g }
+  infixr 40 ◌or_else◌
+  ◌or_else◌ : {A B : Rule} → Passes A x n x' n' → Passes B x n x' n' → Passes (A or B) x n x' n'
+  ◌or_else◌ {A} {B} f g = record { run = or-run A B f g }
 
 module _ {x : Inside} {n : ℕ} where
   opt_run : (A : Rule) → Passes A x n x n → (s : List ℕ) → Opt A s → (r : List ℕ) → left (s ++ r) x n ≡ length s + left r x n
@@ -75,9 +75,9 @@ module _ {A B : Rule} {x x₁ x₂ : Inside} {n n₁ n₂ : ℕ} where
       let e = ap (λ (l : List ℕ). left l x n) (append_assoc p q r) ∙ f.run p y (q ++ r) in
       omega (arith, g.run q z r, length-append p q)
 
-  infixr 50 ◌and-then◌
-  pub ◌and-then◌ : Passes A x n x₁ n₁ → Passes B x₁ n₁ x₂ n₂ → Passes (A ⨾ B) x n x₂ n₂
-  ◌and-then◌ f g = record { run = both_run f g }
+  infixr 50 ◌and_then◌
+  pub ◌and_then◌ : Passes A x n x₁ n₁ → Passes B x₁ n₁ x₂ n₂ → Passes (A ⨾ B) x n x₂ n₂
+  ◌and_then◌ f g = record { run = both_run f g }
 
 -- Outside strings, with a bracket open.
 calm-byte : (b n : ℕ) → Calm b → Moves b outside (suc n) outside (suc n)

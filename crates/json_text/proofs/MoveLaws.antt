@@ -7,8 +7,6 @@ use Prim.Native.Nat.{ℕ, zero, suc, ◌+◌, ◌≤◌, ◌<◌}
 use native.Mathlib.Nat.{eq-or-lt_of_le, add-zero}
 use native.Mathlib.Numerals.{add-one}
 use native.Mathlib.Omega.{arith}
-use denote.Enum.Declared.{tag_of}
-use types.Run.{OneOf}
 use lib.ListN.{length, get_or, drop}
 use lib.Seq.{drop-cons, drop-length}
 use Rattle.json_text.specs.inner.Machine.{Stack, alone, text, arr, obj, Role, Mode, after, Next, live, dead, deep, done, ends, step, over, ended, stops}
@@ -16,7 +14,6 @@ use Rattle.json_text.specs.inner.Machine.{takes, walk, from, onward, place, Leaf
 use Rattle.json_text.specs.Places.{is_ws}
 use Rattle.json_text.specs.declared.Walked.{Walked}
 use Rattle.json_text.specs.declared.Walked.TheVariants.{End, Bad, Deep}
-use Rattle.json_text.specs.contracts.Walked.{the_type}
 
 -- the answer after a byte that does n
 abbrev pub goes : List ℕ → ℕ → Next → Walked
@@ -135,14 +132,13 @@ onward-alone s d (End e) l = from-alone s e d l
 onward-alone s d (Bad p) l = refl
 onward-alone s d (Deep p) l = refl
 
--- an answer that is no End stays the answer, wherever the machine stands (a match tells such answers by their variants' numbers)
-pub stands : (r : Walked) (s : List ℕ) (m : Mode) (k : Stack) → OneOf (1 ∷ 2 ∷ []) (tag_of the_type r) → onward s m k r ≡ r
-stands (End e) s m k (inl h) = absurd (omega arith)
-stands (End e) s m k (inr h) = absurd (omega arith)
+-- an answer that is no End stays the answer, wherever the machine stands
+pub stands : (r : Walked) (s : List ℕ) (m : Mode) (k : Stack) → ((e : ℕ) → r ≡ End e → ⊥) → onward s m k r ≡ r
+stands (End e) s m k h = absurd (h e refl)
 stands (Bad p) s m k h = refl
 stands (Deep p) s m k h = refl
 
-pub stuck : (r : Walked) (s : List ℕ) (m m' : Mode) (k k' : Stack) → OneOf (1 ∷ 2 ∷ []) (tag_of the_type r) → onward s m k r ≡ onward s m' k' r
+pub stuck : (r : Walked) (s : List ℕ) (m m' : Mode) (k k' : Stack) → ((e : ℕ) → r ≡ End e → ⊥) → onward s m k r ≡ onward s m' k' r
 stuck r s m m' k k' h = stands r s m k h ∙ sym (stands r s m' k' h)
 
 -- n bytes of a class that leaves the machine where it is

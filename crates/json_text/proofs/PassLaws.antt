@@ -3,14 +3,12 @@
 use Rattle.octets.proofs.TextLaws.{there}
 use Prim.Native.Nat.{ℕ, suc, ◌+◌, ◌≤◌, ◌<◌}
 use Rattle.json_text.proofs.AroundLaws.{tour-around, one-ends, lone-ends}
-use Rattle.json_text.specs.contracts.Toured.{the_type as toured-type}
 use Rattle.json_text.proofs.EndLaws.{ws_mark, ends_at, ends_open}
 use Rattle.json_text.proofs.MoveLaws.{moves, short-arr, short-obj, onward-alone}
 use Rattle.json_text.proofs.PlaceLaws.{past-low, past-inner, past_stop, next-is}
 use Rattle.json_text.proofs.SpaceLaws.{past-tour, past-ink}
 use Rattle.json_text.proofs.StepLaws.{not-ws, ws-value, ws-colon, ws-obj, name-quote, colon-hit, colon-miss, value-quote, obj-miss}
 use Rattle.json_text.proofs.TourLaws.{tour-moves, tour-short, string-around, alone-stops, opens-some}
-use Rattle.json_text.specs.contracts.Walked.{the_type}
 use Rattle.json_text.specs.inner.Machine.{Stack, alone, arr, obj, Role, label, plain, Mode, value, name, colon, after, str, live, dead, closed, levels}
 use Rattle.json_text.specs.inner.Machine.{step, from, one, place, Leaf}
 use Rattle.json_text.specs.inner.Passing.{is_end, reached, passed, no_visit, is_next, followed, labelled, passed_member}
@@ -23,7 +21,6 @@ use Rattle.json_text.specs.declared.Walked.TheVariants.{End, Bad, Deep}
 use Rattle.json_text.specs.declared.Walked.{Walked}
 use Rattle.json_text.specs.declared.passing.Visit.{Visit}
 use borrow.Author.Tests.{eqb-true, eqb-false, lt-ltb, eq-eqb, ne_eqb}
-use denote.Enum.Declared.{tag_of}
 use lib.Dec.{eqb}
 use lib.ListN.{length, get_or}
 use mathlib.Core.Bool.{Bool, true, false, ◌||◌, not}
@@ -32,7 +29,6 @@ use mathlib.Core.Logic.{◌⊎◌, inl, inr}
 use mathlib.Core.Path.{◌≡◌, refl, sym, ap, subst, ◌∙◌}
 use native.Mathlib.Decide.{dec_lt, ℕ_discrete}
 use native.Mathlib.Omega.{arith}
-use types.Run.{OneOf}
 
 -- a byte that ends a member, and white space, are marks
 marks : (b : ℕ) → (b ≡ 44) ⊎ (b ≡ 125) → is_mark b ≡ true
@@ -50,9 +46,8 @@ mark_at s w t e h f = by (is_ws (get_or s w 0)) refl
         rw (← z) (marks (get_or s t 0) f)
 
 -- What the readers of strings and of values answer, as `passed` and `lone` have it.
-none-reached : (r : Walked) → OneOf (1 ∷ 2 ∷ []) (tag_of the_type r) → reached r ≡ 0
-none-reached (End e) (inl h) = absurd (omega arith)
-none-reached (End e) (inr h) = absurd (omega arith)
+none-reached : (r : Walked) → ((e : ℕ) → r ≡ End e → ⊥) → reached r ≡ 0
+none-reached (End e) h = absurd (h e refl)
 none-reached (Bad p) h = refl
 none-reached (Deep p) h = refl
 
@@ -71,7 +66,7 @@ module _ {s : List ℕ} {q : ℕ} {r : Walked} (h : q < length s) (quote : get_o
   pub string-some : {e : ℕ} → r ≡ End e → 0 < e
   string-some e = omega (arith, l.low, ap place e)
 
-  pub no-string-reached : OneOf (1 ∷ 2 ∷ []) (tag_of the_type r) → 0 ≡ passed s q
+  pub no-string-reached : ((e : ℕ) → r ≡ End e → ⊥) → 0 ≡ passed s q
   unfolding passed
   no-string-reached g = sym (none-reached r g) ∙ ap reached string-is
 
@@ -183,10 +178,8 @@ no_visit_lem s e v (counts.Bad p) h = refl
 no_visit_lem s e v (counts.Deep p) h = refl
 no_visit_lem s e v (counts.Many p) h = refl
 
-pub no_end : (r : Toured) → OneOf (1 ∷ 2 ∷ 3 ∷ []) (tag_of toured-type r) → is_end r ≡ false
-no_end (counts.End e n) (inl h) = absurd (omega arith)
-no_end (counts.End e n) (inr (inl h)) = absurd (omega arith)
-no_end (counts.End e n) (inr (inr h)) = absurd (omega arith)
+pub no_end : (r : Toured) → ((e n : ℕ) → r ≡ counts.End e n → ⊥) → is_end r ≡ false
+no_end (counts.End e n) h = absurd (h e n refl)
 no_end (counts.Bad p) h = refl
 no_end (counts.Deep p) h = refl
 no_end (counts.Many p) h = refl

@@ -298,10 +298,11 @@ module _ (k : Stack) (b : ℕ) (s : List ℕ) where
       (λ h₉ x. no x))))))))) o
 
 -- A byte of a string.
-module _ (w : Role) (k : Stack) (b : ℕ) (s : List ℕ) where
-  closed_is : Onward (live (closed w) k) s → Closed w k s
-  closed_is = elim w [ label ↦ λ x. un x | plain ↦ λ x. un x ]
+closed_is : (w : Role) (k : Stack) (s : List ℕ) → Onward (live (closed w) k) s → Closed w k s
+closed_is label k s x = un x
+closed_is plain k s x = un x
 
+module _ (w : Role) (k : Stack) (b : ℕ) (s : List ℕ) where
   hexes-is : (n : ℕ) → Rest (hexes w n) k s → (Hexes n ⨾ Closed w k) s
   unfolding hexes
   hexes-is zero x = x
@@ -333,7 +334,7 @@ back colon k b s o = picks (is_ws b) (λ w x. front (λ p y. struct_front w y) (
     (λ w. picks (eqb b 58) (λ e x. front (λ p y. both none (both (is b 58 e) y)) (un x)) (λ e x. no x)) o
 back after k b s o = back-ends k b s o
 back (str w) k b s o =
-    picks (eqb b 34) (λ e x. both (both none (is b 34 e)) (closed_is w k b s x))
+    picks (eqb b 34) (λ e x. both (both none (is b 34 e)) (closed_is w k s x))
     (λ e. picks (eqb b 92) (λ f x. front (λ p y. escape (eqb-true b 92 f) y) (un x))
     (λ f. picks (ltb b 32) (λ g x. no x) (λ g x. front (λ p y. char_in (unescaped_of b (eqb-false b 34 e) (eqb-false b 92 f) (ltb-false b 32 g)) y) (un x)))) o
 back (esc w) k b s o =

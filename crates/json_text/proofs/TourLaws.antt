@@ -26,13 +26,9 @@ use Rattle.json_text.specs.declared.Walked.{Walked}
 use Rattle.json_text.specs.declared.Walked.TheVariants.{End as Ended, Bad as Wrong, Deep as Nested}
 use Rattle.json_text.proofs.AroundLaws.{tour-around}
 use Rattle.json_text.proofs.Complete.{begin-on, ws-not}
-use Rattle.json_text.specs.contracts.Toured.{the_type as toured-type}
 use Rattle.json_text.proofs.SpaceLaws.{Passes, Quiet, past-tour, pass_is}
 use Rattle.json_text.proofs.MoveLaws.{goes, moves, short, stops-place, done-alone, from-alone, onward-alone}
 use Rattle.json_text.proofs.StepLaws as laws
-use Rattle.json_text.specs.contracts.Walked.{the_type}
-use denote.Enum.Declared.{tag_of}
-use types.Run.{OneOf}
 
 -- The places from byte i on, by what byte i does.
 lands : (s : List ℕ) (i : ℕ) (t : Bool) (n : Next) → begins_at t n (begins (drop (suc i) s)) i ≡ begins_at t n (λ m k j. begun s j m k) i
@@ -326,10 +322,9 @@ stopped-here i n p r e h = rw (e, eq-eqb p i h)
 pub stopped-later : (i n p : ℕ) (r : Walked) → r ≡ Wrong p → (p ≡ i → ⊥) → taken i n r ≡ started i n r
 stopped-later i n p r e h = rw (e, ne_eqb p i h)
 
-pub not_stopped : (i n : ℕ) (r : Walked) → OneOf (0 ∷ 2 ∷ []) (tag_of the_type r) → taken i n r ≡ started i n r
+pub not_stopped : (i n : ℕ) (r : Walked) → ((p : ℕ) → r ≡ Wrong p → ⊥) → taken i n r ≡ started i n r
 not_stopped i n (Ended e) h = refl
-not_stopped i n (Wrong p) (inl h) = absurd (omega arith)
-not_stopped i n (Wrong p) (inr h) = absurd (omega arith)
+not_stopped i n (Wrong p) h = absurd (h p refl)
 not_stopped i n (Nested p) h = refl
 
 pub calm-is : {s : List ℕ} {a : ℕ} {m m' : Mode} {r r' : Walked} → Calm s a m m' r → r ≡ r' → Calm s a m m' r'
@@ -339,9 +334,8 @@ pub tally-is : {s : List ℕ} {a left room : ℕ} {m : Mode} {f : Stack → Stac
 tally-is {s} {a} {left} {room} {m} {f} l e = subst (λ (x : Toured). Tally s a left room m f x) e l
 
 -- an answer that is no End stays, wherever the machine stands
-pub stays : (r : Walked) (s : List ℕ) (m m' : Mode) (k k' : Stack) (n : ℕ) → OneOf (1 ∷ 2 ∷ []) (tag_of the_type r) → resume s m k (lift r n) ≡ resume s m' k' (lift r n)
-stays (Ended e) s m m' k k' n (inl h) = absurd (omega arith)
-stays (Ended e) s m m' k k' n (inr h) = absurd (omega arith)
+pub stays : (r : Walked) (s : List ℕ) (m m' : Mode) (k k' : Stack) (n : ℕ) → ((e : ℕ) → r ≡ Ended e → ⊥) → resume s m k (lift r n) ≡ resume s m' k' (lift r n)
+stays (Ended e) s m m' k k' n h = absurd (h e refl)
 stays (Wrong p) s m m' k k' n h = refl
 stays (Nested p) s m m' k k' n h = refl
 
@@ -453,17 +447,15 @@ module _ {s : List ℕ} {a i : ℕ} (left n : ℕ) (p : Pass is_ws s a i) where
     }
 
 -- an answer that is no End stays
-pub remains : (r : Toured) (s : List ℕ) (m m' : Mode) (k k' : Stack) → OneOf (1 ∷ 2 ∷ 3 ∷ []) (tag_of toured-type r) → resume s m k r ≡ resume s m' k' r
-remains (End e n) s m m' k k' (inl h) = absurd (omega arith)
-remains (End e n) s m m' k k' (inr (inl h)) = absurd (omega arith)
-remains (End e n) s m m' k k' (inr (inr h)) = absurd (omega arith)
+pub remains : (r : Toured) (s : List ℕ) (m m' : Mode) (k k' : Stack) → ((e n : ℕ) → r ≡ End e n → ⊥) → resume s m k r ≡ resume s m' k' r
+remains (End e n) s m m' k k' h = absurd (h e n refl)
 remains (Bad p) s m m' k k' h = refl
 remains (Deep p) s m m' k k' h = refl
 remains (Many p) s m m' k k' h = refl
 
 -- an object whose next name is none
 pub label-stops : {s : List ℕ} {a p : ℕ} {g : Toured} (left room n : ℕ) (r : Walked) → a ≤ p
-    → ((k : Stack) → levels (obj k) ≡ left → tour s a name₁ (obj k) room ≡ tour s p name (obj k) n) → Calm s p name value r → OneOf (1 ∷ 2 ∷ []) (tag_of the_type r) → g ≡ lift r n
+    → ((k : Stack) → levels (obj k) ≡ left → tour s a name₁ (obj k) room ≡ tour s p name (obj k) n) → Calm s p name value r → ((e : ℕ) → r ≡ Ended e → ⊥) → g ≡ lift r n
     → Tally s a left room name₁ obj g
 label-stops {s} {a} {p} {g} left room n r l f c h e =
     tally-is {r = lift r n}

@@ -2,4 +2,3 @@
 // Proved: what each event leaves, and that two neighbouring events that do not name the same call may change places (demand 3).
 // Definitions and laws only; the keeper's own table and rule are put in for the parameters.
 #![tactic(auto)]
-

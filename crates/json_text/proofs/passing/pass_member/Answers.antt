@@ -11,7 +11,7 @@ returns-in_default c =
     let st = c in
     let x = c in
     c.nothing.ensures ∙ no_name c.args.left c.args.room c.args.s.now c.args.q
-    (no-string-reached c.requires.0 c.requires.1 c.string-n.ensures c.in_default.in_default-own.keys2) refl
+    (no-string-reached c.requires.0 c.requires.1 c.string-n.ensures c.in_default.not-End) refl
 
 pub returns-then-byte-ne58 : goal.returns-then-byte-ne58
 returns-then-byte-ne58 c =
@@ -46,7 +46,7 @@ returns-in_default-r c =
     let named = string-some c.requires.0 c.requires.1 c.string-n.ensures c.in-End.is in
     let colon = sym c.byte.ensures ∙ c.if-byte-ne58.false in
     c.nothing-in_default-r.ensures ∙ no_value c.args.left c.args.room c.args.s.now c.args.q e named c.skip-c.ensures.is colon c.skip-v.ensures.is
-    (value-lone c.value-r.ensures) (no_end c.value-r.result c.in_default-r.in_default-r-own.keys2)
+    (value-lone c.value-r.ensures) (no_end c.value-r.result c.in_default-r.not-End)
 
 pub returns-then-is_next : goal.returns-then-is_next
 returns-then-is_next c =

@@ -58,7 +58,7 @@ returns-in_default c =
           ∙ c.past_plain-j.ensures.same (str w) k (str-plain w k)
           ∙ moves _ _ (str w) k (live (esc w) k) (search rules) (str-back w k _ c.if-b-ne92.false)
           ∙ c.escaped-r.ensures.same w k
-          ∙ stuck c.escaped-r.result _ (str w) (closed w) k k c.in_default.in_default-own.keys2;
+          ∙ stuck c.escaped-r.result _ (str w) (closed w) k k c.in_default.not-End;
     }
 
 pub loop-at-smaller : goal.loop-at-smaller

@@ -38,7 +38,7 @@ returns-in_default c =
           spaces _ _ _ name k n c.past_spaces-i.ensures (ws-name k) (λ b h. refl)
           ∙ tour-moves _ _ name k n false (live (str label) k) (search rules) refl (name-quote k _ c.if-s-i-ne34.false)
           ∙ strings (search rules) c.string-r.ensures label k n
-          ∙ stays c.string-r.result _ colon value k k n c.in_default.in_default-own.keys2;
+          ∙ stays c.string-r.result _ colon value k k n c.in_default.not-End;
     }
 
 pub past_spaces-j-requires : goal.past_spaces-j-requires

@@ -13,4 +13,4 @@ returns-else-p-i c =
     c.taking.ensures ∙ stopped-later x.i x.room _ _ refl c.if-p-i.false ∙ sym (ap (started x.i x.room) c.in-Bad.is)
 
 pub returns-in_default : goal.returns-in_default
-returns-in_default c = let x = c.args in c.taking-in_default.ensures ∙ not_stopped x.i x.room x.r c.in_default.in_default-own.keys2
+returns-in_default c = let x = c.args in c.taking-in_default.ensures ∙ not_stopped x.i x.room x.r c.in_default.not-Bad
