@@ -2,4 +2,3 @@
 // Proved: where a copied value ends, what a compact object's members are, what an array's edit leaves.
 // specs/Edit.antt has the edits, and each file of proofs/ says in its first lines what its laws say.
 #![tactic(auto)]
-
