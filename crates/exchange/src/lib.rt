@@ -2,4 +2,3 @@
 // Proved: an event leaves a well-formed table well-formed and every other call's record as it was and where it was; two neighbours that do
 // not name the same Call-ID may change places. A caller of `keeper` may count on the theorems of proofs/.
 #![tactic(auto)]
-

@@ -12,8 +12,6 @@ loop-i-init c = (search rules, refl, written_none c.args.out.now (decoded c.args
 
 pub loop-i-preserved : goal.loop-i-preserved
 loop-i-preserved c =
-    let at-loop = c in
-    let start = c in
     let l = c.loop-i in
     let x = c.args in
     let s = x.s.now in

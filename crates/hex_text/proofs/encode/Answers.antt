@@ -16,13 +16,10 @@ digit-requires c = omega (arith, c.shared_slice_known-in-loop-i-1.given c.loop-i
 
 pub bounds-out-i-in-loop-i : goal.bounds-out-i-in-loop-i
 bounds-out-i-in-loop-i c =
-    let at-loop = c in
     lt-length-set c.loop-i.out (2 * c.loop-i.i) c.digit.result (omega arith)
 
 pub loop-i-preserved : goal.loop-i-preserved
 loop-i-preserved c =
-    let at-loop = c in
-    let start = c in
     let l = c.loop-i in
     let x = c.args in
     let s = x.s.now in

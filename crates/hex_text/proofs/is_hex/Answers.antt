@@ -17,16 +17,12 @@ loop-i-init c = (search rules, c.if-s-ne0.false, refl)
 pub returns-then-not-is_hex_digit : goal.returns-then-not-is_hex_digit
 unfolding is_hex
 returns-then-not-is_hex_digit c =
-    let at-loop = c in
-    let start = c in
     let l = c.loop-i in
     let s = c.args.s.now in
     rw (eq-eqb _ _ l.invariant.1) (sym (l.invariant.2 ∙ all-stops is_lower_hex s l.i (omega arith) (sym c.is_hex_digit.ensures ∙ not-true _ c.if-not-is_hex_digit.true-raw)))
 
 pub loop-i-preserved : goal.loop-i-preserved
 loop-i-preserved c =
-    let at-loop = c in
-    let start = c in
     let l = c.loop-i in
     let s = c.args.s.now in
     (search rules, l.invariant.1, l.invariant.2 ∙ all_more is_lower_hex s l.i (omega arith) (sym c.is_hex_digit.ensures ∙ not-false _ c.if-not-is_hex_digit.false-raw))

@@ -7,13 +7,13 @@ pub past_spaces-i-requires : goal.past_spaces-i-requires
 past_spaces-i-requires c = read-high _ _ c.value.ensures c.in-End.is
 
 pub overflow_sub-result : goal.overflow_sub-result
-overflow_sub-result c = let r = c in read-room _ _ c.value.ensures c.in-End.is c.past_spaces-i.ensures (search rules)
+overflow_sub-result c = read-room _ _ c.value.ensures c.in-End.is c.past_spaces-i.ensures (search rules)
 
 pub returns-then-s-i : goal.returns-then-s-i
-returns-then-s-i c = let r = c in read-text _ _ c.value.ensures c.in-End.is c.past_spaces-i.ensures (search rules)
+returns-then-s-i c = read-text _ _ c.value.ensures c.in-End.is c.past_spaces-i.ensures (search rules)
 
 pub returns-else-s-i : goal.returns-else-s-i
-returns-else-s-i c = let r = c in read-trail _ _ c.value.ensures c.in-End.is c.past_spaces-i.ensures (search rules)
+returns-else-s-i c = read-trail _ _ c.value.ensures c.in-End.is c.past_spaces-i.ensures (search rules)
 
 pub returns-in-Bad : goal.returns-in-Bad
 returns-in-Bad c = read-bad _ _ c.value.ensures c.in-Bad.is

@@ -9,7 +9,4 @@ slice_bounds-line-end c = omega (arith, c.find-e.ensures, found_within 10 c.args
 
 pub overflow_add-from : goal.overflow_add-from
 overflow_add-from c =
-    let at-find = c in
-    let at-loop = c in
-    let start = c in
     omega (arith, c.find-e.ensures, found_within 10 c.args.s.now c.loop-from.from (search rules))

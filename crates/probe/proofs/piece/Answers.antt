@@ -15,7 +15,6 @@ use native.Mathlib.Omega.{arith}
 
 pub overflow_add-next : goal.overflow_add-next
 overflow_add-next c =
-    let at-e = c in
     let x = c.args in
     let e = c.in-Here.e in
     let q = sym c.next_line.ensures.0 ∙ c.in-Here.is in
@@ -24,7 +23,6 @@ overflow_add-next c =
 
 pub slice_bounds-answer-count : goal.slice_bounds-answer-count
 slice_bounds-answer-count c =
-    let at-e = c in
     let x = c.args in
     let e = c.in-Here.e in
     let q = sym c.next_line.ensures.0 ∙ c.in-Here.is in
@@ -33,7 +31,6 @@ slice_bounds-answer-count c =
 
 pub slice_bounds-answer-start : goal.slice_bounds-answer-start
 slice_bounds-answer-start c =
-    let at-e = c in
     let x = c.args in
     let e = c.in-Here.e in
     let q = sym c.next_line.ensures.0 ∙ c.in-Here.is in
@@ -42,7 +39,6 @@ slice_bounds-answer-start c =
 
 pub slice_bounds-answer-end : goal.slice_bounds-answer-end
 slice_bounds-answer-end c =
-    let at-e = c in
     let x = c.args in
     let e = c.in-Here.e in
     let q = sym c.next_line.ensures.0 ∙ c.in-Here.is in
@@ -51,7 +47,6 @@ slice_bounds-answer-end c =
 
 pub told-requires : goal.told-requires
 told-requires c =
-    let at-e = c in
     let x = c.args in
     let e = c.in-Here.e in
     let a = c.answer-a.ensures in
@@ -59,7 +54,6 @@ told-requires c =
 
 pub answer_kept-a-requires : goal.answer_kept-a-requires
 answer_kept-a-requires c =
-    let at-m = c in
     let x = c.args in
     let m = c.in-Buffered.m in
     let e = c.in-Buffered.next in
@@ -72,7 +66,6 @@ answer_kept-a-requires c =
 
 pub told-requires-in-Buffered : goal.told-requires-in-Buffered
 told-requires-in-Buffered c =
-    let at-m = c in
     let x = c.args in
     let m = c.in-Buffered.m in
     let a = c.answer_kept-a.ensures in
@@ -80,7 +73,6 @@ told-requires-in-Buffered c =
 
 pub returns-in-Here : goal.returns-in-Here
 returns-in-Here c =
-    let at-e = c in
     let x = c.args in
     let e = c.in-Here.e in
     let q = sym c.next_line.ensures.0 ∙ c.in-Here.is in
@@ -101,7 +93,6 @@ returns-in-Here c =
 
 pub returns-in-Buffered : goal.returns-in-Buffered
 returns-in-Buffered c =
-    let at-m = c in
     let x = c.args in
     let m = c.in-Buffered.m in
     let e = c.in-Buffered.next in
@@ -124,7 +115,6 @@ returns-in-Buffered c =
 
 pub returns-in-Pending : goal.returns-in-Pending
 returns-in-Pending c =
-    let start = c in
     let x = c.args in
     let m = c.in-Pending.m in
     let n = c.next_line in

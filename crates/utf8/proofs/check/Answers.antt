@@ -10,20 +10,14 @@ loop-i-init c = stays c.args.s.now 0 (omega arith)
 
 pub returns-then-n-eq0 : goal.returns-then-n-eq0
 returns-then-n-eq0 c =
-    let q = c in
-    let l = c in
     char-bad c.args.s.now c.loop-i.i (omega arith) (sym c.if-n-eq0.true ∙ c.sequence-n.ensures) ∙ sym c.loop-i.invariant.goes
 
 pub overflow_add-i : goal.overflow_add-i
 overflow_add-i c =
-    let q = c in
-    let l = c in
     omega (arith, (passed-char c.args.s.now c.loop-i.i _ (omega arith) c.sequence-n.ensures c.if-n-eq0.false).within)
 
 pub past_alike-i-requires : goal.past_alike-i-requires
 past_alike-i-requires c =
-    let q = c in
-    let l = c in
     (passed-char c.args.s.now c.loop-i.i _ (omega arith) c.sequence-n.ensures c.if-n-eq0.false).within
 
 pub loop-i-smaller : goal.loop-i-smaller
@@ -31,12 +25,9 @@ loop-i-smaller c = omega (arith, c.past_alike-i.ensures.onward, c.if-n-eq0.false
 
 pub loop-i-preserved : goal.loop-i-preserved
 loop-i-preserved c =
-    let q = c in
-    let l = c in
     let s = c.args.s.now in
     then s (then s c.loop-i.invariant (passed-char s c.loop-i.i _ (omega arith) c.sequence-n.ensures c.if-n-eq0.false)) c.past_alike-i.ensures
 
 pub returns : goal.returns
 returns c =
-    let l = c in
     ends c.args.s.now c.loop-i.i (omega arith) ∙ sym c.loop-i.invariant.goes

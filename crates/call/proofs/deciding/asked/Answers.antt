@@ -8,8 +8,6 @@ returns-then-not-agrees c = rw (sym c.waiting-w.ensures, not-true c.args.agrees 
 
 pub returns-then-now-c : goal.returns-then-now-c
 returns-then-now-c c =
-    let at-waiting = c in
-    let start = c in
     rw (sym c.waiting-w.ensures, not-false c.args.agrees c.if-not-agrees.false-raw, lt-ltb _ _ c.if-now-c.true) c.refused-then-now-c.ensures
 
 pub returns : goal.returns

@@ -15,7 +15,6 @@ returns-in-Stops c = rw (sym c.admit.ensures ∙ c.in-Stops.is)
 pub returns-then-d : goal.returns-then-d
 unfolding refer
 returns-then-d c =
-    let k = c in
     let d = c.in-Goes.d in
     let now = c.args.now in
     rw (sym c.admit.ensures ∙ c.in-Goes.is) (c.stays.ensures ∙ chosen (stays Pass now d) (refused NotSecure Requester) c.if-d.true)
@@ -23,7 +22,6 @@ returns-then-d c =
 pub returns-else-d : goal.returns-else-d
 unfolding refer
 returns-else-d c =
-    let k = c in
     let d = c.in-Goes.d in
     let now = c.args.now in
     rw (sym c.admit.ensures ∙ c.in-Goes.is) (c.refused.ensures ∙ declined (stays Pass now d) (refused NotSecure Requester) c.if-d.false)

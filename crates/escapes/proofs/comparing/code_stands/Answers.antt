@@ -12,16 +12,10 @@ slice_bounds-stands_at-end c = omega (arith, c.w-2-1.given, c.put_code-n.ensures
 
 pub returns-then-stands_at : goal.returns-then-stands_at
 returns-then-stands_at c =
-    let at-w2 = c in
-    let at-put-code = c in
-    let start = c in
     let x = c.args in code-there x.s.now x.at x.c _ _ c.put_code-n.result c.put_code-n.ensures c.w-2-1.given
     c.stands_at.result c.stands_at.ensures c.if-stands_at.true
 
 pub returns-else-stands_at : goal.returns-else-stands_at
 returns-else-stands_at c =
-    let at-w2 = c in
-    let at-put-code = c in
-    let start = c in
     let x = c.args in code-not-there x.s.now x.at x.c _ _ c.put_code-n.result c.put_code-n.ensures c.w-2-1.given
     c.stands_at.result c.stands_at.ensures c.if-stands_at.false

@@ -9,8 +9,6 @@ loop-i-init c = (search rules, refl)
 
 pub returns-then-escape_in_32 : goal.returns-then-escape_in_32
 returns-then-escape_in_32 c =
-    let at-loop = c in
-    let start = c in
     let l = c.loop-i in found_at c.args.s.now l.i _ l.invariant.0 c.find.ensures ∙ sym l.invariant.1
 
 pub loop-i-preserved : goal.loop-i-preserved

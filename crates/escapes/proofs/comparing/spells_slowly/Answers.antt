@@ -11,7 +11,6 @@ loop-i-init c = (search rules, search rules, refl)
 
 pub returns-then-is_surrogate : goal.returns-then-is_surrogate
 returns-then-is_surrogate c =
-    let at-loop = c in
     let x = c.args in
     let l = c.loop-i in
     let e = c.escape_at-e in
@@ -20,7 +19,6 @@ returns-then-is_surrogate c =
 
 pub code_stands-n-requires : goal.code_stands-n-requires
 code_stands-n-requires c =
-    let at-loop = c in
     let x = c.args in
     let l = c.loop-i in
     let e = c.escape_at-e in
@@ -28,7 +26,6 @@ code_stands-n-requires c =
 
 pub returns-then-n-eq0 : goal.returns-then-n-eq0
 returns-then-n-eq0 c =
-    let at-loop = c in
     let x = c.args in
     let l = c.loop-i in
     let e = c.escape_at-e in
@@ -37,7 +34,6 @@ returns-then-n-eq0 c =
 
 pub overflow_add-i : goal.overflow_add-i
 overflow_add-i c =
-    let at-loop = c in
     let x = c.args in
     let l = c.loop-i in
     let e = c.escape_at-e in
@@ -45,7 +41,6 @@ overflow_add-i c =
 
 pub overflow_add-j : goal.overflow_add-j
 overflow_add-j c =
-    let at-loop = c in
     let x = c.args in
     let l = c.loop-i in
     let e = c.escape_at-e in
@@ -58,7 +53,6 @@ overflow_add-j c =
 
 pub loop-i-smaller-then-b-eq92 : goal.loop-i-smaller-then-b-eq92
 loop-i-smaller-then-b-eq92 c =
-    let at-loop = c in
     let x = c.args in
     let l = c.loop-i in
     let e = c.escape_at-e in
@@ -66,7 +60,6 @@ loop-i-smaller-then-b-eq92 c =
 
 pub loop-i-preserved-then-b-eq92 : goal.loop-i-preserved-then-b-eq92
 loop-i-preserved-then-b-eq92 c =
-    let at-loop = c in
     let x = c.args in
     let l = c.loop-i in
     let e = c.escape_at-e in
@@ -84,28 +77,24 @@ loop-i-preserved-then-b-eq92 c =
 
 pub returns-then-w-j : goal.returns-then-w-j
 returns-then-w-j c =
-    let at-loop = c in
     let x = c.args in
     let l = c.loop-i in
     sym (l.invariant.2 ∙ own-past x.raw.now x.w.now l.i l.j (omega arith) c.if-b-eq92.false c.if-w-j.true)
 
 pub returns-then-w-j-2 : goal.returns-then-w-j-2
 returns-then-w-j-2 c =
-    let at-loop = c in
     let x = c.args in
     let l = c.loop-i in
     sym (l.invariant.2 ∙ own-stops x.raw.now x.w.now l.i l.j (omega arith) c.if-b-eq92.false (omega arith) c.if-w-j-2.true)
 
 pub loop-i-preserved : goal.loop-i-preserved
 loop-i-preserved c =
-    let at-loop = c in
     let x = c.args in
     let l = c.loop-i in
     (search rules, search rules, l.invariant.2 ∙ own-goes x.raw.now x.w.now l.i l.j (omega arith) c.if-b-eq92.false (omega arith) c.if-w-j-2.false)
 
 pub returns : goal.returns
 returns c =
-    let at-loop = c in
     let x = c.args in
     let l = c.loop-i in
     sym (l.invariant.2 ∙ all_read x.raw.now x.w.now l.i l.j (omega arith) (omega arith))

@@ -9,8 +9,6 @@ loop-i-init c = start c.args.raw.now c.args.out.now
 
 pub put_code-n-requires : goal.put_code-n-requires
 put_code-n-requires c =
-    let at-loop = c in
-    let start = c in
     let x = c.args in
     let l = c.loop-i in
     let e = c.escape_at-e in
@@ -19,9 +17,6 @@ put_code-n-requires c =
 
 pub overflow_add-i : goal.overflow_add-i
 overflow_add-i c =
-    let at-escape-at = c in
-    let at-loop = c in
-    let start = c in
     let x = c.args in
     let l = c.loop-i in
     let e = c.escape_at-e in
@@ -29,9 +24,6 @@ overflow_add-i c =
 
 pub loop-i-smaller-then-b-eq92 : goal.loop-i-smaller-then-b-eq92
 loop-i-smaller-then-b-eq92 c =
-    let at-escape-at = c in
-    let at-loop = c in
-    let start = c in
     let x = c.args in
     let l = c.loop-i in
     let e = c.escape_at-e in
@@ -39,9 +31,6 @@ loop-i-smaller-then-b-eq92 c =
 
 pub loop-i-preserved-then-b-eq92 : goal.loop-i-preserved-then-b-eq92
 loop-i-preserved-then-b-eq92 c =
-    let at-escape-at = c in
-    let at-if1 = c in
-    let at-loop = c in
     let l = c.loop-i in
     let e = c.escape_at-e in
     step-escape _ _ e.result l.invariant (omega arith) c.if-b-eq92.true e.ensures c.put_code-n.ensures
@@ -51,8 +40,6 @@ put_byte-n-requires c = omega (arith, c.loop-i.invariant.short)
 
 pub loop-i-preserved : goal.loop-i-preserved
 loop-i-preserved c =
-    let at-if1 = c in
-    let at-loop = c in
     step-own _ _ c.loop-i.invariant (omega arith) c.if-b-eq92.false c.put_byte-n.ensures
 
 pub returns : goal.returns

@@ -11,8 +11,5 @@ returns-then-not-is_escaped c =
 
 pub returns : goal.returns
 returns c =
-    let at-if1 = c in
-    let at-is-escaped = c in
-    let start = c in
     let x = c.args in is-decoded x.raw.now x.out.now (sym c.is_escaped.ensures ∙ not-false _ c.if-not-is_escaped.false-raw) _ _
     c.decode.ensures

@@ -9,8 +9,6 @@ loop-i-init c = start c.args.raw.now
 
 pub with_code-m-requires : goal.with_code-m-requires
 with_code-m-requires c =
-    let at-loop = c in
-    let start = c in
     let x = c.args in
     let l = c.loop-i in
     let e = c.escape_at-e in
@@ -19,8 +17,6 @@ with_code-m-requires c =
 
 pub overflow_add-i : goal.overflow_add-i
 overflow_add-i c =
-    let at-loop = c in
-    let start = c in
     let x = c.args in
     let l = c.loop-i in
     let e = c.escape_at-e in
@@ -28,8 +24,6 @@ overflow_add-i c =
 
 pub loop-i-smaller-then-b-eq92 : goal.loop-i-smaller-then-b-eq92
 loop-i-smaller-then-b-eq92 c =
-    let at-loop = c in
-    let start = c in
     let x = c.args in
     let l = c.loop-i in
     let e = c.escape_at-e in

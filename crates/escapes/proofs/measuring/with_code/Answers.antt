@@ -8,7 +8,5 @@ overflow_add-result c = omega (arith, c.width.ensures)
 
 pub returns : goal.returns
 returns c =
-    let at_width = c in
-    let start = c in
     let x = c.args in code-added x.m _ _ c.or-3.ensures x.c _ _ _ c.width.ensures c.is_surrogate.ensures
     c.or.ensures c.or-2.ensures

@@ -15,7 +15,6 @@ returns-then-n-w c =
 
 pub overflow_add-i : goal.overflow_add-i
 overflow_add-i c =
-    let at-loop = c in
     let x = c.args in
     let l = c.loop-i in
     let e = c.escape_at-e in
@@ -23,7 +22,6 @@ overflow_add-i c =
 
 pub loop-i-smaller-then-raw-i-eq92 : goal.loop-i-smaller-then-raw-i-eq92
 loop-i-smaller-then-raw-i-eq92 c =
-    let at-loop = c in
     let x = c.args in
     let l = c.loop-i in
     let e = c.escape_at-e in

@@ -24,9 +24,6 @@ unit_at-requires c =
 
 pub returns-then-u-lt65536 : goal.returns-then-u-lt65536
 returns-then-u-lt65536 c =
-    let at-if2 = c in
-    let at-short = c in
-    let start = c in
     let x = c.args in c.joined.ensures
     ∙ escape-unit-at x.s.now x.at c.short-c.result c.unit_at-u.result c.unit_at.result c.short-c.ensures
     c.if-c-lt65536.false c.unit_at-u.ensures c.if-u-lt65536.true c.unit_at.ensures

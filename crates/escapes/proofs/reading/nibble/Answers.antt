@@ -30,14 +30,10 @@ overflow_add-result-then-among-2 c = let h = among_in 97 102 _ (sym c.among-2.en
 
 pub returns-then-among-2 : goal.returns-then-among-2
 returns-then-among-2 c =
-    let at-if1 = c in
-    let at-is-digit = c in
     nib_lower _ (sym c.is_digit.ensures ∙ c.if-is_digit.false) (sym c.among.ensures ∙ c.if-among.false)
     (sym c.among-2.ensures ∙ c.if-among-2.true)
 
 pub returns : goal.returns
 returns c =
-    let at-if1 = c in
-    let at-is-digit = c in
     nib_none _ (sym c.is_digit.ensures ∙ c.if-is_digit.false) (sym c.among.ensures ∙ c.if-among.false)
     (sym c.among-2.ensures ∙ c.if-among-2.false)

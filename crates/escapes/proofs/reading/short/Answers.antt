@@ -32,8 +32,6 @@ returns-then-b-eq102 c = simp (
 pub returns-then-b-eq110 : goal.returns-then-b-eq110
 unfolding short
 returns-then-b-eq110 c =
-    let at-if2 = c in
-    let at-if1 = c in
     simp (
       ne_eqb _ _ c.if-b-eq34.false,
       ne_eqb _ _ c.if-b-eq92.false,
@@ -46,9 +44,6 @@ returns-then-b-eq110 c =
 pub returns-then-b-eq114 : goal.returns-then-b-eq114
 unfolding short
 returns-then-b-eq114 c =
-    let at-if3 = c in
-    let at-if2 = c in
-    let at-if1 = c in
     simp (
       ne_eqb _ _ c.if-b-eq34.false,
       ne_eqb _ _ c.if-b-eq92.false,
@@ -62,10 +57,6 @@ returns-then-b-eq114 c =
 pub returns-then-b-eq116 : goal.returns-then-b-eq116
 unfolding short
 returns-then-b-eq116 c =
-    let at-if4 = c in
-    let at-if3 = c in
-    let at-if2 = c in
-    let at-if1 = c in
     simp (
       ne_eqb _ _ c.if-b-eq34.false,
       ne_eqb _ _ c.if-b-eq92.false,
@@ -80,10 +71,6 @@ returns-then-b-eq116 c =
 pub returns : goal.returns
 unfolding short
 returns c =
-    let at-if4 = c in
-    let at-if3 = c in
-    let at-if2 = c in
-    let at-if1 = c in
     simp (
       ne_eqb _ _ c.if-b-eq34.false,
       ne_eqb _ _ c.if-b-eq92.false,

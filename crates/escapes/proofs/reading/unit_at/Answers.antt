@@ -16,11 +16,6 @@ returns-then-s-at-ne117 c =
 
 pub returns : goal.returns
 returns c =
-    let at-nibble2 = c in
-    let at-nibble = c in
-    let at-if3 = c in
-    let at-if2 = c in
-    let start = c in
     let x = c.args in c.quad.ensures
     ∙ rw (c.nibble-4.ensures, c.nibble-3.ensures, c.nibble-2.ensures, c.nibble.ensures)
     (unit-is-at x.s.now x.at c.if-s-at-ne92.false c.if-s-at-ne117.false)

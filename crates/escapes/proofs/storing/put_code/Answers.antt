@@ -30,8 +30,6 @@ put_three-requires c =
 
 pub returns-then-c-lt65536 : goal.returns-then-c-lt65536
 returns-then-c-lt65536 c =
-    let at-low2 = c in
-    let start = c in
     let x = c.args in stored-three x.out.now x.at x.c c.low-then-c-lt65536.result c.low-then-c-lt65536-2.result (omega arith) (omega arith)
     c.low-then-c-lt65536.ensures c.low-then-c-lt65536-2.ensures c.put_three.ensures
 
@@ -42,8 +40,5 @@ put_four-requires c =
 
 pub returns : goal.returns
 returns c =
-    let at-low5 = c in
-    let at-low4 = c in
-    let start = c in
     let x = c.args in stored-four x.out.now x.at x.c c.low-2.result c.low-3.result c.low-4.result (omega arith)
     c.low-2.ensures c.low-3.ensures c.low-4.ensures c.put_four.ensures

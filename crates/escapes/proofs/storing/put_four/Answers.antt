@@ -5,6 +5,4 @@ use mathlib.Core.List.{[], ◌∷◌}
 
 pub returns : goal.returns
 returns c =
-    let at-put-byte = c in
-    let start = c in
     let x = c.args in behind x.out.now x.at x.a (x.b ∷ x.c ∷ x.d ∷ []) 3 c.put_byte-p.ensures c.put_three.ensures

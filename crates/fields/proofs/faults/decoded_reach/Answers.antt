@@ -6,8 +6,6 @@ use mathlib.Core.Path.{ap, ◌∙◌}
 
 pub returns : goal.returns
 returns c =
-    let at-find-text = c in
-    let start = c in
     c.reach.ensures
     ∙ ap (letter_reach c.args.n)
     (found_within c.args.w.now _ _ c.find_text-f.ensures c.room-2-1.given c.text_part.ensures)

@@ -11,7 +11,7 @@ use mathlib.Core.Path.{sym, ◌∙◌}
 use native.Mathlib.Omega.{arith}
 
 pub loop-n-init : goal.loop-n-init
-loop-n-init c = let x = c in (
+loop-n-init c = (
   search rules,
   (
     search rules,
@@ -26,14 +26,11 @@ loop-n-init c = let x = c in (
 )
 
 pub returns-then-byte-ne34 : goal.returns-then-byte-ne34
-returns-then-byte-ne34 c =
-    let at-loop = c in
-    let start = c in
-    let l = c in (
-      walk-over c.loop-n.invariant.1.1.1.0
-          (no_more c.args.v.now c.loop-n.n c.loop-n.p c.skip-q.ensures.is (λ e. c.if-byte-ne34.true (c.byte.ensures ∙ e))),
-      λ h. absurd (omega arith),
-    )
+returns-then-byte-ne34 c = (
+  walk-over c.loop-n.invariant.1.1.1.0
+      (no_more c.args.v.now c.loop-n.n c.loop-n.p c.skip-q.ensures.is (λ e. c.if-byte-ne34.true (c.byte.ensures ∙ e))),
+  λ h. absurd (omega arith),
+)
 
 pub overflow_add-q : goal.overflow_add-q
 overflow_add-q c = omega (
@@ -49,35 +46,18 @@ pub has_member-requires : goal.has_member-requires
 has_member-requires c = omega (arith, c.hop_member-k.ensures, hop-few c.part.result.now)
 
 pub returns-then-has_member : goal.returns-then-has_member
-returns-then-has_member c =
-    let at_part = c in
-    let at-member-at = c in
-    let at-if1 = c in
-    let at_byte = c in
-    let at-skip = c in
-    let at-loop-test = c in
-    let at-loop = c in (
-      walk_twice c.loop-n.invariant.1.1.1.0 c.loop-n-test.true c.skip-q.ensures.is (sym c.byte.ensures ∙ c.if-byte-ne34.false)
-          c.member_at-x.ensures c.part.ensures c.hop_member-k.ensures c.has_member.ensures
-          (omega (arith, c.skip-q.ensures.low, c.loop-n.invariant.0)) c.if-has_member.true c.repeating-twice.ensures,
-      λ h. absurd (omega arith),
-    )
+returns-then-has_member c = (
+  walk_twice c.loop-n.invariant.1.1.1.0 c.loop-n-test.true c.skip-q.ensures.is (sym c.byte.ensures ∙ c.if-byte-ne34.false)
+      c.member_at-x.ensures c.part.ensures c.hop_member-k.ensures c.has_member.ensures
+      (omega (arith, c.skip-q.ensures.low, c.loop-n.invariant.0)) c.if-has_member.true c.repeating-twice.ensures,
+  λ h. absurd (omega arith),
+)
 
 pub with_member-m-requires : goal.with_member-m-requires
 with_member-m-requires c = omega (arith, c.hop_member-k.ensures, hop-few c.part.result.now)
 
 pub returns-then-byte-ne44 : goal.returns-then-byte-ne44
 returns-then-byte-ne44 c =
-    let at-has-member = c in
-    let at-hop-member = c in
-    let at_part = c in
-    let at-member-at = c in
-    let at-if1 = c in
-    let at_byte = c in
-    let at-skip = c in
-    let at-loop-test = c in
-    let at-loop = c in
-    let start = c in
     let quote = sym c.byte.ensures ∙ c.if-byte-ne34.false in
     let known = known_on c.args.v.now c.args.o c.loop-n.invariant.1.1.1.1 c.skip-q.ensures.is quote c.member_at-x.ensures
     c.is_plain.ensures c.and-known.ensures in (
@@ -91,23 +71,10 @@ returns-then-byte-ne44 c =
 
 pub overflow_add-p-in-loop-n : goal.overflow_add-p-in-loop-n
 overflow_add-p-in-loop-n c =
-    let at-member-at = c in
-    let at-loop = c in
-    let start = c in
     omega (arith, c.loop-n.invariant.1.1.0, there c.args.v.now c.member_at-x.result.then 43 (sym c.byte-in-loop-n.ensures ∙ c.if-byte-ne44.false))
 
 pub loop-n-preserved : goal.loop-n-preserved
 loop-n-preserved c =
-    let at-has-member = c in
-    let at-hop-member = c in
-    let at_part = c in
-    let at-member-at = c in
-    let at-if1 = c in
-    let at_byte = c in
-    let at-skip = c in
-    let at-loop-test = c in
-    let at-loop = c in
-    let start = c in
     let b = sym c.byte-in-loop-n.ensures ∙ c.if-byte-ne44.false in (
       search rules,
       (
@@ -128,7 +95,7 @@ loop-n-preserved c =
     )
 
 pub returns : goal.returns
-returns c = let l = c in (
+returns c = (
   walk-over c.loop-n.invariant.1.1.1.0 (spent c.args.v.now c.loop-n.n c.loop-n.p (omega arith)),
   λ h. absurd (omega arith),
 )

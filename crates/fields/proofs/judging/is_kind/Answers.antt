@@ -30,8 +30,6 @@ returns-then-n-eq-USER_AGENT c = rw (
 pub returns-then-n-eq-CALLER : goal.returns-then-n-eq-CALLER
 unfolding kind_rule one_of
 returns-then-n-eq-CALLER c =
-    let at-if2 = c in
-    let at-if1 = c in
     rw (
       ne_eqb _ _ c.if-n-eq-CALL_TEST.false,
       ne_eqb _ _ c.if-n-eq-SECURE_CALL.false,
@@ -43,9 +41,6 @@ returns-then-n-eq-CALLER c =
 pub returns-then-n-eq-BODY : goal.returns-then-n-eq-BODY
 unfolding kind_rule one_of
 returns-then-n-eq-BODY c =
-    let at-if3 = c in
-    let at-if2 = c in
-    let at-if1 = c in
     rw (
       ne_eqb _ _ c.if-n-eq-CALL_TEST.false,
       ne_eqb _ _ c.if-n-eq-SECURE_CALL.false,
@@ -58,9 +53,6 @@ returns-then-n-eq-BODY c =
 pub returns : goal.returns
 unfolding kind_rule one_of
 returns c =
-    let at-if3 = c in
-    let at-if2 = c in
-    let at-if1 = c in
     rw (
       ne_eqb _ _ c.if-n-eq-CALL_TEST.false,
       ne_eqb _ _ c.if-n-eq-SECURE_CALL.false,

@@ -16,13 +16,11 @@ returns-then-not-is_array c = not_list c.args.v.now (sym c.is_array.ensures ∙ 
 
 pub returns-then-byte-eq93 : goal.returns-then-byte-eq93
 returns-then-byte-eq93 c =
-    let a = c in
     empty_list c.args.v.now (sym c.is_array.ensures ∙ not-false _ c.if-not-is_array.false-raw)
     c.skip.ensures.is (sym c.byte.ensures ∙ c.if-byte-eq93.true)
 
 pub loop-n-init : goal.loop-n-init
 loop-n-init c =
-    let a = c in
     let v = c.args.v.now in
     let e = sym c.is_array.ensures ∙ not-false _ c.if-not-is_array.false-raw in
     let h = array-there v e in
@@ -30,7 +28,6 @@ loop-n-init c =
 
 pub returns-then-byte-ne34 : goal.returns-then-byte-ne34
 returns-then-byte-ne34 c =
-    let l = c in
     let x = c.args in
     let v = x.v.now in
     let q = c.skip-q.result in
@@ -39,10 +36,6 @@ returns-then-byte-ne34 c =
 
 pub returns-then-byte-ne44 : goal.returns-then-byte-ne44
 returns-then-byte-ne44 c =
-    let at-byte2 = c in
-    let at-skip2 = c in
-    let at-loop = c in
-    let l = c in
     let x = c.args in
     let v = x.v.now in
     let q = c.skip-q.result in
@@ -54,17 +47,12 @@ returns-then-byte-ne44 c =
 
 pub overflow_add-p : goal.overflow_add-p
 overflow_add-p c =
-    let l = c in
     let x = c.args in
     let v = x.v.now in
     omega (arith, c.loop-n.invariant.1.0, there v _ 43 (sym c.byte-in-loop-n-2.ensures ∙ c.if-byte-ne44.false))
 
 pub loop-n-preserved : goal.loop-n-preserved
 loop-n-preserved c =
-    let at-byte2 = c in
-    let at-skip2 = c in
-    let at-loop = c in
-    let l = c in
     let x = c.args in
     let v = x.v.now in
     let q = c.skip-q.result in
@@ -79,7 +67,6 @@ loop-n-preserved c =
 
 pub returns : goal.returns
 returns c =
-    let l = c in
     let x = c.args in
     let v = x.v.now in
     sym (c.loop-n.invariant.1.1 ∙ ap (all (quotes v)) (no_element v c.loop-n.n c.loop-n.p (omega arith)) ∙ every-none (quotes v))

@@ -5,15 +5,11 @@ use Rattle.fields.proofs.judging.judge.Goals as goal
 use mathlib.Core.Path.{◌∙◌}
 
 pub returns-then-keeps_rule : goal.returns-then-keeps_rule
-returns-then-keeps_rule c = let x = c in
-    judged-kept c.args.k c.args.n c.args.v.now
+returns-then-keeps_rule c = judged-kept c.args.k c.args.n c.args.v.now
     (c.keeps_rule.ensures ∙ chain-keeps c.args.k c.args.v.now c.args.n c.requires.1.0 c.requires.1.1) c.if-keeps_rule.true
 
 pub returns-then-and : goal.returns-then-and
 returns-then-and c =
-    let at-is-string = c in
-    let at-keeps-rule = c in
-    let x = c in
     judged-letter c.args.k c.args.n c.args.v.now
     (c.keeps_rule.ensures ∙ chain-keeps c.args.k c.args.v.now c.args.n c.requires.1.0 c.requires.1.1) c.if-keeps_rule.false
     c.requires.1.0 c.is_string.ensures c.and.ensures c.if-and.true c.own_spelling.ensures
@@ -21,9 +17,6 @@ returns-then-and c =
 
 pub returns : goal.returns
 returns c =
-    let at-is-string = c in
-    let at-keeps-rule = c in
-    let x = c in
     judged-first c.args.k c.args.n c.args.v.now
     (c.keeps_rule.ensures ∙ chain-keeps c.args.k c.args.v.now c.args.n c.requires.1.0 c.requires.1.1) c.if-keeps_rule.false
     c.requires.1.0 c.is_string.ensures c.and.ensures c.if-and.false

@@ -5,17 +5,14 @@ use borrow.Author.Tests.{not-true, not-false}
 use mathlib.Core.Path.{sym, ◌∙◌}
 
 pub returns-then-not-is_string : goal.returns-then-not-is_string
-returns-then-not-is_string c = let a = c in
-    cseq-untold c.args.v.now _ c.own_spelling-w.ensures c.is_string.ensures
+returns-then-not-is_string c = cseq-untold c.args.v.now _ c.own_spelling-w.ensures c.is_string.ensures
     (not-true _ c.if-not-is_string.true-raw)
 
 pub returns-in-Of : goal.returns-in-Of
-returns-in-Of c = let q = c in let u = c in let a = c in
-    cseq-kept c.args.v.now _ c.own_spelling-w.ensures c.is_string.ensures (not-false _ c.if-not-is_string.false-raw)
+returns-in-Of c = cseq-kept c.args.v.now _ c.own_spelling-w.ensures c.is_string.ensures (not-false _ c.if-not-is_string.false-raw)
     c.in-Of.number c.in-Of.method (sym c.in-Of.is ∙ c.sequence_of.ensures)
 
 pub returns-in-Broken : goal.returns-in-Broken
-returns-in-Broken c = let q = c in let u = c in let a = c in
-    cseq-broken c.args.v.now _ c.own_spelling-w.ensures c.is_string.ensures
+returns-in-Broken c = cseq-broken c.args.v.now _ c.own_spelling-w.ensures c.is_string.ensures
     (not-false _ c.if-not-is_string.false-raw)
     (sym c.in-Broken.is ∙ c.sequence_of.ensures) c.letter_at.ensures

@@ -6,15 +6,11 @@ use mathlib.Core.Path.{sym, ◌∙◌}
 
 pub returns-then-not-is_escaped : goal.returns-then-not-is_escaped
 returns-then-not-is_escaped c =
-    let at_own = c in
     is_plain_memo c.args.v.now c.own_spelling-w.ensures
     (sym c.is_escaped.ensures ∙ not-true _ c.if-not-is_escaped.true-raw)
     c.is_memo.ensures (c.and.ensures ∙ rw c.is_string.ensures)
 
 pub returns : goal.returns
 returns c =
-    let at-and = c in
-    let at-measure = c in
-    let at_own = c in
     is_memo c.args.v.now c.own_spelling-w.ensures c.measure-m.ensures c.and-2.ensures c.and-sound.ensures
     (c.and-3.ensures ∙ rw c.is_string-2.ensures)

@@ -11,8 +11,6 @@ returns-then-not-is_string c = let x = c.args in no-string (on_text x.k x.n) x.v
 
 pub returns-then-is_text : goal.returns-then-is_text
 returns-then-is_text c =
-    let at_own = c in
-    let at-is-string = c in
     let x = c.args in
     string-text (on_text x.k x.n) x.v.now c.is_string.ensures c.own_spelling-w.ensures
     (sym ((text_tried x.k x.n).own c.own_spelling-w.result.now (sym c.is_text.ensures ∙ c.if-is_text.true)))
@@ -20,8 +18,6 @@ returns-then-is_text c =
 
 pub returns : goal.returns
 returns c =
-    let at_own = c in
-    let at-is-string = c in
     let x = c.args in
     string-text (on_text x.k x.n) x.v.now c.is_string.ensures c.own_spelling-w.ensures
     (c.is_decoded_text.ensures ∙ (text_tried x.k x.n).within c.own_spelling-w.result.now)

@@ -7,7 +7,5 @@ use mathlib.Core.Path.{ap, ◌∙◌}
 
 pub returns : goal.returns
 returns c =
-    let at-find-text = c in
-    let start = c in
     let is = found_within c.args.w.now _ _ c.find_text-f.ensures c.room-2-1.given c.text_part.ensures in
     (c.field.ensures.0 ∙ ap (word_number fields) is, c.field.ensures.1)

@@ -6,7 +6,5 @@ use mathlib.Core.Path.{ap, ◌∙◌}
 
 pub returns : goal.returns
 returns c =
-    let at-find-text = c in
-    let start = c in
     c.sequence_of.ensures
     ∙ ap sequence_of (found_within c.args.w.now _ _ c.find_text-f.ensures c.room-2-1.given c.text_part.ensures)

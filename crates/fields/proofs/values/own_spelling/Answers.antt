@@ -4,7 +4,7 @@ use Rattle.fields.proofs.values.own_spelling.Goals as goal
 use mathlib.Core.Path.{refl, ◌∙◌}
 
 pub returns-then-n-lt2 : goal.returns-then-n-lt2
-returns-then-n-lt2 c = let x = c in c.part.ensures ∙ spelling-short c.args.v.now c.requires c.if-n-lt2.true
+returns-then-n-lt2 c = c.part.ensures ∙ spelling-short c.args.v.now c.requires c.if-n-lt2.true
 
 pub returns : goal.returns
-returns c = let x = c in spelling-long c.args.v.now c.requires refl
+returns c = spelling-long c.args.v.now c.requires refl

@@ -5,4 +5,4 @@ use mathlib.Core.Path.{ap, ◌∙◌}
 use native.Mathlib.Omega.{arith}
 
 pub returns : goal.returns
-returns c = let x = c in c.part.ensures ∙ ap (part c.args.s.now c.args.v) (c.requires (omega (arith, c.if-e-eq0.false)))
+returns c = c.part.ensures ∙ ap (part c.args.s.now c.args.v) (c.requires (omega (arith, c.if-e-eq0.false)))

@@ -15,17 +15,12 @@ returns-then-not-is_array c = let v = c.args.v.now in via-broken v (sym (not-arr
 
 pub returns-then-byte-eq93 : goal.returns-then-byte-eq93
 returns-then-byte-eq93 c =
-    let at-is-array = c in
-    let start = c in
     let v = c.args.v.now in
     via-broken v (sym (no-object v (sym c.is_array.ensures ∙ not-false _ c.if-not-is_array.false-raw)
     c.skip.ensures.is (sym c.byte.ensures ∙ c.if-byte-eq93.true)))
 
 pub loop-n-init : goal.loop-n-init
 loop-n-init c =
-    let at-if1 = c in
-    let at-is-array = c in
-    let start = c in
     let v = c.args.v.now in
     let e = sym c.is_array.ensures ∙ not-false _ c.if-not-is_array.false-raw in
     let h = array-there v e in (
@@ -38,16 +33,10 @@ loop-n-init c =
 
 pub returns-then-r-eq16 : goal.returns-then-r-eq16
 returns-then-r-eq16 c =
-    let at-loop = c in
-    let start = c in
     via-broken c.args.v.now (walk-full c.loop-n.invariant.1.1 c.loop-n-test.true c.skip-q.ensures.is c.if-r-eq16.true)
 
 pub returns-then-not-good : goal.returns-then-not-good
 returns-then-not-good c =
-    let at-skip2 = c in
-    let at-loop-test = c in
-    let at-loop = c in
-    let start = c in
     via-broken c.args.v.now
     (walk-broken c.loop-n.invariant.1.1 c.loop-n-test.true c.skip-q.ensures.is
     (sym c.object_at-x.ensures.0 ∙ not-true _ c.if-not-good.true-raw))
@@ -60,13 +49,6 @@ onward-r-requires c = omega (arith, c.loop-n.invariant.1.1.few)
 
 pub returns-then-byte-ne44 : goal.returns-then-byte-ne44
 returns-then-byte-ne44 c =
-    let at-if4 = c in
-    let at-object-at = c in
-    let at-if3 = c in
-    let at-skip2 = c in
-    let at-loop-test = c in
-    let at-loop = c in
-    let start = c in
     via-kept c.args.v.now
     (walk-shut c.loop-n.invariant.1.1 c.loop-n-test.true c.skip-q.ensures.is c.if-r-eq16.false
     (sym c.object_at-x.ensures.0 ∙ not-false _ c.if-not-good.false-raw) (c.object_at-x.ensures.1.0 (not-false _ c.if-not-good.false-raw))
@@ -75,8 +57,6 @@ returns-then-byte-ne44 c =
 
 pub overflow_add-p : goal.overflow_add-p
 overflow_add-p c =
-    let at-loop = c in
-    let start = c in
     omega (
       arith,
       c.loop-n.invariant.1.0.1,
@@ -85,13 +65,6 @@ overflow_add-p c =
 
 pub loop-n-preserved : goal.loop-n-preserved
 loop-n-preserved c =
-    let at-if4 = c in
-    let at-object-at = c in
-    let at-if3 = c in
-    let at-skip2 = c in
-    let at-loop-test = c in
-    let at-loop = c in
-    let start = c in
     let b = sym c.byte-in-loop-n.ensures ∙ c.if-byte-ne44.false in (
       omega (arith, there c.args.v.now c.element_from-e.result.then 43 b),
       (
@@ -104,8 +77,6 @@ loop-n-preserved c =
 
 pub returns : goal.returns
 returns c =
-    let start = c in
-    let l = c in
     via-kept c.args.v.now
     (walk-over c.loop-n.invariant.1.1 (no_element c.args.v.now c.loop-n.n c.loop-n.p (omega arith))
     (omega (arith, c.loop-n.invariant.1.1.counted, c.loop-n.invariant.1.0.0)))

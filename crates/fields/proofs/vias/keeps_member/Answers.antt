@@ -21,9 +21,6 @@ own_spelling-requires c =
 
 pub returns : goal.returns
 returns c =
-    let at-is-string = c in
-    let at-value-at = c in
-    let at-if1 = c in
     let a = c.args in
     let w = c.value_at-w.result.now in
     is-there a.v.now a.x.at a.n c.if-p-eq0.false c.value_at-w.ensures

@@ -19,10 +19,6 @@ hop_members-w-requires c = let x = c.args in there x.v.now x.o 122 (sym c.byte.e
 
 pub returns-then-twice-ne0 : goal.returns-then-twice-ne0
 returns-then-twice-ne0 c =
-    let at-hop-members = c in
-    let at-if1 = c in
-    let at_byte = c in
-    let start = c in
     let x = c.args in (
       c.no_object-then-twice-ne0.ensures.0 ∙ twice_one x.v.now x.o (sym c.byte.ensures ∙ c.if-byte-ne123.false) c.hop_members-w.ensures.0.0
           c.if-twice-ne0.true,
@@ -31,33 +27,22 @@ returns-then-twice-ne0 c =
 
 pub keeps_member-requires : goal.keeps_member-requires
 keeps_member-requires c =
-    let h = c in
     (ends-known c.args.v.now _ c.hop_members-w.ensures.0.1).ends 1
 
 pub keeps_member-requires-2 : goal.keeps_member-requires-2
 keeps_member-requires-2 c =
-    let h = c in
     (ends-known c.args.v.now _ c.hop_members-w.ensures.0.1).ends 2
 
 pub keeps_member-requires-3 : goal.keeps_member-requires-3
 keeps_member-requires-3 c =
-    let h = c in
     (ends-known c.args.v.now _ c.hop_members-w.ensures.0.1).ends 3
 
 pub spelling_span-requires : goal.spelling_span-requires
 spelling_span-requires c =
-    let h = c in
     (ends-known c.args.v.now _ c.hop_members-w.ensures.0.1).ends 1
 
 pub returns : goal.returns
 returns c =
-    let at-keeps-member2 = c in
-    let at-keeps-member = c in
-    let at-if2 = c in
-    let at-hop-members = c in
-    let at-if1 = c in
-    let at_byte = c in
-    let start = c in
     let x = c.args in
     let b = sym c.byte.ensures ∙ c.if-byte-ne123.false in
     let g = c.hop_members-w.ensures.0.0 in (

@@ -18,21 +18,17 @@ returns-then-s-i c =
     }
 
 pub loop-j-preserved : goal.loop-j-preserved
-loop-j-preserved c =
-    let at-loop = c in
-    let start = c in (
-      search rules,
-      search rules,
-      search rules,
-      λ k.
-          c.loop-j.invariant.3 k
-          ∙ word-hit _ c.args.w.now _ c.loop-j.j k (search rules) (search rules) c.if-s-i-2.true,
-    )
+loop-j-preserved c = (
+  search rules,
+  search rules,
+  search rules,
+  λ k.
+      c.loop-j.invariant.3 k
+      ∙ word-hit _ c.args.w.now _ c.loop-j.j k (search rules) (search rules) c.if-s-i-2.true,
+)
 
 pub returns-else-s-i-2 : goal.returns-else-s-i-2
 returns-else-s-i-2 c =
-    let at-loop = c in
-    let start = c in
     record {
       low = search rules;
       high = search rules;

@@ -34,10 +34,6 @@ returns-then-s-j c =
 
 pub returns-then-is_digit-2 : goal.returns-then-is_digit-2
 returns-then-is_digit-2 c =
-    let at-if3 = c in
-    let at-is-sign = c in
-    let at-if2 = c in
-    let at-is-digit = c in
     record {
       low = search rules;
       high = search rules;
@@ -50,10 +46,6 @@ returns-then-is_digit-2 c =
 
 pub returns-then-is_sign : goal.returns-then-is_sign
 returns-then-is_sign c =
-    let at-if3 = c in
-    let at-is-sign = c in
-    let at-if2 = c in
-    let at-is-digit = c in
     record {
       low = search rules;
       high = search rules;

@@ -8,40 +8,26 @@ use native.Mathlib.Omega.{arith}
 
 pub returns-in_default : goal.returns-in_default
 returns-in_default c =
-    let st = c in
-    let x = c in
     c.nothing.ensures ∙ no_name c.args.left c.args.room c.args.s.now c.args.q
     (no-string-reached c.requires.0 c.requires.1 c.string-n.ensures c.in_default.not-End) refl
 
 pub returns-then-byte-ne58 : goal.returns-then-byte-ne58
 returns-then-byte-ne58 c =
-    let by = c in
-    let sk = c in
-    let n = c in
-    let st = c in
-    let x = c in
     let e = string-reached c.requires.0 c.requires.1 c.string-n.ensures c.in-End.is in
     let named = string-some c.requires.0 c.requires.1 c.string-n.ensures c.in-End.is in
     c.nothing-then-byte-ne58.ensures ∙ no-colon c.args.left c.args.room c.args.s.now c.args.q e named c.skip-c.ensures.is
     (λ z. c.if-byte-ne58.true (c.byte.ensures ∙ z))
 
 pub overflow_add-c : goal.overflow_add-c
-overflow_add-c c = let st = c in let x = c.args in
+overflow_add-c c = let x = c.args in
     omega (arith, there x.s.now c.skip-c.result 57 (sym c.byte.ensures ∙ c.if-byte-ne58.false))
 
 pub value-r-requires : goal.value-r-requires
-value-r-requires c = let by = c in let st = c in let x = c.args in
+value-r-requires c = let x = c.args in
     let h = there x.s.now c.skip-c.result 57 (sym c.byte.ensures ∙ c.if-byte-ne58.false) in c.skip-v.ensures.inner (omega arith)
 
 pub returns-in_default-r : goal.returns-in_default-r
 returns-in_default-r c =
-    let va = c in
-    let s2 = c in
-    let by = c in
-    let sk = c in
-    let n = c in
-    let st = c in
-    let x = c in
     let e = string-reached c.requires.0 c.requires.1 c.string-n.ensures c.in-End.is in
     let named = string-some c.requires.0 c.requires.1 c.string-n.ensures c.in-End.is in
     let colon = sym c.byte.ensures ∙ c.if-byte-ne58.false in
@@ -50,17 +36,6 @@ returns-in_default-r c =
 
 pub returns-then-is_next : goal.returns-then-is_next
 returns-then-is_next c =
-    let nx = c in
-    let b2 = c in
-    let s3 = c in
-    let r = c in
-    let va = c in
-    let s2 = c in
-    let by = c in
-    let sk = c in
-    let n = c in
-    let st = c in
-    let x = c in
     let e = string-reached c.requires.0 c.requires.1 c.string-n.ensures c.in-End.is in
     let named = string-some c.requires.0 c.requires.1 c.string-n.ensures c.in-End.is in
     let colon = sym c.byte.ensures ∙ c.if-byte-ne58.false in
@@ -70,17 +45,6 @@ returns-then-is_next c =
 
 pub returns : goal.returns
 returns c =
-    let nx = c in
-    let b2 = c in
-    let s3 = c in
-    let r = c in
-    let va = c in
-    let s2 = c in
-    let by = c in
-    let sk = c in
-    let n = c in
-    let st = c in
-    let x = c in
     let e = string-reached c.requires.0 c.requires.1 c.string-n.ensures c.in-End.is in
     let named = string-some c.requires.0 c.requires.1 c.string-n.ensures c.in-End.is in
     let colon = sym c.byte.ensures ∙ c.if-byte-ne58.false in

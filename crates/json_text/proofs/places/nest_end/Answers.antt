@@ -9,7 +9,7 @@ pub loop-i-init : goal.loop-i-init
 loop-i-init c = (omega arith, omega arith, omega arith, omega arith, refl)
 
 pub loop-i-preserved-then-b-eq34 : goal.loop-i-preserved-then-b-eq34
-loop-i-preserved-then-b-eq34 c = let l = c in (
+loop-i-preserved-then-b-eq34 c = (
   omega arith,
   omega arith,
   omega arith,
@@ -19,7 +19,7 @@ loop-i-preserved-then-b-eq34 c = let l = c in (
 )
 
 pub loop-i-preserved-then-is_open : goal.loop-i-preserved-then-is_open
-loop-i-preserved-then-is_open c = let l = c in (
+loop-i-preserved-then-is_open c = (
   omega arith,
   omega arith,
   omega arith,
@@ -30,24 +30,17 @@ loop-i-preserved-then-is_open c = let l = c in (
 )
 
 pub returns-then-n-eq1 : goal.returns-then-n-eq1
-returns-then-n-eq1 c =
-    let at-is-open = c in
-    let at-if1 = c in
-    let at-loop = c in
-    let l = c in (
-      sym (c.loop-i.invariant.4
-          ∙ laws.nest_closes c.args.s.now c.loop-i.i c.loop-i.n (omega arith) (omega arith) c.if-n-eq1.true
-          (sym c.is_open.ensures ∙ c.if-is_open.false) (sym c.is_shut.ensures ∙ c.if-is_shut.true) c.if-b-eq34.false),
-      omega arith,
-      omega arith,
-    )
+returns-then-n-eq1 c = (
+  sym (c.loop-i.invariant.4
+      ∙ laws.nest_closes c.args.s.now c.loop-i.i c.loop-i.n (omega arith) (omega arith) c.if-n-eq1.true
+      (sym c.is_open.ensures ∙ c.if-is_open.false) (sym c.is_shut.ensures ∙ c.if-is_shut.true) c.if-b-eq34.false),
+  omega arith,
+  omega arith,
+)
 
 pub loop-i-preserved-then-is_shut : goal.loop-i-preserved-then-is_shut
 loop-i-preserved-then-is_shut c =
-    let at-is-open = c in
-    let at-if1 = c in
-    let at-loop = c in
-    let l = c in let z : c.loop-i.n ≡ 1 → ⊥ = c.if-n-eq1.false in (
+    let z : c.loop-i.n ≡ 1 → ⊥ = c.if-n-eq1.false in (
       omega arith,
       omega arith,
       omega arith,
@@ -58,19 +51,15 @@ loop-i-preserved-then-is_shut c =
     )
 
 pub loop-i-preserved : goal.loop-i-preserved
-loop-i-preserved c =
-    let at-if1 = c in
-    let at-loop = c in
-    let l = c in (
-      omega arith,
-      omega arith,
-      omega arith,
-      omega arith,
-      c.loop-i.invariant.4
-          ∙ laws.nest_more c.args.s.now c.loop-i.i c.loop-i.n (omega arith) (omega arith)
-          (sym c.is_open.ensures ∙ c.if-is_open.false) (sym c.is_shut.ensures ∙ c.if-is_shut.false) c.if-b-eq34.false,
-    )
+loop-i-preserved c = (
+  omega arith,
+  omega arith,
+  omega arith,
+  omega arith,
+  c.loop-i.invariant.4
+      ∙ laws.nest_more c.args.s.now c.loop-i.i c.loop-i.n (omega arith) (omega arith)
+      (sym c.is_open.ensures ∙ c.if-is_open.false) (sym c.is_shut.ensures ∙ c.if-is_shut.false) c.if-b-eq34.false,
+)
 
 pub returns : goal.returns
-returns c = let l = c in
-    (sym (c.loop-i.invariant.4 ∙ laws.left_end c.args.s.now c.loop-i.i outside c.loop-i.n (omega arith)), omega arith, omega arith)
+returns c = (sym (c.loop-i.invariant.4 ∙ laws.left_end c.args.s.now c.loop-i.i outside c.loop-i.n (omega arith)), omega arith, omega arith)

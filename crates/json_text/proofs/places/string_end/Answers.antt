@@ -8,11 +8,11 @@ pub loop-i-init : goal.loop-i-init
 loop-i-init c = (omega arith, omega arith, refl)
 
 pub loop-i-preserved-then-n-ge32 : goal.loop-i-preserved-then-n-ge32
-loop-i-preserved-then-n-ge32 c = let l = c in let r = c.plain_of_32-n in
+loop-i-preserved-then-n-ge32 c = let r = c.plain_of_32-n in
     (omega arith, omega arith, c.loop-i.invariant.2 ∙ laws.string-run c.args.s.now c.loop-i.i r.result (omega arith) r.ensures.plain)
 
 pub returns-then-b-eq34 : goal.returns-then-b-eq34
-returns-then-b-eq34 c = let l = c in let r = c.plain_of_32-n in (
+returns-then-b-eq34 c = let r = c.plain_of_32-n in (
   sym (c.loop-i.invariant.2 ∙ laws.string-run c.args.s.now c.loop-i.i r.result (omega arith) r.ensures.plain
       ∙ laws.string-closes c.args.s.now (c.loop-i.i + r.result) (omega arith) c.if-b-eq34.true),
   omega arith,
@@ -21,18 +21,14 @@ returns-then-b-eq34 c = let l = c in let r = c.plain_of_32-n in (
 
 pub returns-then-s-j-lt2 : goal.returns-then-s-j-lt2
 returns-then-s-j-lt2 c =
-    let at-plain-of-32 = c in
-    let at-loop = c in
-    let l = c in let r = c.plain_of_32-n in
+    let r = c.plain_of_32-n in
     let q = c.loop-i.invariant.2 ∙ laws.string-run c.args.s.now c.loop-i.i r.result (omega arith) r.ensures.plain
     ∙ laws.string-cut c.args.s.now (c.loop-i.i + r.result) 0 (omega arith) (omega arith) c.if-b-eq92.true in
     (omega arith, omega arith, omega arith)
 
 pub loop-i-preserved-then-b-eq92 : goal.loop-i-preserved-then-b-eq92
 loop-i-preserved-then-b-eq92 c =
-    let at-plain-of-32 = c in
-    let at-loop = c in
-    let l = c in let r = c.plain_of_32-n in (
+    let r = c.plain_of_32-n in (
       omega arith,
       omega arith,
       c.loop-i.invariant.2 ∙ laws.string-run c.args.s.now c.loop-i.i r.result (omega arith) r.ensures.plain
@@ -41,9 +37,7 @@ loop-i-preserved-then-b-eq92 c =
 
 pub loop-i-preserved : goal.loop-i-preserved
 loop-i-preserved c =
-    let at-plain-of-32 = c in
-    let at-loop = c in
-    let l = c in let r = c.plain_of_32-n in (
+    let r = c.plain_of_32-n in (
       omega arith,
       omega arith,
       c.loop-i.invariant.2 ∙ laws.string-run c.args.s.now c.loop-i.i r.result (omega arith) r.ensures.plain
@@ -51,4 +45,4 @@ loop-i-preserved c =
     )
 
 pub returns : goal.returns
-returns c = let l = c in let t = c.string_tail.ensures in (t.0 ∙ sym c.loop-i.invariant.2, omega arith, omega arith)
+returns c = let t = c.string_tail.ensures in (t.0 ∙ sym c.loop-i.invariant.2, omega arith, omega arith)

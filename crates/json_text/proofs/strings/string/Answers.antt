@@ -34,8 +34,6 @@ returns-then-b-eq34 c =
 
 pub returns-then-b-ne92 : goal.returns-then-b-ne92
 returns-then-b-ne92 c =
-    let at-past-plain = c in
-    let at-loop = c in
     record {
       low = search rules;
       high = search rules;
@@ -48,8 +46,6 @@ returns-then-b-ne92 c =
 
 pub returns-in_default : goal.returns-in_default
 returns-in_default c =
-    let at-past-plain = c in
-    let at-loop = c in
     record {
       low = omega (arith, c.escaped-r.ensures.low);
       high = c.escaped-r.ensures.high;
@@ -66,9 +62,6 @@ loop-at-smaller c = let l = leaf_is c.escaped-r.ensures c.in-End.is in omega (ar
 
 pub loop-at-preserved : goal.loop-at-preserved
 loop-at-preserved c =
-    let at-if3 = c in
-    let at-past-plain = c in
-    let at-loop = c in
     let l = leaf_is c.escaped-r.ensures c.in-End.is in (
       omega (arith, l.low),
       l.high,

@@ -64,8 +64,6 @@ array-past_spaces-j-requires t c = let l = tally-is c.value-r.ensures c.in-End.i
 
 pub array-returns-then-s-j : goal.array-returns-then-s-j
 array-returns-then-s-j t c =
-    let at_value = c in
-    let at-loop = c in
     let l = tally-is c.value-r.ensures c.in-End.is in
     record {
       low = omega (arith, l.low);
@@ -79,9 +77,6 @@ array-returns-then-s-j t c =
 
 pub array-returns-then-b-eq93 : goal.array-returns-then-b-eq93
 array-returns-then-b-eq93 t c =
-    let at-r = c in
-    let at_value = c in
-    let at-loop = c in
     let l = tally-is c.value-r.ensures c.in-End.is in
     record {
       low = omega (arith, l.low);
@@ -95,10 +90,6 @@ array-returns-then-b-eq93 t c =
 
 pub array-returns-then-b-ne44 : goal.array-returns-then-b-ne44
 array-returns-then-b-ne44 t c =
-    let at-past-spaces2 = c in
-    let at-r = c in
-    let at_value = c in
-    let at-loop = c in
     let l = tally-is c.value-r.ensures c.in-End.is in
     record {
       low = omega (arith, l.low);
@@ -113,17 +104,11 @@ array-returns-then-b-ne44 t c =
 
 pub array-loop-e-smaller : goal.array-loop-e-smaller
 array-loop-e-smaller t c =
-    let at-r = c in
-    let at_value = c in
     let l = tally-is c.value-r.ensures c.in-End.is in
     omega (arith, l.low)
 
 pub array-loop-e-preserved : goal.array-loop-e-preserved
 array-loop-e-preserved t c =
-    let at-past-spaces2 = c in
-    let at-r = c in
-    let at_value = c in
-    let at-loop = c in
     let l = tally-is c.value-r.ensures c.in-End.is in (
       omega (arith, l.low),
       search rules,
@@ -165,8 +150,6 @@ object-loop-a-init t c = (
 
 pub object-returns-in_default : goal.object-returns-in_default
 object-returns-in_default t c =
-    let at_label = c in
-    let at-loop = c in
     label-stops _ _ _ c.label-m.result c.loop-a.invariant.0 c.loop-a.invariant.2 c.label-m.ensures c.in_default.not-End c.lifted.ensures
 
 pub object-value-r-requires : goal.object-value-r-requires
@@ -178,8 +161,6 @@ object-value-r-requires t c =
 
 pub object-returns-in_default-r : goal.object-returns-in_default-r
 object-returns-in_default-r t c =
-    let at_label = c in
-    let at-loop = c in
     let m = calm-is c.label-m.ensures c.in-End.is in
     record {
       low = omega (arith, m.low, c.value-r.ensures.low);
@@ -193,18 +174,12 @@ object-returns-in_default-r t c =
 
 pub object-past_spaces-j-requires : goal.object-past_spaces-j-requires
 object-past_spaces-j-requires t c =
-    let at-m = c in
-    let at_label = c in
     let m = calm-is c.label-m.ensures c.in-End.is in
     let l = tally-is c.value-r.ensures c.in-End-r.is in
     l.high
 
 pub object-returns-then-s-j : goal.object-returns-then-s-j
 object-returns-then-s-j t c =
-    let at_value = c in
-    let at-m = c in
-    let at_label = c in
-    let at-loop = c in
     let m = calm-is c.label-m.ensures c.in-End.is in
     let l = tally-is c.value-r.ensures c.in-End-r.is in
     record {
@@ -220,11 +195,6 @@ object-returns-then-s-j t c =
 
 pub object-returns-then-b-eq125 : goal.object-returns-then-b-eq125
 object-returns-then-b-eq125 t c =
-    let at-r = c in
-    let at_value = c in
-    let at-m = c in
-    let at_label = c in
-    let at-loop = c in
     let m = calm-is c.label-m.ensures c.in-End.is in
     let l = tally-is c.value-r.ensures c.in-End-r.is in
     record {
@@ -240,12 +210,6 @@ object-returns-then-b-eq125 t c =
 
 pub object-returns-then-b-ne44 : goal.object-returns-then-b-ne44
 object-returns-then-b-ne44 t c =
-    let at-past-spaces2 = c in
-    let at-r = c in
-    let at_value = c in
-    let at-m = c in
-    let at_label = c in
-    let at-loop = c in
     let m = calm-is c.label-m.ensures c.in-End.is in
     let l = tally-is c.value-r.ensures c.in-End-r.is in
     record {
@@ -262,22 +226,12 @@ object-returns-then-b-ne44 t c =
 
 pub object-loop-a-smaller : goal.object-loop-a-smaller
 object-loop-a-smaller t c =
-    let at-r = c in
-    let at_value = c in
-    let at-m = c in
-    let at_label = c in
     let m = calm-is c.label-m.ensures c.in-End.is in
     let l = tally-is c.value-r.ensures c.in-End-r.is in
     omega (arith, l.low, m.low)
 
 pub object-loop-a-preserved : goal.object-loop-a-preserved
 object-loop-a-preserved t c =
-    let at-past-spaces2 = c in
-    let at-r = c in
-    let at_value = c in
-    let at-m = c in
-    let at_label = c in
-    let at-loop = c in
     let m = calm-is c.label-m.ensures c.in-End.is in
     let l = tally-is c.value-r.ensures c.in-End-r.is in (
       omega (arith, l.low, m.low),
@@ -337,7 +291,6 @@ value-scalar-requires t c =
 
 pub value-returns : goal.value-returns
 value-returns t c =
-    let at-past-spaces = c in
     value_scalar _ _ c.past_spaces-i.ensures
     (record {
       inside = search rules;

@@ -46,9 +46,6 @@ past_spaces-j-requires c = let l = leaf_is c.string-r.ensures c.in-End.is in l.h
 
 pub returns-then-s-j : goal.returns-then-s-j
 returns-then-s-j c =
-    let at-string = c in
-    let at-if2 = c in
-    let at-past-spaces = c in
     let l = leaf_is c.string-r.ensures c.in-End.is in
     record {
       low = omega (arith, l.low);
@@ -63,10 +60,6 @@ returns-then-s-j c =
 
 pub returns-then-s-j-eq58 : goal.returns-then-s-j-eq58
 returns-then-s-j-eq58 c =
-    let at-r = c in
-    let at-string = c in
-    let at-if2 = c in
-    let at-past-spaces = c in
     let l = leaf_is c.string-r.ensures c.in-End.is in
     record {
       low = omega (arith, l.low);
@@ -81,10 +74,6 @@ returns-then-s-j-eq58 c =
 
 pub returns : goal.returns
 returns c =
-    let at-r = c in
-    let at-string = c in
-    let at-if2 = c in
-    let at-past-spaces = c in
     let l = leaf_is c.string-r.ensures c.in-End.is in
     record {
       low = omega (arith, l.low);

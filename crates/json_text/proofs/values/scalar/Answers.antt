@@ -50,8 +50,6 @@ returns-then-b-eq45 c =
 
 pub returns : goal.returns
 returns c =
-    let at-if1 = c in
-    let start = c in
     record {
       low = c.unsigned-2.ensures.low;
       high = c.unsigned-2.ensures.high;

@@ -6,8 +6,6 @@ use native.Mathlib.Omega.{arith}
 
 pub put_answer-requires : goal.put_answer-requires
 put_answer-requires c =
-    let at_read = c in
-    let start = c in
     let p = long-at c.args.l.now c.in-Long.n (sym c.read.ensures ∙ c.in-Long.is) in
     (part-short c.args.l.now _ p.0, omega arith)
 
@@ -20,8 +18,6 @@ overflow_add-id c = omega (
 
 pub slice_bounds-tick_step-count : goal.slice_bounds-tick_step-count
 slice_bounds-tick_step-count c =
-    let at_read = c in
-    let start = c in
     omega (
       arith,
       tick-at c.args.l.now c.in-Tick.n c.in-Tick.time
@@ -30,8 +26,6 @@ slice_bounds-tick_step-count c =
 
 pub slice_bounds-tick_step-start : goal.slice_bounds-tick_step-start
 slice_bounds-tick_step-start c =
-    let at_read = c in
-    let start = c in
     omega (
       arith,
       tick-at c.args.l.now c.in-Tick.n c.in-Tick.time
@@ -40,8 +34,6 @@ slice_bounds-tick_step-start c =
 
 pub slice_bounds-tick_step-end : goal.slice_bounds-tick_step-end
 slice_bounds-tick_step-end c =
-    let at_read = c in
-    let start = c in
     omega (
       arith,
       tick-at c.args.l.now c.in-Tick.n c.in-Tick.time
@@ -50,16 +42,10 @@ slice_bounds-tick_step-end c =
 
 pub slice_bounds-put_answer-end-in-Tick : goal.slice_bounds-put_answer-end-in-Tick
 slice_bounds-put_answer-end-in-Tick c =
-    let at-n2 = c in
-    let at_read = c in
-    let start = c in
     omega (arith, tick-at c.args.l.now c.in-Tick.n c.in-Tick.time (sym c.read.ensures ∙ c.in-Tick.is))
 
 pub put_answer-requires-in-Tick : goal.put_answer-requires-in-Tick
 put_answer-requires-in-Tick c =
-    let at-n2 = c in
-    let at_read = c in
-    let start = c in
     let p = tick-at c.args.l.now c.in-Tick.n c.in-Tick.time (sym c.read.ensures ∙ c.in-Tick.is) in
     (part-short c.args.l.now _ p.0, omega arith)
 
@@ -72,8 +58,6 @@ overflow_add-text c = omega (
 
 pub slice_bounds-message_step-count : goal.slice_bounds-message_step-count
 slice_bounds-message_step-count c =
-    let at_read = c in
-    let start = c in
     omega (
       arith,
       message-at c.args.l.now c.in-Message.n c.in-Message.time
@@ -82,8 +66,6 @@ slice_bounds-message_step-count c =
 
 pub slice_bounds-message_step-start : goal.slice_bounds-message_step-start
 slice_bounds-message_step-start c =
-    let at_read = c in
-    let start = c in
     omega (
       arith,
       message-at c.args.l.now c.in-Message.n c.in-Message.time
@@ -92,8 +74,6 @@ slice_bounds-message_step-start c =
 
 pub slice_bounds-message_step-end : goal.slice_bounds-message_step-end
 slice_bounds-message_step-end c =
-    let at_read = c in
-    let start = c in
     omega (
       arith,
       message-at c.args.l.now c.in-Message.n c.in-Message.time
@@ -102,24 +82,15 @@ slice_bounds-message_step-end c =
 
 pub slice_bounds-put_answer-end-in-Message : goal.slice_bounds-put_answer-end-in-Message
 slice_bounds-put_answer-end-in-Message c =
-    let at-n3 = c in
-    let at_read = c in
-    let start = c in
     omega (arith, message-at c.args.l.now c.in-Message.n c.in-Message.time (sym c.read.ensures ∙ c.in-Message.is))
 
 pub put_answer-requires-in-Message : goal.put_answer-requires-in-Message
 put_answer-requires-in-Message c =
-    let at-n3 = c in
-    let at_read = c in
-    let start = c in
     let p = message-at c.args.l.now c.in-Message.n c.in-Message.time (sym c.read.ensures ∙ c.in-Message.is) in
     (part-short c.args.l.now _ p.0, omega arith)
 
 pub returns-in-Bad : goal.returns-in-Bad
 returns-in-Bad c =
-    let at-enum-told = c in
-    let at_read = c in
-    let start = c in
     let x = c.args in
     let w = c.put_bad.ensures in
     let d = bad-done x.table.now x.l.now x.out.now x.at (sym c.read.ensures ∙ c.in-Bad.is) (w.0, w.1) in
@@ -127,9 +98,6 @@ returns-in-Bad c =
 
 pub returns-in-Long : goal.returns-in-Long
 returns-in-Long c =
-    let at_n = c in
-    let at_read = c in
-    let start = c in
     let x = c.args in
     let w = c.put_answer.ensures in
     let d = long-done x.table.now x.l.now x.out.now x.at c.in-Long.n (sym c.read.ensures ∙ c.in-Long.is) (w.0, w.1) in
@@ -137,10 +105,6 @@ returns-in-Long c =
 
 pub returns-in-Tick : goal.returns-in-Tick
 returns-in-Tick c =
-    let at-tick-step = c in
-    let at-n2 = c in
-    let at_read = c in
-    let start = c in
     let x = c.args in
     let w = c.put_answer-in-Tick.ensures in
     let s = c.tick_step-a.ensures in
@@ -150,10 +114,6 @@ returns-in-Tick c =
 
 pub returns-in-Message : goal.returns-in-Message
 returns-in-Message c =
-    let at-message-step = c in
-    let at-n3 = c in
-    let at_read = c in
-    let start = c in
     let x = c.args in
     let w = c.put_answer-in-Message.ensures in
     let s = c.message_step-a.ensures in

@@ -6,8 +6,6 @@ use native.Mathlib.Omega.{arith}
 
 pub returns-in-End : goal.returns-in-End
 returns-in-End c =
-    let at-write-answer = c in
-    let start = c in
     let x = c.args in
     let w = c.write_answer.ensures in
     let p = put-end x.out.now x.at (answer_line x.time.now x.a) (omega (arith, w.2)) c.write_answer.result (w.0, w.1) c.in-End.e
@@ -16,8 +14,6 @@ returns-in-End c =
 
 pub returns-in-NoRoom : goal.returns-in-NoRoom
 returns-in-NoRoom c =
-    let at-write-answer = c in
-    let start = c in
     let x = c.args in
     let w = c.write_answer.ensures in
     absurd (put-none x.out.now x.at (answer_line x.time.now x.a) (omega (arith, w.2)) c.write_answer.result (w.0, w.1) c.in-NoRoom.is)

@@ -7,8 +7,6 @@ use native.Mathlib.Omega.{arith}
 pub returns-in-End : goal.returns-in-End
 unfolding bad_line
 returns-in-End c =
-    let at-write-bad = c in
-    let start = c in
     let x = c.args in
     let p = put-end x.out.now x.at bad_line (omega arith) c.write_bad.result c.write_bad.ensures c.in-End.e
     c.in-End.is in
@@ -17,7 +15,5 @@ returns-in-End c =
 pub returns-in-NoRoom : goal.returns-in-NoRoom
 unfolding bad_line
 returns-in-NoRoom c =
-    let at-write-bad = c in
-    let start = c in
     let x = c.args in
     absurd (put-none x.out.now x.at bad_line (omega arith) c.write_bad.result c.write_bad.ensures c.in-NoRoom.is)

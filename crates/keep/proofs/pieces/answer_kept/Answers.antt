@@ -6,7 +6,5 @@ use native.Mathlib.Omega.{arith}
 
 pub returns : goal.returns
 returns c =
-    let at-answer = c in
-    let start = c in
     let z : c.args.n - 0 ≡ c.args.n = omega arith in
     rw z at c.answer.ensures

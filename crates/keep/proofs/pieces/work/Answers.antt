@@ -15,9 +15,6 @@ loop-out-init c = (nothing _ _ _ _ _, search rules, refl, refl, refl, omega arit
 
 pub slice_bounds-answer-count : goal.slice_bounds-answer-count
 slice_bounds-answer-count c =
-    let at-next-line = c in
-    let at-loop = c in
-    let start = c in
     omega (
       arith,
       here-says c.loop-out.line c.loop-out.len c.args.s.now c.loop-out.from c.in-Here.e
@@ -26,9 +23,6 @@ slice_bounds-answer-count c =
 
 pub slice_bounds-answer-start : goal.slice_bounds-answer-start
 slice_bounds-answer-start c =
-    let at-next-line = c in
-    let at-loop = c in
-    let start = c in
     omega (
       arith,
       here-says c.loop-out.line c.loop-out.len c.args.s.now c.loop-out.from c.in-Here.e
@@ -37,9 +31,6 @@ slice_bounds-answer-start c =
 
 pub slice_bounds-answer-end : goal.slice_bounds-answer-end
 slice_bounds-answer-end c =
-    let at-next-line = c in
-    let at-loop = c in
-    let start = c in
     omega (
       arith,
       here-says c.loop-out.line c.loop-out.len c.args.s.now c.loop-out.from c.in-Here.e
@@ -48,10 +39,6 @@ slice_bounds-answer-end c =
 
 pub overflow_add-from : goal.overflow_add-from
 overflow_add-from c =
-    let at-e = c in
-    let at-next-line = c in
-    let at-loop = c in
-    let start = c in
     omega (
       arith,
       here-says c.loop-out.line c.loop-out.len c.args.s.now c.loop-out.from c.in-Here.e
@@ -60,10 +47,6 @@ overflow_add-from c =
 
 pub loop-out-smaller-in-Here : goal.loop-out-smaller-in-Here
 loop-out-smaller-in-Here c =
-    let at-e = c in
-    let at-next-line = c in
-    let at-loop = c in
-    let start = c in
     omega (
       arith,
       here-says c.loop-out.line c.loop-out.len c.args.s.now c.loop-out.from c.in-Here.e
@@ -72,11 +55,6 @@ loop-out-smaller-in-Here c =
 
 pub loop-out-preserved-in-Here : goal.loop-out-preserved-in-Here
 loop-out-preserved-in-Here c =
-    let at-answer = c in
-    let at-e = c in
-    let at-next-line = c in
-    let at-loop = c in
-    let start = c in
     let l = c.loop-out in
     let x = c.args in
     let e = c.in-Here.e in
@@ -98,10 +76,6 @@ loop-out-preserved-in-Here c =
 
 pub answer_kept-at-requires : goal.answer_kept-at-requires
 answer_kept-at-requires c =
-    let at_n = c in
-    let at-next-line = c in
-    let at-loop = c in
-    let start = c in
     let p = buffered-says c.loop-out.line c.loop-out.len c.args.s.now c.loop-out.from c.in-Buffered.n c.in-Buffered.next
     (sym c.next_line.ensures.0 ∙ c.in-Buffered.is) in (
       c.loop-out.invariant.1,
@@ -111,10 +85,6 @@ answer_kept-at-requires c =
 
 pub loop-out-smaller : goal.loop-out-smaller
 loop-out-smaller c =
-    let at_n = c in
-    let at-next-line = c in
-    let at-loop = c in
-    let start = c in
     omega (
       arith,
       buffered-says c.loop-out.line c.loop-out.len c.args.s.now c.loop-out.from c.in-Buffered.n c.in-Buffered.next
@@ -123,11 +93,6 @@ loop-out-smaller c =
 
 pub loop-out-preserved : goal.loop-out-preserved
 loop-out-preserved c =
-    let at-answer-kept = c in
-    let at_n = c in
-    let at-next-line = c in
-    let at-loop = c in
-    let start = c in
     let l = c.loop-out in
     let x = c.args in
     let m = c.in-Buffered.n in
@@ -150,9 +115,6 @@ loop-out-preserved c =
 
 pub returns-in-Pending : goal.returns-in-Pending
 returns-in-Pending c =
-    let at-next-line = c in
-    let at-loop = c in
-    let start = c in
     let l = c.loop-out in
     let x = c.args in
     let n = c.in-Pending.n in

@@ -14,10 +14,6 @@ overflow_add-b c = let n = c.requires.1 in omega (arith, n.callee-ends, n.callee
 
 pub returns : goal.returns
 returns c =
-    let at-and = c in
-    let at-callee = c in
-    let at_caller = c in
-    let start = c in
     let s = c.args.s.now in
     let m = c.args.m in
     let p = and_parts _ _ (sym c.and.ensures ∙ not-false _ c.if-not-and.false-raw) in

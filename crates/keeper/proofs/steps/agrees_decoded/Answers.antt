@@ -5,11 +5,6 @@ use Rattle.keeper.proofs.steps.agrees_decoded.Goals as goal
 
 pub returns : goal.returns
 returns c =
-    let at-find-callee = c in
-    let at-callee = c in
-    let at-find-caller = c in
-    let at_caller = c in
-    let start = c in
     let s = c.args.s.now in
     let m = c.args.m in
     let caller = caller-text s m c.requires.1

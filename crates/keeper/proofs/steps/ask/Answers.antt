@@ -6,7 +6,6 @@ use mathlib.Core.Path.{sym, ◌∙◌}
 
 pub agrees_at-agrees-requires : goal.agrees_at-agrees-requires
 agrees_at-agrees-requires c =
-    let at-find-call = c in
     ((found _ _ _ (sym c.find_call.ensures ∙ c.in-At.is)).inside, c.requires.1)
 
 pub fields_at-requires : goal.fields_at-requires
@@ -19,25 +18,12 @@ leave-requires c = (found _ _ _
 
 pub returns-in-At : goal.returns-in-At
 returns-in-At c =
-    let at-decide = c in
-    let at-event-of = c in
-    let at-call-of = c in
-    let at-fields-at = c in
-    let at-agrees-at = c in
-    let at-k = c in
-    let at-find-call = c in
-    let start = c in
     asked-found c.args.t.now c.args.s.now c.args.m c.args.time c.requires.0 c.requires.1
     (sym c.find_call.ensures ∙ c.in-At.is) c.agrees_at-agrees.ensures c.fields_at.ensures c.call_of-c.ensures.0
     c.call_of-c.ensures.1 c.event_of.ensures c.decide-o.ensures c.leave.ensures c.ranges.time.fits
 
 pub returns-in-Nothing : goal.returns-in-Nothing
 returns-in-Nothing c =
-    let at-decide2 = c in
-    let at-event-of2 = c in
-    let at-enum-told = c in
-    let at-find-call = c in
-    let start = c in
     asked-new c.args.t.now c.args.s.now c.args.m c.args.time c.requires.0 c.requires.1
     (sym c.find_call.ensures ∙ c.in-Nothing.is) c.event_of-in-Nothing.ensures c.decide-o-in-Nothing.ensures
     c.take.ensures

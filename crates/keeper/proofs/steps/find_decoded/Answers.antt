@@ -10,8 +10,6 @@ use mathlib.Core.Path.{ap, ◌∙◌}
 
 pub returns : goal.returns
 returns c =
-    let at-find-text = c in
-    let start = c in
     let w = c.args.w.now in
     c.find.ensures
     ∙ ap (λ (x : List ℕ). place_named x c.args.t.now)

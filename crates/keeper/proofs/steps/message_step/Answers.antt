@@ -8,14 +8,10 @@ use mathlib.Core.Path.{refl, sym, ◌∙◌}
 pub returns-then-tag-gt2 : goal.returns-then-tag-gt2
 unfolding on_message
 returns-then-tag-gt2 c =
-    let at_read = c in
-    let start = c in
     rw (c.requires, (sym c.read.ensures ∙ c.in-Read.is), lt-ltb _ _ c.if-tag-gt2.true) (refl, refl, refl)
 
 pub ask-requires : goal.ask-requires
 ask-requires c =
-    let at_read = c in
-    let start = c in
     (c.requires, read_named _ _ _ (sym c.read.ensures ∙ c.in-Read.is) c.if-tag-gt2.false)
 
 pub returns-in-Refused : goal.returns-in-Refused
@@ -25,8 +21,4 @@ returns-in-Refused c = rw (c.requires, (sym c.read.ensures ∙ c.in-Refused.is))
 pub returns-else-tag-gt2 : goal.returns-else-tag-gt2
 unfolding on_message
 returns-else-tag-gt2 c =
-    let at-if1 = c in
-    let at-m = c in
-    let at_read = c in
-    let start = c in
     rw (c.requires, (sym c.read.ensures ∙ c.in-Read.is), le-ltb _ _ c.if-tag-gt2.false) c.ask.ensures

@@ -7,13 +7,6 @@ use Rattle.rules.proofs.PartLaws.{user-length, fire-length}
 
 pub open-requires : goal.open-requires
 open-requires c =
-    let at-find-callee = c in
-    let at-callee = c in
-    let at-find-caller = c in
-    let at_caller = c in
-    let at-find-call = c in
-    let at_call = c in
-    let start = c in
     let s = c.args.s.now in
     let m = c.args.m in
     let n = c.requires.1 in
@@ -33,13 +26,6 @@ open-requires c =
 
 pub returns : goal.returns
 returns c =
-    let at-find-callee = c in
-    let at-callee = c in
-    let at-find-caller = c in
-    let at_caller = c in
-    let at-find-call = c in
-    let at_call = c in
-    let start = c in
     let s = c.args.s.now in
     let m = c.args.m in
     let n = c.requires.1 in

@@ -8,14 +8,11 @@ use mathlib.Core.Path.{◌≡◌, refl, sym, ◌∙◌}
 
 pub open_at-requires : goal.open_at-requires
 open_at-requires c =
-    let at-free-place = c in
     let e : free_place _ ≡ At _ = sym c.free_place.ensures ∙ c.in-At.is in
     ((free-found _ _ e).inside, c.requires)
 
 pub returns-in-At : goal.returns-in-At
 returns-in-At c =
-    let at-free-place = c in
-    let start = c in
     taken-found c.args.t.now c.args.s.now c.args.m c.args.a c.args.c
     (sym c.free_place.ensures ∙ c.in-At.is)
     c.open_at.ensures

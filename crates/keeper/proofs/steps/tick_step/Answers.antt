@@ -11,7 +11,4 @@ returns-then-not-is_call_id c = rw (c.requires, sym c.is_call_id.ensures ∙ not
 pub returns : goal.returns
 unfolding on_tick
 returns c =
-    let at-if1 = c in
-    let at-is-call-id = c in
-    let start = c in
     rw (c.requires, sym c.is_call_id.ensures ∙ not-false _ c.if-not-is_call_id.false-raw) c.ticked.ensures

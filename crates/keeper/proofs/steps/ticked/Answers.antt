@@ -10,18 +10,10 @@ fields_at-requires c = (found _ _ _ (sym c.find.ensures ∙ c.in-At.is)).inside
 
 pub leave-requires : goal.leave-requires
 leave-requires c =
-    let at-k = c in
-    let at-find = c in
     (found _ _ _ (sym c.find.ensures ∙ c.in-At.is)).inside
 
 pub returns-in-At : goal.returns-in-At
 returns-in-At c =
-    let at-decide = c in
-    let at-call-of = c in
-    let at-fields-at = c in
-    let at-k = c in
-    let at-find = c in
-    let start = c in
     ticked-found c.args.t.now c.args.id.now c.args.time c.requires (sym c.find.ensures ∙ c.in-At.is)
     c.fields_at.ensures c.call_of-c.ensures.0 c.call_of-c.ensures.1 c.decide-o.ensures c.leave.ensures
     c.ranges.time.fits

@@ -10,24 +10,24 @@ pub loop-i-init : goal.loop-i-init
 loop-i-init c = (omega arith, (omega arith, sym (zero-add _)))
 
 pub returns-then-not-is_digit : goal.returns-then-not-is_digit
-returns-then-not-is_digit c = let l = c in let x = c.args in (
+returns-then-not-is_digit c = let x = c.args in (
   sym (c.loop-i.invariant.1.1 ∙ count-other x.hi c.loop-i.v x.s.now c.loop-i.i (omega arith) (sym c.is_digit.ensures ∙ not-true _ c.if-not-is_digit.true-raw)),
   omega arith,
 )
 
 pub returns-then-w-eq0 : goal.returns-then-w-eq0
-returns-then-w-eq0 c = let l = c in let x = c.args in
+returns-then-w-eq0 c = let x = c.args in
     (sym (c.loop-i.invariant.1.1 ∙ count-zero x.hi c.loop-i.v x.s.now c.loop-i.i (omega arith) _ (omega (arith, c.worth.ensures.0)) c.if-w-eq0.true), omega arith)
 
 pub returns-then-hi-w : goal.returns-then-hi-w
-returns-then-hi-w c = let l = c in let x = c.args in (
+returns-then-hi-w c = let x = c.args in (
   sym (c.loop-i.invariant.1.1 ∙ count-over x.hi c.loop-i.v x.s.now c.loop-i.i (omega arith) _ (omega (arith, c.worth.ensures.0))
       c.if-w-eq0.false c.if-hi-w.true),
   omega arith,
 )
 
 pub loop-i-preserved : goal.loop-i-preserved
-loop-i-preserved c = let l = c in let x = c.args in (
+loop-i-preserved c = let x = c.args in (
   omega arith,
   (
     omega arith,
@@ -38,5 +38,5 @@ loop-i-preserved c = let l = c in let x = c.args in (
 )
 
 pub returns : goal.returns
-returns c = let l = c in let x = c.args in
+returns c = let x = c.args in
     (sym (c.loop-i.invariant.1.1 ∙ count-ends x.hi c.loop-i.v x.s.now c.loop-i.i (omega arith)), omega arith)

@@ -10,25 +10,25 @@ pub loop-i-init : goal.loop-i-init
 loop-i-init c = let z : c.args.n - 0 ≡ c.args.n = omega arith in ((omega arith, omega arith), (omega arith, rw (z, zero-add)))
 
 pub returns-then-s-i : goal.returns-then-s-i
-returns-then-s-i c = let l = c in let x = c.args in
+returns-then-s-i c = let x = c.args in
     (sym (c.loop-i.invariant.1.1 ∙ number_short x.lo x.hi x.n c.loop-i.v x.s.now c.loop-i.i (omega arith) (omega arith)), omega arith)
 
 pub returns-then-not-is_digit : goal.returns-then-not-is_digit
-returns-then-not-is_digit c = let l = c in let x = c.args in (
+returns-then-not-is_digit c = let x = c.args in (
   sym (c.loop-i.invariant.1.1 ∙ number-other x.lo x.hi x.n c.loop-i.v x.s.now c.loop-i.i (omega arith) (omega arith)
       (sym c.is_digit.ensures ∙ not-true _ c.if-not-is_digit.true-raw)),
   omega arith,
 )
 
 pub returns-then-not-meets : goal.returns-then-not-meets
-returns-then-not-meets c = let l = c in let x = c.args in (
+returns-then-not-meets c = let x = c.args in (
   sym (c.loop-i.invariant.1.1 ∙ number-stops x.lo x.hi x.n c.loop-i.v x.s.now c.loop-i.i (omega arith) (omega arith) _
       (omega (arith, c.worth.ensures.0)) (sym c.meets.ensures ∙ not-true _ c.if-not-meets.true-raw)),
   omega arith,
 )
 
 pub loop-i-preserved : goal.loop-i-preserved
-loop-i-preserved c = let l = c in let x = c.args in
+loop-i-preserved c = let x = c.args in
     let m = sym c.meets.ensures ∙ not-false _ c.if-not-meets.false-raw in (
       (omega arith, omega arith),
       (
@@ -40,5 +40,5 @@ loop-i-preserved c = let l = c in let x = c.args in
     )
 
 pub returns : goal.returns
-returns c = let l = c in let x = c.args in
+returns c = let x = c.args in
     (sym (c.loop-i.invariant.1.1 ∙ number-ends x.lo x.hi x.n c.loop-i.v x.s.now c.loop-i.i (omega arith)), omega arith)

@@ -10,15 +10,15 @@ pub loop-i-init : goal.loop-i-init
 loop-i-init c = (omega arith, sym (zero-add _))
 
 pub returns-then-not-follows : goal.returns-then-not-follows
-returns-then-not-follows c = let l = c in let x = c.args in (
+returns-then-not-follows c = let x = c.args in (
   sym (c.loop-i.invariant.1 ∙ run-stops x.hi x.class x.edge x.s.now c.loop-i.i (omega arith) (sym c.follows.ensures ∙ not-true _ c.if-not-follows.true-raw)),
   omega arith,
 )
 
 pub loop-i-preserved : goal.loop-i-preserved
-loop-i-preserved c = let l = c in let x = c.args in
+loop-i-preserved c = let x = c.args in
     (omega arith, c.loop-i.invariant.1 ∙ run_more x.hi x.class x.edge x.s.now c.loop-i.i (omega arith) (sym c.follows.ensures ∙ not-false _ c.if-not-follows.false-raw))
 
 pub returns : goal.returns
-returns c = let l = c in let x = c.args in
+returns c = let x = c.args in
     (sym (c.loop-i.invariant.1 ∙ run_ends x.hi x.class x.edge x.s.now c.loop-i.i (omega arith)), omega arith)

@@ -23,7 +23,6 @@ returns c =
     let s = c.args.s.now in
     let y = decimal_at 4 s 0 in
     let m = decimal_at 2 s 5 in
-    let at-days = c in
     let last : c.days_in-last.result ≡ days_in y m = c.days_in-last.ensures ∙ rw (c.number_at.ensures, c.number_at-2.ensures) in
     let Says : ℕ → Type 0 = λ h. c.number_or-day.result ≡ cond (eqb (number_letters 1 h 2 0 (drop 8 s)) 2)
     c.time_reach.result (8 + number_letters 1 h 2 0 (drop 8 s)) in

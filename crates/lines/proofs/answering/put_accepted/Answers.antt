@@ -16,12 +16,10 @@ put-before_state-requires c = omega (arith, word-length c.args.word)
 
 pub put_decimal-behind_state-requires : goal.put_decimal-behind_state-requires
 put_decimal-behind_state-requires c =
-    let start = c in
     omega (arith, word-length c.args.word, shown-length c.args.state (omega arith))
 
 pub put-requires : goal.put-requires
 put-requires c =
-    let start = c in
     omega (arith, word-length c.args.word, shown-length c.args.state (omega arith))
 
 pub returns : goal.returns

@@ -10,8 +10,6 @@ use native.Mathlib.Omega.{arith}
 pub returns : goal.returns
 unfolding answer_line
 returns c =
-    let at-put-text = c in
-    let start = c in
     let x = c.args in
     let t = c.put_text-n.ensures in
     let text : List ℕ = 32 ∷ (answer_text x.a ++ (10 ∷ [])) in

@@ -26,8 +26,6 @@ returns-then-out-behind c =
 
 pub returns : goal.returns
 returns c =
-    let at-put = c in
-    let start = c in
     let x = c.args in
     let f : x.at + length (x.a.now ++ x.b.now) ≤ length x.out.now = rw length-append (omega arith) in
     let w = wrote x.out.now x.at (x.a.now ++ x.b.now) f in (

@@ -10,17 +10,12 @@ returns-then-s-n c = no_space c.args.s.now c.time_length-n.result c.time_length-
 
 pub returns-in_default : goal.returns-in_default
 returns-in_default c =
-    let at-time-length = c in
-    let start = c in
     let n = c.time_length-n.result in
     let z : n - 0 ≡ n = omega arith in
     no-time c.args.s.now n c.time_length-n.ensures (omega arith) (rw z at (sym c.decimal.ensures ∙ c.in_default.is))
 
 pub returns-then-s-n-gt32768 : goal.returns-then-s-n-gt32768
 returns-then-s-n-gt32768 c =
-    let at-decimal = c in
-    let at-time-length = c in
-    let start = c in
     let n = c.time_length-n.result in
     let z : n - 0 ≡ n = omega arith in
     too_long c.args.s.now n c.time_length-n.ensures c.in-Value.time (omega arith)
@@ -28,10 +23,6 @@ returns-then-s-n-gt32768 c =
 
 pub returns-then-stands_at : goal.returns-then-stands_at
 returns-then-stands_at c =
-    let at-time = c in
-    let at-decimal = c in
-    let at-time-length = c in
-    let start = c in
     let n = c.time_length-n.result in
     let z : n - 0 ≡ n = omega arith in
     ticks c.args.s.now n c.time_length-n.ensures c.in-Value.time (omega arith)
@@ -40,10 +31,6 @@ returns-then-stands_at c =
 
 pub returns-else-stands_at : goal.returns-else-stands_at
 returns-else-stands_at c =
-    let at-time = c in
-    let at-decimal = c in
-    let at-time-length = c in
-    let start = c in
     let n = c.time_length-n.result in
     let z : n - 0 ≡ n = omega arith in
     speaks c.args.s.now n c.time_length-n.ensures c.in-Value.time (omega arith)

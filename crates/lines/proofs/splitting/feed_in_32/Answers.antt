@@ -10,13 +10,12 @@ pub loop-k-init : goal.loop-k-init
 loop-k-init c = (search rules, λ _. passed_none c.args.s.now c.args.at)
 
 pub loop-k-preserved : goal.loop-k-preserved
-loop-k-preserved c =
-    let start = c in (
-      search rules,
-      λ e.
-          let m = c.mark-met.ensures e in
-          c.loop-k.invariant.1 m.0 ∙ passed-one c.args.s.now c.args.at c.loop-k.k (omega arith) m.1,
-    )
+loop-k-preserved c = (
+  search rules,
+  λ e.
+      let m = c.mark-met.ensures e in
+      c.loop-k.invariant.1 m.0 ∙ passed-one c.args.s.now c.args.at c.loop-k.k (omega arith) m.1,
+)
 
 pub returns : goal.returns
 returns c = λ e.

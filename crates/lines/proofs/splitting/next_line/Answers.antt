@@ -26,9 +26,6 @@ returns-then-len-eq0 c =
 
 pub returns : goal.returns
 returns c =
-    let at-if3 = c in
-    let at-line-end = c in
-    let start = c in
     let x = c.args in
     carried x.line.now x.len x.s.now x.from _ c.line_end-e.ensures (omega arith) c.if-len-eq0.false
     (part-to x.s.now x.from c.line_end-e.result c.line_end-e.ensures) c.keep_part-2.ensures

@@ -11,26 +11,18 @@ loop-n-init c = (search rules, (search rules, c.requires.1.1.1))
 
 pub place_in-requires : goal.place_in-requires
 place_in-requires c =
-    let at-judge-field = c in
-    let at-loop = c in
-    let start = c in
     let x = c.args in let l = c.loop-n in
     let f = field_fault x.s.now x.run x.k x.at.now l.n (sym c.in-Broken.is ∙ c.judge_field-j.ensures) in
     omega (arith, fault_there x.s.now x.k l.n (get_or x.at.now l.n 0) refl f.0 h)
 
 pub returns-in-Broken : goal.returns-in-Broken
 returns-in-Broken c =
-    let at-judge-field = c in
-    let at-loop = c in
-    let start = c in
     let x = c.args in let l = c.loop-n in
     let f = field_fault x.s.now x.run x.k x.at.now l.n (sym c.in-Broken.is ∙ c.judge_field-j.ensures) in
     sym (l.invariant.1.1 ∙ stops x.s.now x.run x.k x.at.now l.n (omega arith) (omega arith) f.0 c.place_in.ensures f.1)
 
 pub loop-n-preserved : goal.loop-n-preserved
 loop-n-preserved c =
-    let at-loop = c in
-    let start = c in
     let x = c.args in let l = c.loop-n in (
       search rules,
       (

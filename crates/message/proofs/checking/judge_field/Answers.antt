@@ -16,20 +16,15 @@ returns-then-asks-eq-UNLISTED c = let x = c.args in unlisted x.run x.k x.at.now 
 
 pub value_at-requires : goal.value_at-requires
 value_at-requires c =
-    let start = c in
     c.requires.1.1.1.1.ends c.args.n
 
 pub judge-requires : goal.judge-requires
-judge-requires c =
-    let start = c in (
-      subst (λ (l : List ℕ). Own l) (sym c.value_at.ensures) (own-bytes c.args.s.now (get_or c.args.at.now c.args.n 0)),
-      (c.requires.1.1.0, c.requires.1.1.1.0),
-    )
+judge-requires c = (
+  subst (λ (l : List ℕ). Own l) (sym c.value_at.ensures) (own-bytes c.args.s.now (get_or c.args.at.now c.args.n 0)),
+  (c.requires.1.1.0, c.requires.1.1.1.0),
+)
 
 pub returns : goal.returns
 returns c =
-    let at-asks = c in
-    let at-if1 = c in
-    let start = c in
     let x = c.args in present x.run x.k x.at.now x.n c.asks.ensures x.s.now c.if-asks-eq-UNLISTED.false c.if-v-eq0.false
     c.value_at.ensures c.judge.ensures

@@ -11,13 +11,11 @@ loop-n-init c = (search rules, (search rules, refl))
 
 pub returns-then-is_lacking : goal.returns-then-is_lacking
 returns-then-is_lacking c =
-    let l = c in
     let x = c.args in
     (sym (c.loop-n.invariant.1.1 ∙ found (lacks x.run x.k x.at.now) c.loop-n.n (omega arith) (sym c.is_lacking.ensures ∙ c.if-is_lacking.true)), omega arith)
 
 pub loop-n-preserved : goal.loop-n-preserved
 loop-n-preserved c =
-    let l = c in
     let x = c.args in (
       search rules,
       (
@@ -29,6 +27,5 @@ loop-n-preserved c =
 
 pub returns : goal.returns
 returns c =
-    let l = c in
     let x = c.args in
     (sym (c.loop-n.invariant.1.1 ∙ none_found (lacks x.run x.k x.at.now) c.loop-n.n (omega arith)), omega arith)

@@ -4,11 +4,6 @@ use Rattle.message.proofs.disagreeing.disagree.Goals as goal
 
 pub returns : goal.returns
 returns c =
-    let at-request-disagrees = c in
-    let at-sides-disagree = c in
-    let at-side-of2 = c in
-    let at-side-of = c in
-    let start = c in
     row_ten c.args.s.now c.args.k c.args.at.now c.requires.0 c.side_of-sent.ensures c.side_of.ensures
     c.sides_disagree-both.ensures c.request_disagrees-request.ensures c.response_disagrees.ensures
     c.and-response.ensures c.or.ensures c.or-2.ensures

@@ -11,7 +11,5 @@ spelling_at-requires-2 c = c.requires.ends 15
 pub returns : goal.returns
 unfolding callback_training
 returns c =
-    let at-spells = c in
-    let at-spelling-at = c in
     rw (← c.spelling_at-2.ensures, ← c.spelling_at.ensures, ← c.spells-2.ensures, ← c.spells.ensures)
     c.and.ensures

@@ -8,28 +8,15 @@ returns-in-Broken c = let x = c.args in
 
 pub returns-in-Broken-judge_sent : goal.returns-in-Broken-judge_sent
 returns-in-Broken-judge_sent c =
-    let at-number = c in
-    let at-judge-opening = c in
-    let start = c in
     let x = c.args in second_fault x.s.now x.at.now x.tag c.in-Kept.is c.judge_opening.ensures c.in-Broken-judge_sent.is
     c.judge_sent.ensures
 
 pub returns-in-Broken-judge_told : goal.returns-in-Broken-judge_told
 returns-in-Broken-judge_told c =
-    let at-trail = c in
-    let at-judge-sent = c in
-    let at-number = c in
-    let at-judge-opening = c in
-    let start = c in
     let x = c.args in third_fault x.s.now x.at.now x.tag c.in-Kept.is c.judge_opening.ensures c.in-Kept-judge_sent.is
     c.judge_sent.ensures c.in-Broken-judge_told.is c.judge_told.ensures
 
 pub returns-in-Kept-judge_told : goal.returns-in-Kept-judge_told
 returns-in-Kept-judge_told c =
-    let at-trail = c in
-    let at-judge-sent = c in
-    let at-number = c in
-    let at-judge-opening = c in
-    let start = c in
     let x = c.args in all_told x.s.now x.at.now x.tag c.in-Kept.is c.judge_opening.ensures c.in-Kept-judge_sent.is
     c.judge_sent.ensures c.in-Kept-judge_told.is c.judge_told.ensures

@@ -18,14 +18,10 @@ value_at-requires c = c.requires.1.ends 1
 
 pub judge_cseq-requires : goal.judge_cseq-requires
 judge_cseq-requires c =
-    let start = c in
     subst (λ (l : List ℕ). Own l) (sym c.value_at.ensures) (own-bytes c.args.s.now (get_or c.args.at.now 1 0))
 
 pub place_in-requires : goal.place_in-requires
 place_in-requires c =
-    let at-judge = c in
-    let at_value = c in
-    let start = c in
     let x = c.args in let k = first_setting x.tag in
     let f = cseq_fault _ k (sym c.in-Broken.is ∙ c.judge_cseq.ensures) in
     omega (arith, fault_there x.s.now k 1 (get_or x.at.now 1 0) c.value_at.ensures f.0 h)
@@ -35,14 +31,10 @@ value_at-requires-in-Kept c = c.requires.1.ends 2
 
 pub judge_party-requires : goal.judge_party-requires
 judge_party-requires c =
-    let start = c in
     subst (λ (l : List ℕ). Own l) (sym c.value_at-in-Kept.ensures) (own-bytes c.args.s.now (get_or c.args.at.now 2 0))
 
 pub place_in-requires-in-Broken-judge_party : goal.place_in-requires-in-Broken-judge_party
 place_in-requires-in-Broken-judge_party c =
-    let at-judge = c in
-    let at_value = c in
-    let start = c in
     let x = c.args in let k = first_setting x.tag in
     let f = party_fault _ k 2 (omega arith) (omega arith) (sym c.in-Broken-judge_party.is ∙ c.judge_party.ensures) in
     omega (arith, fault_there x.s.now k 2 (get_or x.at.now 2 0) c.value_at-in-Kept.ensures f.0 h)
@@ -52,14 +44,10 @@ value_at-requires-in-Kept-judge_party c = c.requires.1.ends 3
 
 pub judge_party-requires-in-Kept-judge_party : goal.judge_party-requires-in-Kept-judge_party
 judge_party-requires-in-Kept-judge_party c =
-    let start = c in
     subst (λ (l : List ℕ). Own l) (sym c.value_at-in-Kept-judge_party.ensures) (own-bytes c.args.s.now (get_or c.args.at.now 3 0))
 
 pub place_in-requires-in-Broken-judge_party-2 : goal.place_in-requires-in-Broken-judge_party-2
 place_in-requires-in-Broken-judge_party-2 c =
-    let at-judge = c in
-    let at_value = c in
-    let start = c in
     let x = c.args in let k = first_setting x.tag in
     let f = party_fault _ k 3 (omega arith) (omega arith) (sym c.in-Broken-judge_party-2.is ∙ c.judge_party-in-Kept-judge_party.ensures) in
     omega (arith, fault_there x.s.now k 3 (get_or x.at.now 3 0) c.value_at-in-Kept-judge_party.ensures f.0 h)
@@ -67,9 +55,6 @@ place_in-requires-in-Broken-judge_party-2 c =
 pub returns-in-Broken : goal.returns-in-Broken
 unfolding keeps
 returns-in-Broken c =
-    let at-judge-cseq = c in
-    let at-value-at = c in
-    let start = c in
     let x = c.args in let f = cseq_fault _ (first_setting x.tag) (sym c.in-Broken.is ∙ c.judge_cseq.ensures) in
     stopping x.s.now (first_setting x.tag) x.at.now 1 (omega arith) (omega arith) c.value_at.ensures c.requires.0.one f.1 f.0
     c.place_in.ensures
@@ -77,12 +62,6 @@ returns-in-Broken c =
 pub returns-in-Broken-judge_party : goal.returns-in-Broken-judge_party
 unfolding keeps
 returns-in-Broken-judge_party c =
-    let at-judge-party = c in
-    let at-value-at2 = c in
-    let at-number = c in
-    let at-judge-cseq = c in
-    let at-value-at = c in
-    let start = c in
     let x = c.args in let k = first_setting x.tag in let q = cseq-tells _ (sym c.in-Kept.is ∙ c.judge_cseq.ensures) in
     let f = party_fault _ k 2 (omega arith) (omega arith) (sym c.in-Broken-judge_party.is ∙ c.judge_party.ensures) in
     passing x.s.now k x.at.now 1 (omega arith) (omega arith) c.value_at.ensures q.0
@@ -91,15 +70,6 @@ returns-in-Broken-judge_party c =
 pub returns-in-Broken-judge_party-2 : goal.returns-in-Broken-judge_party-2
 unfolding keeps
 returns-in-Broken-judge_party-2 c =
-    let at-judge-party2 = c in
-    let at-value-at3 = c in
-    let at-to = c in
-    let at-judge-party = c in
-    let at-value-at2 = c in
-    let at-number = c in
-    let at-judge-cseq = c in
-    let at-value-at = c in
-    let start = c in
     let x = c.args in let k = first_setting x.tag in let q = cseq-tells _ (sym c.in-Kept.is ∙ c.judge_cseq.ensures) in
     let a = party_tells _ (sym c.in-Kept-judge_party.is ∙ c.judge_party.ensures) in
     let f = party_fault _ k 3 (omega arith) (omega arith) (sym c.in-Broken-judge_party-2.is ∙ c.judge_party-in-Kept-judge_party.ensures) in
@@ -110,14 +80,6 @@ returns-in-Broken-judge_party-2 c =
 pub returns-in-Kept-judge_party-2 : goal.returns-in-Kept-judge_party-2
 unfolding keeps
 returns-in-Kept-judge_party-2 c =
-    let at-value-at3 = c in
-    let at-to = c in
-    let at-judge-party = c in
-    let at-value-at2 = c in
-    let at-number = c in
-    let at-judge-cseq = c in
-    let at-value-at = c in
-    let start = c in
     let x = c.args in let k = first_setting x.tag in let q = sym c.in-Kept.is ∙ c.judge_cseq.ensures in
     let a = sym c.in-Kept-judge_party.is ∙ c.judge_party.ensures in let b = sym c.in-Kept-judge_party-2.is ∙ c.judge_party-in-Kept-judge_party.ensures in
     let s = x.s.now in let t = x.at.now in (

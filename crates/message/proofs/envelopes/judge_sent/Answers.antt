@@ -19,14 +19,10 @@ value_at-requires c = c.requires.1.ends 4
 
 pub judge-requires : goal.judge-requires
 judge-requires c =
-    let start = c in
     (subst (λ (l : List ℕ). Own l) (sym c.value_at.ensures) (own-bytes c.args.s.now (get_or c.args.at.now 4 0)), (omega arith, omega arith))
 
 pub place_in-requires : goal.place_in-requires
 place_in-requires c =
-    let at-judge = c in
-    let at_value = c in
-    let start = c in
     let x = c.args in let k = first_setting x.tag in
     let f = judged_fault _ k 4 (sym c.in-Broken.is ∙ c.judge.ensures) in
     omega (arith, fault_there x.s.now k 4 (get_or x.at.now 4 0) c.value_at.ensures f.0 h)
@@ -36,14 +32,10 @@ value_at-requires-in-Kept c = c.requires.1.ends 5
 
 pub judge-requires-in-Kept : goal.judge-requires-in-Kept
 judge-requires-in-Kept c =
-    let start = c in
     (subst (λ (l : List ℕ). Own l) (sym c.value_at-in-Kept.ensures) (own-bytes c.args.s.now (get_or c.args.at.now 5 0)), (omega arith, omega arith))
 
 pub place_in-requires-in-Broken-judge : goal.place_in-requires-in-Broken-judge
 place_in-requires-in-Broken-judge c =
-    let at-judge = c in
-    let at_value = c in
-    let start = c in
     let x = c.args in let k = first_setting x.tag in
     let f = judged_fault _ k 5 (sym c.in-Broken-judge.is ∙ c.judge-in-Kept.ensures) in
     omega (arith, fault_there x.s.now k 5 (get_or x.at.now 5 0) c.value_at-in-Kept.ensures f.0 h)
@@ -58,20 +50,11 @@ place_in-requires-in-Broken-judge_via c =
 
 pub returns-in-Broken : goal.returns-in-Broken
 returns-in-Broken c =
-    let at-judge = c in
-    let at-value-at = c in
-    let start = c in
     let x = c.args in let k = first_setting x.tag in let f = judged_fault _ k 4 (sym c.in-Broken.is ∙ c.judge.ensures) in
     stopping x.s.now k x.at.now 4 (omega arith) (omega arith) c.value_at.ensures c.requires.0.four f.1 f.0 c.place_in.ensures
 
 pub returns-in-Broken-judge : goal.returns-in-Broken-judge
 returns-in-Broken-judge c =
-    let at-judge2 = c in
-    let at-value-at2 = c in
-    let at-enum-told = c in
-    let at-judge = c in
-    let at-value-at = c in
-    let start = c in
     let x = c.args in let k = first_setting x.tag in let d = judged-tells _ k 4 (sym c.in-Kept.is ∙ c.judge.ensures) in
     let f = judged_fault _ k 5 (sym c.in-Broken-judge.is ∙ c.judge-in-Kept.ensures) in
     passing x.s.now k x.at.now 4 (omega arith) (omega arith) c.value_at.ensures d
@@ -80,15 +63,6 @@ returns-in-Broken-judge c =
 pub returns-in-Broken-judge_via : goal.returns-in-Broken-judge_via
 unfolding keeps
 returns-in-Broken-judge_via c =
-    let at-judge-via = c in
-    let at-value-at3 = c in
-    let at-enum-told2 = c in
-    let at-judge2 = c in
-    let at-value-at2 = c in
-    let at-enum-told = c in
-    let at-judge = c in
-    let at-value-at = c in
-    let start = c in
     let x = c.args in let k = first_setting x.tag in let d = judged-tells _ k 4 (sym c.in-Kept.is ∙ c.judge.ensures) in
     let i = judged-tells _ k 5 (sym c.in-Kept-judge.is ∙ c.judge-in-Kept.ensures) in
     let f = via_fault _ (sym c.in-Broken-judge_via.is ∙ c.judge_via.ensures) in
@@ -100,14 +74,6 @@ returns-in-Broken-judge_via c =
 pub returns-in-Kept-judge_via : goal.returns-in-Kept-judge_via
 unfolding keeps
 returns-in-Kept-judge_via c =
-    let at-value-at3 = c in
-    let at-enum-told2 = c in
-    let at-judge2 = c in
-    let at-value-at2 = c in
-    let at-enum-told = c in
-    let at-judge = c in
-    let at-value-at = c in
-    let start = c in
     let x = c.args in let k = first_setting x.tag in let d = judged-tells _ k 4 (sym c.in-Kept.is ∙ c.judge.ensures) in
     let i = judged-tells _ k 5 (sym c.in-Kept-judge.is ∙ c.judge-in-Kept.ensures) in
     let v = sym c.in-Kept-judge_via.is ∙ c.judge_via.ensures in (

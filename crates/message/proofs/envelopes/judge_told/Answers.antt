@@ -18,7 +18,6 @@ value_at-requires c = c.requires.1.ends 7
 
 pub judge_status-requires : goal.judge_status-requires
 judge_status-requires c =
-    let start = c in
     subst (λ (l : List ℕ). Own l) (sym c.value_at.ensures) (own-bytes c.args.s.now (get_or c.args.at.now 7 0))
 
 pub place_in-requires : goal.place_in-requires
@@ -28,18 +27,11 @@ place_in-requires c =
 
 pub returns-in-Broken : goal.returns-in-Broken
 returns-in-Broken c =
-    let at-judge-status = c in
-    let at-value-at = c in
-    let at-if1 = c in
-    let start = c in
     let x = c.args in let f = status_fault _ (sym c.in-Broken.is ∙ c.judge_status.ensures) in
     status-broken x.s.now x.at.now c.requires.0 c.if-tag-ne-RESPONSE.false c.value_at.ensures f.1 f.0 c.place_in.ensures
 
 pub returns-in-Kept : goal.returns-in-Kept
 returns-in-Kept c =
-    let at-value-at = c in
-    let at-if1 = c in
-    let start = c in
     let x = c.args in let e = sym c.in-Kept.is ∙ c.judge_status.ensures in (
       status-kept x.s.now x.at.now c.requires.0 c.if-tag-ne-RESPONSE.false c.value_at.ensures (status-tells _ e).0,
       code-told x.s.now x.at.now c.if-tag-ne-RESPONSE.false c.value_at.ensures e,

@@ -22,26 +22,16 @@ pub spelling_span-w-requires : goal.spelling_span-w-requires
 spelling_span-w-requires c = c.requires.1.ends 2
 
 pub sorted-p-requires : goal.sorted-p-requires
-sorted-p-requires c =
-    let start = c in (
-      subst (λ (a : Address). Placed a) (sym c.requires.0.sent) (held _),
-      subst (λ (a : Address). Placed a) (sym c.requires.0.meant) (held _),
-    )
+sorted-p-requires c = (
+  subst (λ (a : Address). Placed a) (sym c.requires.0.sent) (held _),
+  subst (λ (a : Address). Placed a) (sym c.requires.0.meant) (held _),
+)
 
 pub moved-there-requires : goal.moved-there-requires
 moved-there-requires c =
-    let start = c in
     fits c.args.s.now (get_or c.args.at.now 6 0) (search rules) c.requires.0.trailed
 
 pub returns : goal.returns
 returns c =
-    let at_moved = c in
-    let at-sorted = c in
-    let at-to = c in
-    let at_from = c in
-    let at_call = c in
-    let at-secure-of = c in
-    let at-side-of = c in
-    let start = c in
     message-is c.args.s.now c.args.k c.args.at.now c.requires.0 c.side_of-caller.ensures c.secure_of-secure.ensures
     c.spelling_span-callid.ensures c.spelling_span-v.ensures c.spelling_span-w.ensures c.sorted-p.ensures c.moved-there.ensures

@@ -15,8 +15,6 @@ loop-n-init c = (search rules, (search rules, (search rules, started fields c.ar
 
 pub returns-then-byte-ne34 : goal.returns-then-byte-ne34
 returns-then-byte-ne34 c =
-    let b = c in
-    let l = c in
     let x = c.args in
     let s = x.s.now in
     let ns = fields in
@@ -33,12 +31,6 @@ overflow_sub-name c = omega (arith, c.member_at-m.ensures.named.low, c.skip-q.en
 
 pub returns-then-is_noted : goal.returns-then-is_noted
 returns-then-is_noted c =
-    let at_part = c in
-    let at-member-at = c in
-    let at-if1 = c in
-    let at_byte = c in
-    let b = c in
-    let l = c in
     let x = c.args in
     let s = x.s.now in
     let ns = fields in
@@ -51,15 +43,6 @@ returns-then-is_noted c =
 
 pub returns-then-byte-ne44 : goal.returns-then-byte-ne44
 returns-then-byte-ne44 c =
-    let at-if2 = c in
-    let at-is-noted = c in
-    let at_field = c in
-    let at_part = c in
-    let at-member-at = c in
-    let at-if1 = c in
-    let at_byte = c in
-    let b = c in
-    let l = c in
     let x = c.args in
     let s = x.s.now in
     let ns = fields in
@@ -73,23 +56,11 @@ returns-then-byte-ne44 c =
 
 pub overflow_add-p-in-loop-n : goal.overflow_add-p-in-loop-n
 overflow_add-p-in-loop-n c =
-    let at-member-at = c in
-    let at-loop = c in
-    let l = c in
     let m = c.member_at-m in
     omega (arith, c.loop-n.invariant.1.1.0, there c.args.s.now m.result.then 43 (sym c.byte-in-loop-n.ensures ∙ c.if-byte-ne44.false))
 
 pub loop-n-preserved : goal.loop-n-preserved
 loop-n-preserved c =
-    let at-if2 = c in
-    let at-is-noted = c in
-    let at_field = c in
-    let at_part = c in
-    let at-member-at = c in
-    let at-if1 = c in
-    let at_byte = c in
-    let b = c in
-    let l = c in
     let x = c.args in
     let s = x.s.now in
     let ns = fields in
@@ -109,6 +80,5 @@ loop-n-preserved c =
 
 pub returns : goal.returns
 returns c =
-    let l = c in
     let x = c.args in
     over c.loop-n.invariant.1.1.1 (spent x.s.now c.loop-n.n c.loop-n.p (omega arith))

@@ -20,7 +20,6 @@ returns-then-m-ne0 c = let x = c.args in rw (sym (one-missing x.s.now true (firs
 
 pub settle_probe-requires : goal.settle_probe-requires
 settle_probe-requires c =
-    let start = c in
     (c.if-tag-gt-RESPONSE.true, (c.requires.1.0, c.requires.1.1))
 
 pub returns-then-tag-gt-RESPONSE : goal.returns-then-tag-gt-RESPONSE
@@ -32,25 +31,21 @@ returns-then-tag-gt-RESPONSE c = let x = c.args in
     ) c.settle_probe.ensures
 
 pub judge_envelope-requires : goal.judge_envelope-requires
-judge_envelope-requires c =
-    let start = c in (
-      asked c.args.s.now c.args.at.now c.args.tag c.requires.0 (omega (arith, c.if-tag-gt-RESPONSE.false))
-          (sym c.lacking-m.ensures.0 ∙ c.if-m-ne0.false),
-      c.requires.1.1,
-    )
+judge_envelope-requires c = (
+  asked c.args.s.now c.args.at.now c.args.tag c.requires.0 (omega (arith, c.if-tag-gt-RESPONSE.false))
+      (sym c.lacking-m.ensures.0 ∙ c.if-m-ne0.false),
+  c.requires.1.1,
+)
 
 pub setting_of-requires : goal.setting_of-requires
-setting_of-requires c =
-    let start = c in (
-      (envelope_kept c.args.s.now c.args.at.now c.args.tag c.in-Kept.is c.judge_envelope.ensures).1.methodic,
-      c.requires.1.1,
-    )
+setting_of-requires c = (
+  (envelope_kept c.args.s.now c.args.at.now c.args.tag c.in-Kept.is c.judge_envelope.ensures).1.methodic,
+  c.requires.1.1,
+)
 
 pub settle-requires : goal.settle-requires
 unfolding method_of
 settle-requires c =
-    let at-judge-envelope = c in
-    let start = c in
     let x = c.args in let k = (envelope_kept x.s.now x.at.now x.tag c.in-Kept.is c.judge_envelope.ensures).1 in
     let e = setting-tag x.s.now x.tag x.at.now c.setting_of.ensures.0 in (
       omega (arith, c.requires.1.0),
@@ -63,20 +58,12 @@ settle-requires c =
 pub returns-in-Broken : goal.returns-in-Broken
 unfolding judged
 returns-in-Broken c =
-    let at-if1 = c in
-    let at-lacking = c in
-    let start = c in
     let x = c.args in rw (none-missing x.s.now true (first_setting x.tag) x.at.now c.lacking-m.ensures.0 c.if-m-ne0.false
     ∙ envelope_broken x.s.now x.at.now x.tag c.in-Broken.is c.judge_envelope.ensures)
 
 pub returns-in-Kept : goal.returns-in-Kept
 unfolding judged
 returns-in-Kept c =
-    let at-judge-envelope = c in
-    let at-if2 = c in
-    let at-if1 = c in
-    let at-lacking = c in
-    let start = c in
     let x = c.args in rw (
       none-missing x.s.now true (first_setting x.tag) x.at.now c.lacking-m.ensures.0 c.if-m-ne0.false
           ∙ (envelope_kept x.s.now x.at.now x.tag c.in-Kept.is c.judge_envelope.ensures).0,

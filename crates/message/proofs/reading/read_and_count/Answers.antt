@@ -12,14 +12,12 @@ returns-then-s-gt32768 c = let x = c.args in c.uncounted-then-s-gt32768.ensures 
 
 pub returns-in-Bad : goal.returns-in-Bad
 returns-in-Bad c =
-    let k = c in
     let x = c.args in
     let b = in_bounds x.ceiling x.s.now c.if-s-eq0.false c.if-s-gt32768.false in
     c.uncounted-in-Bad.ensures ∙ sym (b ∙ ap (on_utf8 x.ceiling x.s.now) (sym c.check.ensures ∙ c.in-Bad.is))
 
 pub returns-in-Good : goal.returns-in-Good
 returns-in-Good c =
-    let k = c in
     let x = c.args in
     let b = in_bounds x.ceiling x.s.now c.if-s-eq0.false c.if-s-gt32768.false in
     c.tell.ensures ∙ sym (b ∙ ap (on_utf8 x.ceiling x.s.now) (sym c.check.ensures ∙ c.in-Good.is))

@@ -17,16 +17,11 @@ returns-then-m-ne0 c = let x = c.args in
 
 pub breaking-requires : goal.breaking-requires
 breaking-requires c =
-    let start = c in
     (c.requires.0, (c.requires.1.0, (c.requires.1.1.1, later-method c.args.s.now c.args.at.now c.args.k c.requires.1.0)))
 
 pub returns-in-Fault : goal.returns-in-Fault
 unfolding settled
 returns-in-Fault c =
-    let at-if2 = c in
-    let at-lacking = c in
-    let at-if1 = c in
-    let start = c in
     let x = c.args in rw (
       eq-eqb _ _ c.if-tag-ne-REQUEST.false,
       none-missing x.s.now false x.k x.at.now c.lacking-m.ensures.0 c.if-m-ne0.false
@@ -36,10 +31,6 @@ returns-in-Fault c =
 pub returns-in-Good : goal.returns-in-Good
 unfolding settled
 returns-in-Good c =
-    let at-if2 = c in
-    let at-lacking = c in
-    let at-if1 = c in
-    let start = c in
     let x = c.args in rw (
       eq-eqb _ _ c.if-tag-ne-REQUEST.false,
       none-missing x.s.now false x.k x.at.now c.lacking-m.ensures.0 c.if-m-ne0.false

@@ -12,13 +12,10 @@ pub gather-g-requires : goal.gather-g-requires
 gather-g-requires c = c.shape_of-f.ensures.inside (omega arith)
 
 pub returns-then-twice-gt0 : goal.returns-then-twice-gt0
-returns-then-twice-gt0 c = let g = c in let f = c in
-    name_twice c.args.s.now c.shape_of-f.ensures c.if-tag-eq0.false c.gather-g.ensures c.if-twice-gt0.true
+returns-then-twice-gt0 c = name_twice c.args.s.now c.shape_of-f.ensures c.if-tag-eq0.false c.gather-g.ensures c.if-twice-gt0.true
 
 pub judge-requires : goal.judge-requires
-judge-requires c = let g = c in
-    (omega (arith, c.if-tag-eq0.false), (c.shape_of-f.ensures.few, ended-none c.args.s.now c.gather-g.result.at))
+judge-requires c = (omega (arith, c.if-tag-eq0.false), (c.shape_of-f.ensures.few, ended-none c.args.s.now c.gather-g.result.at))
 
 pub returns : goal.returns
-returns c = let e = c in let g = c in let f = c in
-    c.judge.ensures ∙ each-once c.args.s.now c.shape_of-f.ensures c.if-tag-eq0.false c.gather-g.ensures c.if-twice-gt0.false
+returns c = c.judge.ensures ∙ each-once c.args.s.now c.shape_of-f.ensures c.if-tag-eq0.false c.gather-g.ensures c.if-twice-gt0.false

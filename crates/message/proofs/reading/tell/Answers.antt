@@ -19,18 +19,18 @@ pub returns-then-tag-gt0 : goal.returns-then-tag-gt0
 returns-then-tag-gt0 c = usual-read c.walk_text-w.ensures c.if-tag-gt0.true c.judge.ensures
 
 pub returns-in-Bad : goal.returns-in-Bad
-returns-in-Bad c = let r = c in let x = c.args in
+returns-in-Bad c = let x = c.args in
     c.uncounted.ensures ∙ sym (ap (on_json x.s.now) (sym (verdict-answer x.ceiling x.s.now _ c.read.ensures) ∙ c.in-Bad.is))
 
 pub returns-in-Deep : goal.returns-in-Deep
-returns-in-Deep c = let r = c in let x = c.args in
+returns-in-Deep c = let x = c.args in
     c.uncounted-in-Deep.ensures ∙ sym (ap (on_json x.s.now) (sym (verdict-answer x.ceiling x.s.now _ c.read.ensures) ∙ c.in-Deep.is))
 
 pub returns-in-Many : goal.returns-in-Many
-returns-in-Many c = let r = c in let x = c.args in
+returns-in-Many c = let x = c.args in
     c.uncounted-in-Many.ensures ∙ sym (ap (on_json x.s.now) (sym (verdict-answer x.ceiling x.s.now _ c.read.ensures) ∙ c.in-Many.is))
 
 pub returns-in-Text : goal.returns-in-Text
-returns-in-Text c = let r = c in let x = c.args in
+returns-in-Text c = let x = c.args in
     ap (λ (y : Reading). record { reading = y; count = c.in-Text.n }) c.shape.ensures
     ∙ sym (ap (on_json x.s.now) (sym (verdict-answer x.ceiling x.s.now _ c.read.ensures) ∙ c.in-Text.is))

@@ -8,18 +8,15 @@ use native.Mathlib.Omega.{arith}
 
 pub returns-then-byte-ne91 : goal.returns-then-byte-ne91
 returns-then-byte-ne91 c =
-    let b1 = c in
     let s = c.args.s.now in
     let o = c.skip-o.ensures in
     shapeless s (no-array s o.is (λ e. c.if-byte-ne91.true (c.byte.ensures ∙ e))) c.none.ensures
 
 pub overflow_add-o : goal.overflow_add-o
-overflow_add-o c = let b = c in omega (arith, there c.args.s.now c.skip-o.result 90 (sym c.byte.ensures ∙ c.if-byte-ne91.false))
+overflow_add-o c = omega (arith, there c.args.s.now c.skip-o.result 90 (sym c.byte.ensures ∙ c.if-byte-ne91.false))
 
 pub returns-then-byte-ne34 : goal.returns-then-byte-ne34
 returns-then-byte-ne34 c =
-    let b2 = c in
-    let b1 = c in
     let s = c.args.s.now in
     let o = c.skip-o.ensures in
     let array = sym c.byte.ensures ∙ c.if-byte-ne91.false in
@@ -29,9 +26,6 @@ returns-then-byte-ne34 c =
 
 pub returns-then-byte-ne44 : goal.returns-then-byte-ne44
 returns-then-byte-ne44 c =
-    let b3 = c in
-    let b2 = c in
-    let b1 = c in
     let s = c.args.s.now in
     let o = c.skip-o.ensures in
     let array = sym c.byte.ensures ∙ c.if-byte-ne91.false in
@@ -44,16 +38,10 @@ returns-then-byte-ne44 c =
 
 pub overflow_add-c : goal.overflow_add-c
 overflow_add-c c =
-    let b = c in
-    let o = c in
     omega (arith, there c.args.s.now c.element_at-c.result.then 43 (sym c.byte-3.ensures ∙ c.if-byte-ne44.false))
 
 pub returns-then-byte-ne123 : goal.returns-then-byte-ne123
 returns-then-byte-ne123 c =
-    let b4 = c in
-    let b3 = c in
-    let b2 = c in
-    let b1 = c in
     let s = c.args.s.now in
     let o = c.skip-o.ensures in
     let array = sym c.byte.ensures ∙ c.if-byte-ne91.false in
@@ -70,11 +58,6 @@ returns-then-byte-ne123 c =
 
 pub returns-then-byte-eq44 : goal.returns-then-byte-eq44
 returns-then-byte-eq44 c =
-    let b5 = c in
-    let b4 = c in
-    let b3 = c in
-    let b2 = c in
-    let b1 = c in
     let s = c.args.s.now in
     let o = c.skip-o.ensures in
     let array = sym c.byte.ensures ∙ c.if-byte-ne91.false in
@@ -94,11 +77,6 @@ returns-then-byte-eq44 c =
 
 pub returns : goal.returns
 returns c =
-    let b5 = c in
-    let b4 = c in
-    let b3 = c in
-    let b2 = c in
-    let b1 = c in
     let s = c.args.s.now in
     let o = c.skip-o.ensures in
     let array = sym c.byte.ensures ∙ c.if-byte-ne91.false in

@@ -7,7 +7,6 @@ use native.Mathlib.Omega.{arith}
 
 pub returns-then-byte-ne91 : goal.returns-then-byte-ne91
 returns-then-byte-ne91 c =
-    let s1 = c in
     let x = c.args in
     let o = c.skip-o.ensures.is in
     no_beginning x.s.now (begins-no-array x.s.now o (λ z. c.if-byte-ne91.true (c.byte.ensures ∙ z))) c.no_beginning.ensures
@@ -18,9 +17,6 @@ overflow_add-o c = let x = c.args in
 
 pub returns-then-byte-ne34 : goal.returns-then-byte-ne34
 returns-then-byte-ne34 c =
-    let s2 = c in
-    let f1 = c in
-    let s1 = c in
     let x = c.args in
     let o = c.skip-o.ensures.is in
     let array = sym c.byte.ensures ∙ c.if-byte-ne91.false in
@@ -33,11 +29,6 @@ pass_string-e-requires c = let x = c.args in let e = sym c.byte-2.ensures ∙ c.
 
 pub returns-then-e-eq0 : goal.returns-then-e-eq0
 returns-then-e-eq0 c =
-    let ps = c in
-    let f2 = c in
-    let s2 = c in
-    let f1 = c in
-    let s1 = c in
     let x = c.args in
     let o = c.skip-o.ensures.is in
     let array = sym c.byte.ensures ∙ c.if-byte-ne91.false in
@@ -48,13 +39,6 @@ returns-then-e-eq0 c =
 
 pub returns-then-byte-ne44 : goal.returns-then-byte-ne44
 returns-then-byte-ne44 c =
-    let s3 = c in
-    let f3 = c in
-    let ps = c in
-    let f2 = c in
-    let s2 = c in
-    let f1 = c in
-    let s1 = c in
     let x = c.args in
     let o = c.skip-o.ensures.is in
     let array = sym c.byte.ensures ∙ c.if-byte-ne91.false in
@@ -71,15 +55,6 @@ overflow_add-c c = let x = c.args in
 
 pub returns-then-byte-ne123 : goal.returns-then-byte-ne123
 returns-then-byte-ne123 c =
-    let s4 = c in
-    let f4 = c in
-    let s3 = c in
-    let f3 = c in
-    let ps = c in
-    let f2 = c in
-    let s2 = c in
-    let f1 = c in
-    let s1 = c in
     let x = c.args in
     let o = c.skip-o.ensures.is in
     let array = sym c.byte.ensures ∙ c.if-byte-ne91.false in
@@ -95,22 +70,11 @@ returns-then-byte-ne123 c =
 
 pub overflow_add-x : goal.overflow_add-x
 overflow_add-x c =
-    let b2 = c in
     let x = c.args in
     omega (arith, there x.s.now c.skip-x.result 33 (sym c.byte-2.ensures ∙ c.if-byte-ne34.false))
 
 pub returns : goal.returns
 returns c =
-    let f5 = c in
-    let s4 = c in
-    let f4 = c in
-    let s3 = c in
-    let f3 = c in
-    let ps = c in
-    let f2 = c in
-    let s2 = c in
-    let f1 = c in
-    let s1 = c in
     let x = c.args in
     let o = c.skip-o.ensures.is in
     let array = sym c.byte.ensures ∙ c.if-byte-ne91.false in

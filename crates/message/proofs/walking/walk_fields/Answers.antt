@@ -9,7 +9,6 @@ use native.Mathlib.Omega.{arith}
 
 pub returns-then-byte-ne34 : goal.returns-then-byte-ne34
 returns-then-byte-ne34 c =
-    let f1 = c in
     let x = c.args in
     unlisted x.s.now x.o x.room
     (none-listed x.s.now x.o x.room c.skip.ensures.is (λ z. c.if-byte-ne34.true (c.byte.ensures ∙ z)))
@@ -17,15 +16,11 @@ returns-then-byte-ne34 c =
 
 pub loop-n-init : goal.loop-n-init
 loop-n-init c =
-    let x = c in
     let go = walk-starts c.args.s.now c.args.o c.args.room c.requires.1 c.skip.ensures.is (sym c.byte.ensures ∙ c.if-byte-ne34.false) in
     (search rules, (search rules, (search rules, go)))
 
 pub returns-then-byte-ne34-2 : goal.returns-then-byte-ne34-2
 returns-then-byte-ne34-2 c =
-    let f2 = c in
-    let sk = c in
-    let l = c in
     let x = c.args in
     unlisted x.s.now x.o x.room
     (no_name c.loop-n.invariant.1.1.1 c.skip-q.ensures.is (λ z. c.if-byte-ne34-2.true (c.byte-in-loop-n.ensures ∙ z)) c.loop-n.invariant.1.0)
@@ -37,11 +32,6 @@ pass_member-v-requires c = let x = c.args in let e = sym c.byte-in-loop-n.ensure
 
 pub returns-then-then-eq0 : goal.returns-then-then-eq0
 returns-then-then-eq0 c =
-    let f3 = c in
-    let pm = c in
-    let f2 = c in
-    let sk = c in
-    let l = c in
     let x = c.args in
     let s = x.s.now in
     let q = c.skip-q.result in
@@ -52,8 +42,6 @@ returns-then-then-eq0 c =
 
 pub overflow_add-q : goal.overflow_add-q
 overflow_add-q c =
-    let at-skip2 = c in
-    let start = c in
     let x = c.args in omega (
       arith,
       there x.s.now c.skip-q.result 33 (sym c.byte-in-loop-n.ensures ∙ c.if-byte-ne34-2.false),
@@ -61,11 +49,6 @@ overflow_add-q c =
 
 pub overflow_sub-name : goal.overflow_sub-name
 overflow_sub-name c =
-    let f3 = c in
-    let pm = c in
-    let f2 = c in
-    let sk = c in
-    let l = c in
     let s = c.args.s.now in
     let q = c.skip-q.result in
     let quote = sym c.byte-in-loop-n.ensures ∙ c.if-byte-ne34-2.false in
@@ -74,13 +57,6 @@ overflow_sub-name c =
 
 pub returns-then-is_noted : goal.returns-then-is_noted
 returns-then-is_noted c =
-    let f4 = c in
-    let g = c in
-    let f3 = c in
-    let pm = c in
-    let f2 = c in
-    let sk = c in
-    let l = c in
     let x = c.args in
     let s = x.s.now in
     let q = c.skip-q.result in
@@ -93,16 +69,6 @@ returns-then-is_noted c =
 
 pub overflow_add-result : goal.overflow_add-result
 overflow_add-result c =
-    let nn = c in
-    let n2 = c in
-    let n1 = c in
-    let f4 = c in
-    let g = c in
-    let f3 = c in
-    let pm = c in
-    let f2 = c in
-    let sk = c in
-    let l = c in
     let s = c.args.s.now in
     let q = c.skip-q.result in
     let quote = sym c.byte-in-loop-n.ensures ∙ c.if-byte-ne34-2.false in
@@ -111,16 +77,6 @@ overflow_add-result c =
 
 pub returns-then-b-eq125 : goal.returns-then-b-eq125
 returns-then-b-eq125 c =
-    let nn = c in
-    let n2 = c in
-    let n1 = c in
-    let f4 = c in
-    let g = c in
-    let f3 = c in
-    let pm = c in
-    let f2 = c in
-    let sk = c in
-    let l = c in
     let s = c.args.s.now in
     let q = c.skip-q.result in
     let quote = sym c.byte-in-loop-n.ensures ∙ c.if-byte-ne34-2.false in
@@ -131,17 +87,6 @@ returns-then-b-eq125 c =
 
 pub returns-then-b-ne44 : goal.returns-then-b-ne44
 returns-then-b-ne44 c =
-    let f6 = c in
-    let nn = c in
-    let n2 = c in
-    let n1 = c in
-    let f4 = c in
-    let g = c in
-    let f3 = c in
-    let pm = c in
-    let f2 = c in
-    let sk = c in
-    let l = c in
     let s = c.args.s.now in
     let q = c.skip-q.result in
     let quote = sym c.byte-in-loop-n.ensures ∙ c.if-byte-ne34-2.false in
@@ -152,16 +97,6 @@ returns-then-b-ne44 c =
 
 pub overflow_add-p-in-loop-n : goal.overflow_add-p-in-loop-n
 overflow_add-p-in-loop-n c =
-    let nn = c in
-    let n2 = c in
-    let n1 = c in
-    let f4 = c in
-    let g = c in
-    let f3 = c in
-    let pm = c in
-    let f2 = c in
-    let sk = c in
-    let l = c in
     let s = c.args.s.now in
     let q = c.skip-q.result in
     let quote = sym c.byte-in-loop-n.ensures ∙ c.if-byte-ne34-2.false in
@@ -170,16 +105,6 @@ overflow_add-p-in-loop-n c =
 
 pub loop-n-preserved : goal.loop-n-preserved
 loop-n-preserved c =
-    let nn = c in
-    let n2 = c in
-    let n1 = c in
-    let f4 = c in
-    let g = c in
-    let f3 = c in
-    let pm = c in
-    let f2 = c in
-    let sk = c in
-    let l = c in
     let s = c.args.s.now in
     let q = c.skip-q.result in
     let quote = sym c.byte-in-loop-n.ensures ∙ c.if-byte-ne34-2.false in
@@ -198,5 +123,4 @@ loop-n-preserved c =
 
 pub returns : goal.returns
 returns c =
-    let l = c in
     walk-spent c.loop-n.invariant.1.1.1 (omega (arith, c.loop-n-test.false)) c.loop-n.invariant.1.0

@@ -10,7 +10,6 @@ returns-then-ceiling-lt3 c = let x = c.args in no_walk x.s.now x.ceiling (no_roo
 
 pub returns-then-tag-eq0 : goal.returns-then-tag-eq0
 returns-then-tag-eq0 c =
-    let b = c in
     let x = c.args in
     no_walk x.s.now x.ceiling (c.begin-b.ensures.unknown c.if-tag-eq0.true x.ceiling) c.no_walk-then-tag-eq0.ensures
 
@@ -22,9 +21,6 @@ walk_fields-f-requires c =
 
 pub returns-then-shut-eq0 : goal.returns-then-shut-eq0
 returns-then-shut-eq0 c =
-    let wf = c in
-    let f1 = c in
-    let b = c in
     let x = c.args in
     let some = c.if-tag-eq0.false in
     no_walk x.s.now x.ceiling
@@ -33,11 +29,6 @@ returns-then-shut-eq0 c =
 
 pub returns-then-byte-ne93 : goal.returns-then-byte-ne93
 returns-then-byte-ne93 c =
-    let sk = c in
-    let f2 = c in
-    let wf = c in
-    let f1 = c in
-    let b = c in
     let x = c.args in
     let some = c.if-tag-eq0.false in
     no_walk x.s.now x.ceiling
@@ -52,13 +43,6 @@ overflow_add-z c = let x = c.args in
 
 pub returns-then-skip-s : goal.returns-then-skip-s
 returns-then-skip-s c =
-    let s2 = c in
-    let f3 = c in
-    let sk = c in
-    let f2 = c in
-    let wf = c in
-    let f1 = c in
-    let b = c in
     let x = c.args in
     let some = c.if-tag-eq0.false in
     let e = sym c.byte.ensures ∙ c.if-byte-ne93.false in
@@ -71,13 +55,6 @@ returns-then-skip-s c =
 
 pub returns : goal.returns
 returns c =
-    let s2 = c in
-    let f3 = c in
-    let sk = c in
-    let f2 = c in
-    let wf = c in
-    let f1 = c in
-    let b = c in
     let x = c.args in
     let some = c.if-tag-eq0.false in
     let e = sym c.byte.ensures ∙ c.if-byte-ne93.false in

@@ -13,7 +13,6 @@ loop-i-init c = (search rules, (paste-zero c.args.out.now c.args.at c.args.part.
 
 pub loop-i-preserved : goal.loop-i-preserved
 loop-i-preserved c =
-    let l = c in
     let x = c.args in (
       search rules,
       (
@@ -24,7 +23,6 @@ loop-i-preserved c =
 
 pub returns : goal.returns
 returns c =
-    let l = c in
     let x = c.args in
     let e : c.loop-i.i ≡ length x.part.now = omega arith in
     (omega arith, rw (c.loop-i.invariant.1.0, e) (paste_whole x.out.now x.at x.part.now))

@@ -21,7 +21,6 @@ loop-i-init c = (search rules, (search rules, (search rules, (refl, (refl, searc
 
 pub returns-then-not-is_digit : goal.returns-then-not-is_digit
 returns-then-not-is_digit c =
-    let l = c in
     let x = c.args in
     no_digit x.s.now (omega arith) (omega arith)
     (c.loop-i.invariant.1.1.1.0 ∙ all-stops is_digit x.s.now c.loop-i.i (omega arith) (sym c.is_digit.ensures ∙ not-true _ c.if-not-is_digit.true-raw))
@@ -31,13 +30,11 @@ overflow_sub-b c = let d = digit_in _ (sym c.is_digit.ensures ∙ not-false _ c.
 
 pub returns-then-d-v : goal.returns-then-d-v
 returns-then-d-v c =
-    let l = c in
     let x = c.args in
     too_large x.s.now (omega arith) (omega arith) c.loop-i.i c.loop-i.v (omega arith) c.loop-i.invariant.1.1.1.1.0 (omega arith)
 
 pub loop-i-preserved : goal.loop-i-preserved
 loop-i-preserved c =
-    let l = c in
     let x = c.args in
     let d : is_digit (get_or x.s.now c.loop-i.i 0) ≡ true = sym c.is_digit.ensures ∙ not-false _ c.if-not-is_digit.false-raw in (
       search rules,
@@ -55,7 +52,6 @@ loop-i-preserved c =
 
 pub returns : goal.returns
 returns c =
-    let l = c in
     let x = c.args in
     read x.s.now (omega arith) (omega arith) c.loop-i.v
     (c.loop-i.invariant.1.1.1.0 ∙ all-ends is_digit x.s.now c.loop-i.i (omega arith))

@@ -9,14 +9,13 @@ pub loop-i-init : goal.loop-i-init
 loop-i-init c = (search rules, (none_yet c.args.s.now c.args.at, below_one))
 
 pub overflow_mul-v : goal.overflow_mul-v
-overflow_mul-v c = let l = c in omega (arith, span_seven c.loop-i.i c.loop-i.v (omega arith) c.loop-i.invariant.1.1)
+overflow_mul-v c = omega (arith, span_seven c.loop-i.i c.loop-i.v (omega arith) c.loop-i.invariant.1.1)
 
 pub overflow_add-v : goal.overflow_add-v
-overflow_add-v c = let l = c in omega (arith, span_seven c.loop-i.i c.loop-i.v (omega arith) c.loop-i.invariant.1.1)
+overflow_add-v c = omega (arith, span_seven c.loop-i.i c.loop-i.v (omega arith) c.loop-i.invariant.1.1)
 
 pub loop-i-preserved : goal.loop-i-preserved
 loop-i-preserved c =
-    let l = c in
     let x = c.args in (
       search rules,
       (
@@ -27,7 +26,6 @@ loop-i-preserved c =
 
 pub returns : goal.returns
 returns c =
-    let l = c in
     let x = c.args in
     let e : c.loop-i.i ≡ x.n = omega arith in
     rw e at c.loop-i.invariant.1.0

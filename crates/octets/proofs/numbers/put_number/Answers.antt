@@ -11,7 +11,6 @@ loop-i-init c = (search rules, (refl, refl))
 
 pub loop-i-preserved : goal.loop-i-preserved
 loop-i-preserved c =
-    let l = c in
     let x = c.args in (
       search rules,
       (
@@ -22,6 +21,5 @@ loop-i-preserved c =
 
 pub returns : goal.returns
 returns c =
-    let l = c in
     let x = c.args in
     sym (c.loop-i.invariant.1.1 ∙ no_byte c.loop-i.out x.at c.loop-i.i c.loop-i.rest (omega arith))

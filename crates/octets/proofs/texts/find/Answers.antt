@@ -10,18 +10,15 @@ loop-i-init c = (search rules, refl)
 
 pub returns-then-s-i : goal.returns-then-s-i
 returns-then-s-i c =
-    let l = c in
     let x = c.args in
     sym (c.loop-i.invariant.1 ∙ before-stops x.b x.s.now c.loop-i.i (omega arith) c.if-s-i.true)
 
 pub loop-i-preserved : goal.loop-i-preserved
 loop-i-preserved c =
-    let l = c in
     let x = c.args in
     (search rules, c.loop-i.invariant.1 ∙ before_more x.b x.s.now c.loop-i.i (omega arith) c.if-s-i.false)
 
 pub returns : goal.returns
 returns c =
-    let l = c in
     let x = c.args in
     sym (c.loop-i.invariant.1 ∙ before-ends x.b x.s.now c.loop-i.i (omega arith))

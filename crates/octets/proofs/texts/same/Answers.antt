@@ -13,18 +13,15 @@ loop-i-init c = (search rules, refl)
 
 pub returns-then-a-i : goal.returns-then-a-i
 returns-then-a-i c =
-    let l = c in
     let x = c.args in
     sym (c.loop-i.invariant.1 ∙ same-stops x.a.now x.b.now c.loop-i.i (omega arith) (omega arith) c.if-a-i.true)
 
 pub loop-i-preserved : goal.loop-i-preserved
 loop-i-preserved c =
-    let l = c in
     let x = c.args in
     (search rules, c.loop-i.invariant.1 ∙ same_more x.a.now x.b.now c.loop-i.i (omega arith) (omega arith) c.if-a-i.false)
 
 pub returns : goal.returns
 returns c =
-    let l = c in
     let x = c.args in
     sym (c.loop-i.invariant.1 ∙ same_ends x.a.now x.b.now c.loop-i.i (omega arith) (omega arith))

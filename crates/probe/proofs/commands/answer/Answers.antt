@@ -12,9 +12,6 @@ use native.Mathlib.Omega.{arith}
 
 pub returns-then-line-gt170000 : goal.returns-then-line-gt170000
 returns-then-line-gt170000 c =
-    let at-answer-unknown = c in
-    let at-if1 = c in
-    let start = c in
     let x = c.args in
     let h = holding x.ceiling (take x.size x.held.now) in
     finishes x.ceiling x.out.now (line_long h x.line.now c.if-line-gt170000.true)
@@ -22,11 +19,6 @@ returns-then-line-gt170000 c =
 
 pub returns-then-same : goal.returns-then-same
 returns-then-same c =
-    let at-dump = c in
-    let at-if2 = c in
-    let at_same = c in
-    let at-if1 = c in
-    let start = c in
     let x = c.args in
     let t = take x.size x.held.now in
     finishes x.ceiling x.out.now
@@ -35,13 +27,6 @@ returns-then-same c =
 
 pub returns-then-not-has_space : goal.returns-then-not-has_space
 returns-then-not-has_space c =
-    let at-answer-unknown2 = c in
-    let at-if3 = c in
-    let at-has-space = c in
-    let at-if2 = c in
-    let at_same = c in
-    let at-if1 = c in
-    let start = c in
     let x = c.args in
     let h = holding x.ceiling (take x.size x.held.now) in
     finishes x.ceiling x.out.now
@@ -50,20 +35,13 @@ returns-then-not-has_space c =
     (stays x.out.now x.size x.held.now refl c.answer_unknown-then-not-has_space.ensures c.requires) c.keep_ceiling-then-not-has_space.ensures
 
 pub obey-requires : goal.obey-requires
-obey-requires c =
-    let at-if1 = c in
-    let start = c in (
-      c.requires,
-      rw c.rest.ensures (omega (arith, rest-short c.args.line.now, c.if-line-gt170000.false)),
-    )
+obey-requires c = (
+  c.requires,
+  rw c.rest.ensures (omega (arith, rest-short c.args.line.now, c.if-line-gt170000.false)),
+)
 
 pub returns : goal.returns
 returns c =
-    let at-if3 = c in
-    let at-has-space = c in
-    let at-if2 = c in
-    let at_same = c in
-    let at-if1 = c in
     let x = c.args in
     let h = holding x.ceiling (take x.size x.held.now) in
     finishes_as x.out.now

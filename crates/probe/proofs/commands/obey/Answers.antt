@@ -7,18 +7,12 @@ use mathlib.Core.Path.{sym, ◌∙◌}
 
 pub returns-then-same : goal.returns-then-same
 returns-then-same c =
-    let at-if1 = c in
-    let at_same = c in
-    let start = c in
     let x = c.args in
     ceiling-set x.ceiling x.size x.held.now x.name.now x.words.now x.out.now (sym c.same.ensures ∙ c.if-same.true) c.set_ceiling-set.ensures
     c.requires.0
 
 pub returns : goal.returns
 returns c =
-    let at-obey-plain = c in
-    let at-if1 = c in
-    let at_same = c in
     let x = c.args in
     finishes x.ceiling x.out.now
     (does-plain x.ceiling (take x.size x.held.now) x.name.now x.words.now (sym c.same.ensures ∙ c.if-same.false)) c.obey_plain-a.ensures

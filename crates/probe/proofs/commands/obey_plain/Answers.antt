@@ -8,20 +8,12 @@ use mathlib.Core.Path.{◌∙◌, refl, sym}
 
 pub returns-then-same : goal.returns-then-same
 returns-then-same c =
-    let at-if1 = c in
-    let at_same = c in
-    let start = c in
     let x = c.args in
     does x.out.now (does_msg x.ceiling (take x.size x.held.now) x.name.now x.words.now
     (sym c.same.ensures ∙ c.if-same.true)) c.happen.ensures
 
 pub returns-then-same-2 : goal.returns-then-same-2
 returns-then-same-2 c =
-    let at-if2 = c in
-    let at-same2 = c in
-    let at-if1 = c in
-    let at_same = c in
-    let start = c in
     let x = c.args in
     does x.out.now (does-tick x.ceiling (take x.size x.held.now) x.name.now x.words.now
     (sym c.same.ensures ∙ c.if-same.false)
@@ -29,12 +21,6 @@ returns-then-same-2 c =
 
 pub returns-then-same-3 : goal.returns-then-same-3
 returns-then-same-3 c =
-    let at-same3 = c in
-    let at-if2 = c in
-    let at-same2 = c in
-    let at-if1 = c in
-    let at_same = c in
-    let start = c in
     let x = c.args in
     does x.out.now (does-blank x.ceiling (take x.size x.held.now) x.name.now x.words.now
     (sym c.same.ensures
@@ -44,14 +30,6 @@ returns-then-same-3 c =
 
 pub returns-then-same-4 : goal.returns-then-same-4
 returns-then-same-4 c =
-    let at-same4 = c in
-    let at-if3 = c in
-    let at-same3 = c in
-    let at-if2 = c in
-    let at-same2 = c in
-    let at-if1 = c in
-    let at_same = c in
-    let start = c in
     let x = c.args in
     does x.out.now (does-table x.ceiling (take x.size x.held.now) x.name.now x.words.now
     (sym c.same.ensures
@@ -63,15 +41,6 @@ returns-then-same-4 c =
 
 pub returns : goal.returns
 returns c =
-    let at-if4 = c in
-    let at-same4 = c in
-    let at-if3 = c in
-    let at-same3 = c in
-    let at-if2 = c in
-    let at-same2 = c in
-    let at-if1 = c in
-    let at_same = c in
-    let start = c in
     let x = c.args in
     let t = take x.size x.held.now in
     turns x.out.now x.size x.held.now t (asked_text x.ceiling x.name.now x.words.now)

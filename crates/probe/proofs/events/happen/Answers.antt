@@ -13,7 +13,6 @@ use native.Mathlib.Omega.{arith}
 
 pub returns-then-not-has_space : goal.returns-then-not-has_space
 returns-then-not-has_space c =
-    let start = c in
     let x = c.args in
     let t = take x.size x.held.now in
     turns x.out.now x.size x.held.now t unknown
@@ -23,16 +22,11 @@ returns-then-not-has_space c =
 
 pub take_bytes-n-requires : goal.take_bytes-n-requires
 take_bytes-n-requires c =
-    let start = c in
     rw c.rest.ensures
     (omega (arith, rest-short c.args.words.now, c.requires.1))
 
 pub returns-then-n-gt85000 : goal.returns-then-n-gt85000
 returns-then-n-gt85000 c =
-    let at_rest = c in
-    let at-if1 = c in
-    let at-has-space = c in
-    let start = c in
     let x = c.args in
     let t = take x.size x.held.now in
     let w = rest x.words.now in
@@ -46,15 +40,6 @@ returns-then-n-gt85000 c =
 
 pub returns-in-Value : goal.returns-in-Value
 returns-in-Value c =
-    let at-time = c in
-    let at-number = c in
-    let at_first = c in
-    let at-if2 = c in
-    let at-take-bytes = c in
-    let at_rest = c in
-    let at-if1 = c in
-    let at-has-space = c in
-    let start = c in
     let x = c.args in
     let t = take x.size x.held.now in
     let w = rest x.words.now in
@@ -71,14 +56,6 @@ returns-in-Value c =
 
 pub returns-in-Other : goal.returns-in-Other
 returns-in-Other c =
-    let at-number = c in
-    let at_first = c in
-    let at-if2 = c in
-    let at-take-bytes = c in
-    let at_rest = c in
-    let at-if1 = c in
-    let at-has-space = c in
-    let start = c in
     let x = c.args in
     let t = take x.size x.held.now in
     let w = rest x.words.now in

@@ -9,7 +9,6 @@ use native.Mathlib.Omega.{arith}
 
 pub returns : goal.returns
 returns c =
-    let start = c in
     let x = c.args in
     let z : x.n - 0 ≡ x.n = omega arith in
     happened (event_on x.ceiling (take x.size x.held.now) x.tick x.time (take x.n x.bytes.now)) x.out.now x.size c.event.new.0

@@ -5,8 +5,6 @@ use native.Mathlib.Omega.{arith}
 
 pub returns-in-End : goal.returns-in-End
 returns-in-End c =
-    let at-put = c in
-    let start = c in
     let x = c.args in
     let w = c.write_answer.ensures in
     accepted-ends x.out.now x.a c.write_answer.result c.put-behind.ensures (omega (arith, w.2))
@@ -14,8 +12,6 @@ returns-in-End c =
 
 pub returns-in-NoRoom : goal.returns-in-NoRoom
 returns-in-NoRoom c =
-    let at-put = c in
-    let start = c in
     let x = c.args in
     let w = c.write_answer.ensures in
     absurd (accepted-fits x.out.now x.a c.write_answer.result c.put-behind.ensures (omega (arith, w.2))

@@ -10,8 +10,6 @@ put_number-before_reply-requires c = omega (arith, number-length c.number.result
 
 pub put_number-requires : goal.put_number-requires
 put_number-requires c =
-    let at_place = c in
-    let at-number = c in
     omega (
       arith,
       number-length c.number.result (ascii " ") (omega arith),
@@ -20,12 +18,6 @@ put_number-requires c =
 
 pub returns : goal.returns
 returns c =
-    let at-put-number2 = c in
-    let at_place = c in
-    let at-put-number = c in
-    let at-number = c in
-    let at-put = c in
-    let start = c in
     let x = c.args in
     event-refused x.out.now x.f c.number.ensures
     c.place.ensures c.reply.ensures

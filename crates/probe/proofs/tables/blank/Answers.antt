@@ -8,7 +8,6 @@ use mathlib.Core.Path.{◌∙◌, sym}
 
 pub returns-then-not-has_space : goal.returns-then-not-has_space
 returns-then-not-has_space c =
-    let start = c in
     let x = c.args in
     let t = take x.size x.held.now in
     stays x.out.now x.size x.held.now (no_length t x.words.now (sym c.has_space.ensures ∙ not-true _ c.if-not-has_space.true-raw))
@@ -16,12 +15,6 @@ returns-then-not-has_space c =
 
 pub returns : goal.returns
 returns c =
-    let at_rest = c in
-    let at-number-to = c in
-    let at_first = c in
-    let at-if1 = c in
-    let at-has-space = c in
-    let start = c in
     let x = c.args in
     does x.out.now (both-numbers (take x.size x.held.now) x.words.now
     (sym c.has_space.ensures

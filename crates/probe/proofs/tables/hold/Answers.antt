@@ -13,7 +13,6 @@ use native.Mathlib.Omega.{arith}
 
 pub returns-then-not-is_hex_to : goal.returns-then-not-is_hex_to
 returns-then-not-is_hex_to c =
-    let start = c in
     let x = c.args in
     let t = take x.size x.held.now in
     stays x.out.now x.size x.held.now (no-image t x.word.now (sym c.is_hex_to.ensures ∙ not-true _ c.if-not-is_hex_to.true-raw))
@@ -25,9 +24,6 @@ take_image-n-requires c = omega
 
 pub judge-requires : goal.judge-requires
 judge-requires c =
-    let at-if1 = c in
-    let at-is-hex-to = c in
-    let start = c in
     let w = c.args.word.now in
     omega (
       arith,
@@ -38,9 +34,6 @@ judge-requires c =
 
 pub returns : goal.returns
 returns c =
-    let at-if1 = c in
-    let at-is-hex-to = c in
-    let start = c in
     let x = c.args in
     let w = x.word.now in
     let m = c.take_image-n.ensures in

@@ -16,7 +16,6 @@ returns-then-count-gt65535 c =
 
 pub returns-then-length-gt65536 : goal.returns-then-length-gt65536
 returns-then-length-gt65536 c =
-    let start = c in
     let x = c.args in
     let t = take x.size x.held.now in
     stays x.out.now x.size x.held.now (over-length t x.count x.length c.if-count-gt65535.false c.if-length-gt65536.true)
@@ -24,9 +23,6 @@ returns-then-length-gt65536 c =
 
 pub returns-then-make_blank : goal.returns-then-make_blank
 returns-then-make_blank c =
-    let at-if2 = c in
-    let at-if1 = c in
-    let start = c in
     let x = c.args in
     let t = take x.size x.held.now in
     let m = c.make_blank.ensures in
@@ -38,9 +34,6 @@ returns-then-make_blank c =
 
 pub returns : goal.returns
 returns c =
-    let at-if2 = c in
-    let at-if1 = c in
-    let start = c in
     let x = c.args in
     let t = take x.size x.held.now in
     let m = c.make_blank.ensures in

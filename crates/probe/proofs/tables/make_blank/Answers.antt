@@ -7,8 +7,6 @@ use native.Mathlib.Omega.{arith}
 
 pub returns-in-Done : goal.returns-in-Done
 returns-in-Done c =
-    let at-blank = c in
-    let start = c in
     let x = c.args in
     let b = c.blank.ensures in
     let l : length c.blank.new.0 ≡ x.n = omega arith in
@@ -17,8 +15,6 @@ returns-in-Done c =
 
 pub returns-in-Refused : goal.returns-in-Refused
 returns-in-Refused c =
-    let at-blank = c in
-    let start = c in
     let x = c.args in
     let b = c.blank.ensures in
     let l : length c.blank.new.0 ≡ x.n = omega arith in

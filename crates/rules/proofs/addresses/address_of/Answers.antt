@@ -15,7 +15,6 @@ is_caller-requires c = (
 
 pub returns-then-is_caller : goal.returns-then-is_caller
 returns-then-is_caller c =
-    let start = c in
     caller_address c.args.s.now _ _ (user-end c.args.s.now c.run_end-user.result c.run_end-user.ensures.0)
     (caller-end c.args.s.now c.run_end-user.result c.run_end-user.ensures.0 c.run_end-fire.result
     c.run_end-fire.ensures.0) (sym c.is_caller.ensures ∙ c.if-is_caller.true)
@@ -25,13 +24,9 @@ is_callee-requires c = (callee-end c.args.s.now c.run_end-end.result c.run_end-e
 
 pub returns-then-is_callee : goal.returns-then-is_callee
 returns-then-is_callee c =
-    let at-is-caller = c in
-    let start = c in
     callee_address c.args.s.now _ (callee-end c.args.s.now c.run_end-end.result c.run_end-end.ensures.0)
     (sym c.is_caller.ensures ∙ c.if-is_caller.false) (sym c.is_callee.ensures ∙ c.if-is_callee.true)
 
 pub returns : goal.returns
 returns c =
-    let at-is-caller = c in
-    let start = c in
     no_address c.args.s.now (sym c.is_caller.ensures ∙ c.if-is_caller.false) (sym c.is_callee.ensures ∙ c.if-is_callee.false)

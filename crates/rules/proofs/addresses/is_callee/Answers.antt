@@ -3,4 +3,4 @@ use Rattle.rules.proofs.AddressLaws.{callee-is}
 use Rattle.rules.proofs.addresses.is_callee.Goals as goal
 
 pub returns : goal.returns
-returns c = let x = c in rw (callee-is c.args.s.now c.args.fire c.requires.0) (cc)
+returns c = rw (callee-is c.args.s.now c.args.fire c.requires.0) (cc)

@@ -5,14 +5,7 @@ use mathlib.Core.Path.{◌∙◌}
 
 pub returns : goal.returns
 returns c =
-    let at-and3 = c in
-    let at-and2 = c in
-    let at-within = c in
-    let at_mark = c in
-    let at-and = c in
-    let at-stands-at = c in
-    let start = c in
-    let x = c in rw (caller-is c.args.s.now c.args.user c.args.fire c.requires.0 c.requires.1.0)
+    rw (caller-is c.args.s.now c.args.user c.args.fire c.requires.0 c.requires.1.0)
     (c.and-3.ensures ∙ rw (
       c.and-2.ensures,
       c.within-2.ensures,

@@ -11,8 +11,6 @@ is_field-requires c = guess_small (length c.args.s.now % 16 * 5 + c.byte-first.r
 
 pub returns-then-is_field : goal.returns-then-is_field
 returns-then-is_field c =
-    let at_byte = c in
-    let start = c in
     let x = c.args.s.now in (
       is_name x _ (guess_small (length c.args.s.now % 16 * 5 + c.byte-first.result * 5 + c.byte-last.result * 3))
           (sym c.is_field.ensures ∙ c.if-is_field.true),
@@ -21,8 +19,6 @@ returns-then-is_field c =
 
 pub returns-else-is_field : goal.returns-else-is_field
 returns-else-is_field c =
-    let at_byte = c in
-    let start = c in
     let x = c.args.s.now in (
       no_name x _ (guess-is x _ _ _ c.byte-first.ensures c.less.ensures c.byte-last.ensures)
           (sym c.is_field.ensures ∙ c.if-is_field.false),

@@ -16,5 +16,4 @@ slice_bounds-same-end c = (row c.args.k (omega arith)).inside
 
 pub returns : goal.returns
 returns c =
-    let start = c in
     c.same.ensures ∙ ap (same c.args.s.now) (row c.args.k (omega arith)).is

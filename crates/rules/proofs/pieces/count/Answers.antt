@@ -12,17 +12,13 @@ loop-i-init c = (search rules, (search rules, refl))
 
 pub returns-then-hi-v : goal.returns-then-hi-v
 returns-then-hi-v c =
-    let at-loop = c in
-    let start = c in
-    let l = c in let x = c.args in
+    let x = c.args in
     count-over x.s.now c.loop-i.i c.loop-i.v _ c.loop-i.invariant.1.1 x.n x.hi (omega arith) c.worth.ensures.0 c.if-hi-v.true
 
 pub loop-i-preserved : goal.loop-i-preserved
 loop-i-preserved c =
-    let at-loop = c in
-    let start = c in
-    let l = c in let x = c.args in (omega arith, (omega arith, count-more x.s.now c.loop-i.i c.loop-i.v _ c.loop-i.invariant.1.1 c.worth.ensures.0))
+    let x = c.args in (omega arith, (omega arith, count-more x.s.now c.loop-i.i c.loop-i.v _ c.loop-i.invariant.1.1 c.worth.ensures.0))
 
 pub returns : goal.returns
-returns c = let l = c in let x = c.args in
+returns c = let x = c.args in
     count-ends x.s.now c.loop-i.i c.loop-i.v 0 c.loop-i.invariant.1.1 x.n x.hi (omega arith) (omega arith)

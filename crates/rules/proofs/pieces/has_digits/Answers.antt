@@ -13,17 +13,17 @@ unfolding digits
 loop-i-init c = (search rules, refl)
 
 pub returns-then-not-is_digit : goal.returns-then-not-is_digit
-returns-then-not-is_digit c = let l = c in let x = c.args in
+returns-then-not-is_digit c = let x = c.args in
     sym (digits-stops x.s.now x.at c.loop-i.i x.n (omega arith)
     (sym (ap is_digit c.byte.ensures) ∙ sym c.is_digit.ensures ∙ not-true _ c.if-not-is_digit.true-raw))
 
 pub loop-i-preserved : goal.loop-i-preserved
-loop-i-preserved c = let l = c in let x = c.args in (
+loop-i-preserved c = let x = c.args in (
   omega arith,
   digits_more x.s.now x.at c.loop-i.i c.loop-i.invariant.1
       (sym (ap is_digit c.byte.ensures) ∙ sym c.is_digit.ensures ∙ not-false _ c.if-not-is_digit.false-raw),
 )
 
 pub returns : goal.returns
-returns c = let l = c in let x = c.args in let e : c.loop-i.i ≡ x.n = omega arith in
+returns c = let x = c.args in let e : c.loop-i.i ≡ x.n = omega arith in
     sym (ap (λ k. digits k x.s.now x.at) (sym e) ∙ c.loop-i.invariant.1)

@@ -19,8 +19,6 @@ overflow_mul-v c = omega (
 
 pub overflow_add-v : goal.overflow_add-v
 overflow_add-v c =
-    let at-shared-slice-known = c in
-    let start = c in
     omega (
       arith,
       value-small c.args.s.now c.args.at (λ k. omega (arith, c.shared_slice_known-1.given k)) c.loop-i.i
@@ -28,8 +26,8 @@ overflow_add-v c =
     )
 
 pub loop-i-preserved : goal.loop-i-preserved
-loop-i-preserved c = let l = c in let x = c.args in
+loop-i-preserved c = let x = c.args in
     (omega arith, number_more x.s.now x.at c.loop-i.i c.loop-i.v _ _ c.loop-i.invariant.1 c.byte.ensures c.worth.ensures.0)
 
 pub returns : goal.returns
-returns c = let l = c in let x = c.args in let e : c.loop-i.i ≡ x.n = omega arith in c.loop-i.invariant.1 ∙ ap (λ k. decimal_at k x.s.now x.at) e
+returns c = let x = c.args in let e : c.loop-i.i ≡ x.n = omega arith in c.loop-i.invariant.1 ∙ ap (λ k. decimal_at k x.s.now x.at) e

@@ -10,15 +10,15 @@ pub loop-i-init : goal.loop-i-init
 loop-i-init c = (search rules, (search rules, refl))
 
 pub returns-then-not-holds : goal.returns-then-not-holds
-returns-then-not-holds c = let l = c in let x = c.args in (
+returns-then-not-holds c = let x = c.args in (
   sym (c.loop-i.invariant.1.1 ∙ run-stops x.class x.s.now c.loop-i.i (omega arith) (sym c.holds.ensures ∙ not-true _ c.if-not-holds.true-raw)),
   (omega arith, omega arith),
 )
 
 pub loop-i-preserved : goal.loop-i-preserved
-loop-i-preserved c = let l = c in let x = c.args in
+loop-i-preserved c = let x = c.args in
     (omega arith, (omega arith, c.loop-i.invariant.1.1 ∙ run_more x.class x.s.now c.loop-i.i (omega arith) (sym c.holds.ensures ∙ not-false _ c.if-not-holds.false-raw)))
 
 pub returns : goal.returns
-returns c = let l = c in let x = c.args in
+returns c = let x = c.args in
     (sym (c.loop-i.invariant.1.1 ∙ run_ends x.class x.s.now c.loop-i.i (omega arith)), (omega arith, omega arith))

@@ -13,19 +13,12 @@ slice_bounds-put-end c = (row c.index_in-i.result c.if-i-lt14.true).inside
 
 pub put-requires : goal.put-requires
 put-requires c =
-    let start = c in
-    let p = c in rw (part-is c.index_in-i.result c.args.code c.index_in-i.ensures c.if-i-lt14.true) c.requires
+    rw (part-is c.index_in-i.result c.args.code c.index_in-i.ensures c.if-i-lt14.true) c.requires
 
 pub returns-then-i-lt14 : goal.returns-then-i-lt14
 returns-then-i-lt14 c =
-    let at-if1 = c in
-    let at-index-in = c in
-    let start = c in
-    let p = c in rw (part-is c.index_in-i.result c.args.code c.index_in-i.ensures c.if-i-lt14.true) at c.put.ensures
+    rw (part-is c.index_in-i.result c.args.code c.index_in-i.ensures c.if-i-lt14.true) at c.put.ensures
 
 pub returns-else-i-lt14 : goal.returns-else-i-lt14
 returns-else-i-lt14 c =
-    let at-if1 = c in
-    let at-index-in = c in
-    let start = c in
-    let p = c in rw (← none_is c.index_in-i.result c.args.code c.index_in-i.ensures c.if-i-lt14.false) c.put-else-i-lt14.ensures
+    rw (← none_is c.index_in-i.result c.args.code c.index_in-i.ensures c.if-i-lt14.false) c.put-else-i-lt14.ensures

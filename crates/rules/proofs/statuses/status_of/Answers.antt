@@ -15,14 +15,10 @@ returns-then-not-mark c = no_space c.args.s.now (sym c.is_number.ensures ∙ not
 
 pub overflow_cast-result : goal.overflow_cast-result
 overflow_cast-result c =
-    let at-is-number = c in
-    let start = c in
     omega (arith, code_fits c.args.s.now (sym c.is_number.ensures ∙ not-false _ c.if-not-is_number.false-raw))
 
 pub returns : goal.returns
 returns c =
-    let at-is-number = c in
-    let start = c in
     ap Code c.number_at.ensures
     ∙ good-status c.args.s.now (sym c.is_number.ensures ∙ not-false _ c.if-not-is_number.false-raw)
     (sym c.mark.ensures ∙ not-false _ c.if-not-mark.false-raw)

@@ -9,15 +9,12 @@ loop-i-init c = (omega arith, (omega arith, (refl, omega arith)))
 
 pub returns-then-or : goal.returns-then-or
 returns-then-or c =
-    let l = c in
     let s = c.args.s.now in
     memo_stops s c.loop-i.i c.loop-i.invariant.1.1.0 _ c.or.ensures (omega arith) c.if-or.true
 
 pub loop-i-preserved-then-among : goal.loop-i-preserved-then-among
 loop-i-preserved-then-among c =
-    let at-loop = c in
-    let start = c in
-    let l = c in let s = c.args.s.now in (
+    let s = c.args.s.now in (
       omega arith,
       (
         omega arith,
@@ -30,9 +27,7 @@ loop-i-preserved-then-among c =
 
 pub loop-i-preserved : goal.loop-i-preserved
 loop-i-preserved c =
-    let at-loop = c in
-    let start = c in
-    let l = c in let s = c.args.s.now in (
+    let s = c.args.s.now in (
       omega arith,
       (
         omega arith,
@@ -44,4 +39,4 @@ loop-i-preserved c =
     )
 
 pub returns : goal.returns
-returns c = let l = c in memo_ends c.args.s.now c.loop-i.i c.loop-i.n c.loop-i.invariant.1.1.0 (omega arith) c.loop-i.invariant.1.1.1
+returns c = memo_ends c.args.s.now c.loop-i.i c.loop-i.n c.loop-i.invariant.1.1.0 (omega arith) c.loop-i.invariant.1.1.1

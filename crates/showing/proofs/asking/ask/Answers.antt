@@ -6,63 +6,29 @@ use mathlib.Core.Path.{◌∙◌, sym}
 
 pub returns-then-same : goal.returns-then-same
 returns-then-same c =
-    let at_same = c in
-    let start = c in
     let x = c.args in says x.out.now (asks_read x.ceiling x.name.now x.words.now (sym c.same.ensures ∙ c.if-same.true))
     c.read.ensures
 
 pub returns-then-same-2 : goal.returns-then-same-2
 returns-then-same-2 c =
-    let at-if2 = c in
-    let at-same2 = c in
-    let at-if1 = c in
-    let at_same = c in
-    let start = c in
     let x = c.args in says x.out.now
     (asks-reply x.ceiling x.name.now x.words.now (sym c.same.ensures ∙ c.if-same.false) (sym c.same-2.ensures ∙ c.if-same-2.true))
     c.reply.ensures
 
 pub returns-then-same-3 : goal.returns-then-same-3
 returns-then-same-3 c =
-    let at-if3 = c in
-    let at-same3 = c in
-    let at-if2 = c in
-    let at-same2 = c in
-    let at-if1 = c in
-    let at_same = c in
-    let start = c in
     let x = c.args in says x.out.now
     (asks-add x.ceiling x.name.now x.words.now (sym c.same.ensures ∙ c.if-same.false) (sym c.same-2.ensures ∙ c.if-same-2.false)
     (sym c.same-3.ensures ∙ c.if-same-3.true)) c.edit.ensures
 
 pub returns-then-same-4 : goal.returns-then-same-4
 returns-then-same-4 c =
-    let at-if4 = c in
-    let at-same4 = c in
-    let at-if3 = c in
-    let at-same3 = c in
-    let at-if2 = c in
-    let at-same2 = c in
-    let at-if1 = c in
-    let at_same = c in
-    let start = c in
     let x = c.args in says x.out.now
     (asks-remove x.ceiling x.name.now x.words.now (sym c.same.ensures ∙ c.if-same.false) (sym c.same-2.ensures ∙ c.if-same-2.false)
     (sym c.same-3.ensures ∙ c.if-same-3.false) (sym c.same-4.ensures ∙ c.if-same-4.true)) c.edit-then-same-4.ensures
 
 pub returns-then-same-5 : goal.returns-then-same-5
 returns-then-same-5 c =
-    let at-if5 = c in
-    let at-same5 = c in
-    let at-if4 = c in
-    let at-same4 = c in
-    let at-if3 = c in
-    let at-same3 = c in
-    let at-if2 = c in
-    let at-same2 = c in
-    let at-if1 = c in
-    let at_same = c in
-    let start = c in
     let x = c.args in says x.out.now
     (asks-text x.ceiling x.name.now x.words.now (sym c.same.ensures ∙ c.if-same.false) (sym c.same-2.ensures ∙ c.if-same-2.false)
     (sym c.same-3.ensures ∙ c.if-same-3.false) (sym c.same-4.ensures ∙ c.if-same-4.false) (sym c.same-5.ensures ∙ c.if-same-5.true))
@@ -70,15 +36,6 @@ returns-then-same-5 c =
 
 pub returns : goal.returns
 returns c =
-    let at-if4 = c in
-    let at-same4 = c in
-    let at-if3 = c in
-    let at-same3 = c in
-    let at-if2 = c in
-    let at-same2 = c in
-    let at-if1 = c in
-    let at_same = c in
-    let start = c in
     let x = c.args in says x.out.now
     (asks_else x.ceiling x.name.now x.words.now (sym c.same.ensures ∙ c.if-same.false) (sym c.same-2.ensures ∙ c.if-same-2.false)
     (sym c.same-3.ensures ∙ c.if-same-3.false) (sym c.same-4.ensures ∙ c.if-same-4.false)

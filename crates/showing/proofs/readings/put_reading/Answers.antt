@@ -18,9 +18,6 @@ returns-in-Read c = rw c.in-Read.is
 
 pub returns-in-Refused : goal.returns-in-Refused
 returns-in-Refused c =
-    let at-put2 = c in
-    let at-verdict = c in
-    let start = c in
     let v = c.verdict-1.given in
     rw v.1 (
       reading-refused c.args.out.now v.0.0 v.0.1.0 c.put-before_number.ensures c.put_number-before_place.ensures c.put_number.ensures,

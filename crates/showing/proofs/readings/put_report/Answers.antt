@@ -4,6 +4,5 @@ use Rattle.showing.proofs.readings.put_report.Goals as goal
 
 pub returns : goal.returns
 returns c =
-    let at-put-reading = c in
     let x = c.args in
     report_shown x.out.now x.report c.put_reading-before_count.ensures.0 c.put_number.ensures

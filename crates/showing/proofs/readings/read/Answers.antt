@@ -15,8 +15,6 @@ returns-then-n-gt85000 c =
 
 pub returns : goal.returns
 returns c =
-    let at-take-bytes = c in
-    let start = c in
     let x = c.args in
     let t = c.take_bytes-n.ensures in
     says x.out.now (read-good x.ceiling x.word.now (got_true (is_bytes x.word.now) t c.if-n-gt85000.false))

@@ -7,14 +7,10 @@ use native.Mathlib.Omega.{arith}
 
 pub returns-then-s-eq0 : goal.returns-then-s-eq0
 returns-then-s-eq0 c =
-    let at-if1 = c in
-    let start = c in
     rw (← hex-none c.args.s.now c.if-s-eq0.true) c.put.ensures
 
 pub returns : goal.returns
 returns c =
-    let at-if1 = c in
-    let start = c in
     let x = c.args in
     let e = c.encode.ensures in
     rw (← hex-some x.s.now c.if-s-eq0.false) (omega (arith, e.0, length-encoded x.s.now), behind x.out.now x.at (encoded x.s.now) e.1)

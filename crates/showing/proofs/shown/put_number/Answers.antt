@@ -13,8 +13,6 @@ put-requires c = omega (arith, shown-length c.args.n (omega arith))
 
 pub returns : goal.returns
 returns c =
-    let at-put-decimal = c in
-    let start = c in
     let x = c.args in
     put_two x.out.now x.at (shown x.n) x.then.now (omega (arith, shown-length x.n (omega arith))) c.put_decimal-behind.ensures
     c.put.ensures

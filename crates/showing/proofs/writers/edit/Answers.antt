@@ -12,16 +12,12 @@ returns-then-a-gt85000 c =
 
 pub edit_destination-requires : goal.edit_destination-requires
 edit_destination-requires c =
-    let at-take-first = c in
-    let start = c in
     let x = c.args in
     let l = first_taken x.words.now x.bytes.now 0 _ _ (omega arith) c.take_first-a.ensures (omega arith) (omega arith) in
     (rw c.rest.ensures l.bound, l.within)
 
 pub returns : goal.returns
 returns c =
-    let at-take-first = c in
-    let start = c in
     let x = c.args in
     let l = first_taken x.words.now x.bytes.now 0 _ _ (omega arith) c.take_first-a.ensures (omega arith) (omega arith) in
     edit_first x.out.now x.adds l c.rest.ensures c.edit_destination.ensures

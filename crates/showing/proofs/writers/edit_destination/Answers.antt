@@ -7,25 +7,18 @@ use native.Mathlib.Omega.{arith}
 
 pub returns-then-b-gt85000 : goal.returns-then-b-gt85000
 returns-then-b-gt85000 c =
-    let s = c in
     let x = c.args in
     says x.out.now (sym (first-refused x.words.now x.bytes.now x.a _ _ c.requires.0 c.take_first-b.ensures c.if-b-gt85000.true
     _)) c.put_unknown.ensures
 
 pub edit_organization-requires : goal.edit_organization-requires
 edit_organization-requires c =
-    let at-take-first = c in
-    let start = c in
-    let s = c in
     let x = c.args in
     let l = first_taken x.words.now x.bytes.now x.a _ _ c.requires.0 c.take_first-b.ensures c.requires.1 (omega arith) in
     (l.order, rw c.rest.ensures l.bound, l.within)
 
 pub returns : goal.returns
 returns c =
-    let at-take-first = c in
-    let start = c in
-    let s = c in
     let x = c.args in
     let l = first_taken x.words.now x.bytes.now x.a _ _ c.requires.0 c.take_first-b.ensures c.requires.1 (omega arith) in
     edit_second x.out.now x.adds x.bytes.now x.a l c.rest.ensures c.edit_organization.ensures

@@ -11,12 +11,10 @@ use native.Mathlib.Omega.{arith}
 
 pub put_hex-p-requires : goal.put_hex-p-requires
 put_hex-p-requires c =
-    let start = c in
     omega (arith, ap length c.next_hop.ensures, hop-short c.args.s.now c.args.r)
 
 pub put-requires : goal.put-requires
 put-requires c =
-    let start = c in
     omega (
       arith,
       ap length c.next_hop.ensures,
@@ -27,12 +25,6 @@ put-requires c =
 
 pub returns : goal.returns
 returns c =
-    let at-next-hop = c in
-    let at-put = c in
-    let at-put-room = c in
-    let at-put-head = c in
-    let at-written-of = c in
-    let start = c in
     let x = c.args in
     let room = take x.n x.room.now in
     let p = c.put_room-p.ensures in

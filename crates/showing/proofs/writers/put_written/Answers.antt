@@ -8,8 +8,6 @@ use mathlib.Core.List.{[], ◌∷◌}
 
 pub returns : goal.returns
 returns c =
-    let at-put-head = c in
-    let start = c in
     let x = c.args in
     let room = take x.n x.room.now in
     let p = c.put_room-p.ensures in

@@ -4,6 +4,5 @@ use Rattle.showing.proofs.writers.remove_into.Goals as goal
 
 pub returns : goal.returns
 returns c =
-    let start = c in
     took-part c.args.n c.args.room.now c.remove.new.0 _ c.requires c.remove.auto.0
     c.remove.ensures

@@ -14,8 +14,6 @@ returns-then-not-has_space c =
 
 pub returns-then-code-gt65535 : goal.returns-then-code-gt65535
 returns-then-code-gt65535 c =
-    let at_first = c in
-    let start = c in
     let x = c.args in
     reply-refused x.out.now x.words.now
     (number-large 65535 x.words.now (rw (c.number_to-code.ensures, c.first.ensures) at c.if-code-gt65535.true))
@@ -28,12 +26,6 @@ reply_dated-requires c =
 
 pub returns : goal.returns
 returns c =
-    let at-if2 = c in
-    let at-number-to = c in
-    let at_first = c in
-    let at-if1 = c in
-    let at-has-space = c in
-    let start = c in
     let x = c.args in
     let q = c.number_to-code.ensures ∙ ap (number_to 65535) c.first.ensures in
     reply-coded x.out.now x.words.now

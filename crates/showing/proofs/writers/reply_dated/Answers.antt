@@ -13,16 +13,12 @@ returns-then-d-gt85000 c =
 
 pub reply_to-requires : goal.reply_to-requires
 reply_to-requires c =
-    let at-take-first = c in
-    let start = c in
     let x = c.args in
     let l = first_taken x.words.now x.bytes.now 0 _ _ (omega arith) c.take_first-d.ensures (omega arith) (omega arith) in
     (rw c.rest.ensures l.bound, l.within)
 
 pub returns : goal.returns
 returns c =
-    let at-take-first = c in
-    let start = c in
     let x = c.args in
     let l = first_taken x.words.now x.bytes.now 0 _ _ (omega arith) c.take_first-d.ensures (omega arith) (omega arith) in
     reply-first x.out.now x.code l c.rest.ensures c.reply_to.ensures

@@ -10,12 +10,9 @@ returns-then-not-has_space c = got_none (first-none c.args.words.now (sym c.has_
 
 pub take_bytes-requires : goal.take_bytes-requires
 take_bytes-requires c =
-    let start = c in
     rw c.first.ensures (first-room c.args.words.now c.args.at c.requires)
 
 pub returns : goal.returns
 returns c =
-    let at-has-space = c in
-    let start = c in
     first_got c.args.words.now (sym c.has_space.ensures ∙ not-false _ c.if-not-has_space.false-raw)
     (rw c.first.ensures at c.take_bytes.ensures)

@@ -11,19 +11,13 @@ returns-then-not-has_space c = got_none (last_none c.args.words.now
 
 pub returns-then-room_in-gt40000 : goal.returns-then-room_in-gt40000
 returns-then-room_in-gt40000 c =
-    let start = c in
     got_none (last_none c.args.words.now (number-large 40000 c.args.words.now (rw c.room_in.ensures at c.if-room_in-gt40000.true)))
 
 pub take_bytes-requires : goal.take_bytes-requires
 take_bytes-requires c =
-    let start = c in
     rw c.rest.ensures (rest-room c.args.words.now c.args.at c.requires)
 
 pub returns : goal.returns
 returns c =
-    let at-room-in = c in
-    let at-if1 = c in
-    let at-has-space = c in
-    let start = c in
     last_got c.args.words.now (sym c.has_space.ensures ∙ not-false _ c.if-not-has_space.false-raw)
     (rw c.room_in.ensures at c.if-room_in-gt40000.false) (rw c.rest.ensures at c.take_bytes.ensures)

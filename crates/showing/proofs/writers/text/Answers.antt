@@ -11,16 +11,12 @@ returns-then-e-gt85000 c =
 
 pub write_text-requires : goal.write_text-requires
 write_text-requires c =
-    let at-room-in = c in
-    let at-take-last = c in
     let x = c.args in
     let l = last_taken x.words.now x.bytes.now 0 _ _ (omega arith) c.take_last-e.ensures (omega arith) (omega arith) in
     rw c.room_in-n.ensures l.small
 
 pub returns : goal.returns
 returns c =
-    let at-room-in = c in
-    let at-take-last = c in
     let x = c.args in
     let l = last_taken x.words.now x.bytes.now 0 _ _ (omega arith) c.take_last-e.ensures (omega arith) (omega arith) in
     text-last x.out.now x.words.now l c.room_in-n.ensures c.write_text.ensures

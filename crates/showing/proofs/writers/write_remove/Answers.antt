@@ -5,7 +5,5 @@ use Rattle.showing.proofs.writers.write_remove.Goals as goal
 
 pub returns : goal.returns
 returns c =
-    let at_fill_lem = c in
-    let start = c in
     says c.args.out.now (took_line_lem c.args.n _ c.requires.0 c.fill.ensures c.args.s.now c.remove_into-r.ensures)
     c.put_removed.ensures

@@ -5,6 +5,4 @@ use Rattle.showing.proofs.writers.write_reply.Goals as goal
 
 pub returns : goal.returns
 returns c =
-    let at_fill_lem = c in
-    let start = c in
     says c.args.out.now (wrote_line_lem c.args.n _ c.requires c.fill.ensures c.reply_into-w.ensures) c.put_written.ensures

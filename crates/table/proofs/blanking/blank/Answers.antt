@@ -11,18 +11,10 @@ returns-then-count-gt-MOST_RECORDS c = too_many c.args.out.now c.args.count (ome
 
 pub returns-then-out-n : goal.returns-then-out-n
 returns-then-out-n c =
-    let o = c in
     wrong-length c.args.out.now c.args.count (omega arith) (omega arith) c.if-out-n.true
 
 pub returns : goal.returns
 returns c =
-    let at-put = c in
-    let at-header = c in
-    let at-if3 = c in
-    let at-if2 = c in
-    let at-if1 = c in
-    let start = c in
-    let o = c in
     made c.args.out.now c.args.count
     c.if-count-lt1.false
     c.if-count-gt-MOST_RECORDS.false

@@ -8,25 +8,19 @@ use borrow.Author.Tests.{not-true}
 
 pub returns-then-not-same_at_once : goal.returns-then-not-same_at_once
 returns-then-not-same_at_once c =
-    let o = c in
     rooms-apart c.args.r.now c.args.s.now c.requires.0 c.requires.1 c.requires.2 c.requires.3
     (through-both same c.same_at_once.ensures c.call_id_room.ensures.0
     c.call_id_room-2.ensures.0 (not-true _ c.if-not-same_at_once.true-raw))
 
 pub returns-then-r-eq0 : goal.returns-then-r-eq0
 returns-then-r-eq0 c =
-    let o = c in
     apart-first c.args.r.now c.args.s.now c.if-r-eq0.true
 
 pub returns-then-s-eq0 : goal.returns-then-s-eq0
 returns-then-s-eq0 c =
-    let o = c in
     apart-second c.args.r.now c.args.s.now c.if-r-eq0.false c.if-s-eq0.true
 
 pub returns : goal.returns
 returns c =
-    let at-if2 = c in
-    let start = c in
-    let o = c in
     apart-texts c.args.r.now c.args.s.now c.if-r-eq0.false
     c.if-s-eq0.false c.text.ensures c.text-2.ensures c.same.ensures

@@ -16,39 +16,29 @@ pub loop-l-init : goal.loop-l-init
 loop-l-init c = (search rules, λ j h. absurd (omega arith))
 
 pub is_apart-requires : goal.is_apart-requires
-is_apart-requires c =
-    let o = c in (
-      search rules,
-      search rules,
-      call_id_padded c.args.t.now c.args.k c.requires.1 c.requires.0 c.record_at-r.ensures.0,
-      call_id_padded c.args.t.now c.loop-l.l c.requires.1 (omega arith) c.record_at.ensures.0,
-    )
+is_apart-requires c = (
+  search rules,
+  search rules,
+  call_id_padded c.args.t.now c.args.k c.requires.1 c.requires.0 c.record_at-r.ensures.0,
+  call_id_padded c.args.t.now c.loop-l.l c.requires.1 (omega arith) c.record_at.ensures.0,
+)
 
 pub returns-then-not-is_apart : goal.returns-then-not-is_apart
 unfolding apart_before
 returns-then-not-is_apart c =
-    let at-loop = c in
-    let at-record-at = c in
-    let start = c in
-    let o = c in
     sym (every-stops (λ l. apart (record_at c.args.t.now c.args.k) (record_at c.args.t.now l)) c.args.k
     c.loop-l.l (omega arith)
     (through-both apart c.is_apart.ensures c.record_at-r.ensures.0
     c.record_at.ensures.0 (not-true _ c.if-not-is_apart.true-raw)))
 
 pub loop-l-preserved : goal.loop-l-preserved
-loop-l-preserved c =
-    let at-loop = c in
-    let at-record-at = c in
-    let start = c in
-    let o = c in
-    let l = c in (
-      search rules,
-      below_more (λ c. apart (record_at c.args.t.now c.args.k) (record_at c.args.t.now c) ≡ true) c.loop-l.l
-          c.loop-l.invariant.1 (through-both apart c.is_apart.ensures
-          c.record_at-r.ensures.0 c.record_at.ensures.0
-          (not-false _ c.if-not-is_apart.false-raw)),
-    )
+loop-l-preserved c = (
+  search rules,
+  below_more (λ j. apart (record_at c.args.t.now c.args.k) (record_at c.args.t.now j) ≡ true) c.loop-l.l
+      c.loop-l.invariant.1 (through-both apart c.is_apart.ensures
+      c.record_at-r.ensures.0 c.record_at.ensures.0
+      (not-false _ c.if-not-is_apart.false-raw)),
+)
 
 pub returns : goal.returns
 unfolding apart_before

@@ -28,31 +28,22 @@ is_new-requires c = (
 pub returns-then-not-is_new : goal.returns-then-not-is_new
 unfolding distinct
 returns-then-not-is_new c =
-    let at-loop = c in
-    let start = c in
-    let o = c in
     sym (every-stops (apart_before c.args.t.now) (record_count c.args.t.now)
     c.loop-k.k (omega arith)
     (sym c.is_new.ensures ∙ not-true _ c.if-not-is_new.true-raw))
 
 pub loop-k-preserved : goal.loop-k-preserved
-loop-k-preserved c =
-    let at-text = c in
-    let at-record-at = c in
-    let at-loop = c in
-    let start = c in
-    let o = c in
-    let l = c in (
-      search rules,
-      search rules,
-      simp length-set c.loop-k.invariant.2,
-      marks-more c.args.t.now c.loop-k.marks c.loop-k.k
-          c.loop-k.invariant.3 (omega arith) (mark_of_lem c.mark-m.ensures
-          c.text.ensures c.record_at.ensures.0),
-      below_more
-          (λ c. apart_before c.args.t.now c ≡ true) c.loop-k.k c.loop-k.invariant.4
-          (sym c.is_new.ensures ∙ not-false _ c.if-not-is_new.false-raw),
-    )
+loop-k-preserved c = (
+  search rules,
+  search rules,
+  simp length-set c.loop-k.invariant.2,
+  marks-more c.args.t.now c.loop-k.marks c.loop-k.k
+      c.loop-k.invariant.3 (omega arith) (mark_of_lem c.mark-m.ensures
+      c.text.ensures c.record_at.ensures.0),
+  below_more
+      (λ j. apart_before c.args.t.now j ≡ true) c.loop-k.k c.loop-k.invariant.4
+      (sym c.is_new.ensures ∙ not-false _ c.if-not-is_new.false-raw),
+)
 
 pub returns : goal.returns
 unfolding distinct

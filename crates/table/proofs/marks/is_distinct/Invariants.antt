@@ -9,8 +9,8 @@ use mathlib.Core.Bool.{true}
 use mathlib.Core.Path.{◌≡◌}
 
 abbrev pub invariant-loop-k : goal.invariant-loop-k
-invariant-loop-k l =
-    (l.k ≤ l.n) × (l.n ≡ record_count l.t) × (length l.marks ≡ 255) × Marks l.t l.marks l.k × ((l : ℕ) → l < l.k → apart_before l.t l ≡ true)
+invariant-loop-k at =
+    (at.k ≤ at.n) × (at.n ≡ record_count at.t) × (length at.marks ≡ 255) × Marks at.t at.marks at.k × ((l : ℕ) → l < at.k → apart_before at.t l ≡ true)
 
 abbrev pub decreases-loop-k : goal.decreases-loop-k
 decreases-loop-k l = l.n - l.k

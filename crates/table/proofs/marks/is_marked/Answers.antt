@@ -10,8 +10,6 @@ loop-i-init c = (search rules, marked-none c.args.marks.now c.args.m)
 
 pub loop-i-preserved : goal.loop-i-preserved
 loop-i-preserved c =
-    let o = c in
-    let l = c in
     (search rules, c.or-hit.ensures ∙ rw c.loop-i.invariant.1 (marked_more c.args.marks.now c.loop-i.i c.args.m))
 
 pub returns : goal.returns

@@ -6,11 +6,9 @@ use mathlib.Core.Path.{sym, ◌∙◌}
 
 pub returns-then-t-k-eq0 : goal.returns-then-t-k-eq0
 returns-then-t-k-eq0 c =
-    let o = c in
     free-apart-before c.args.t.now c.args.k (is_free_lem c.args.t.now c.args.k c.if-t-k-eq0.true)
 
 pub returns : goal.returns
 returns c =
-    let o = c in
     unmarked-apart c.args.t.now c.args.marks.now c.args.k c.args.m c.requires.3 c.requires.2
     (sym c.is_marked.ensures ∙ c.if-is_marked.false)

@@ -9,13 +9,12 @@ pub loop-i-init : goal.loop-i-init
 loop-i-init c = (search rules, search rules, refl)
 
 pub loop-i-preserved : goal.loop-i-preserved
-loop-i-preserved c =
-    let l = c in (
-      search rules,
-      omega arith,
-      rw c.wide.ensures.0
-          (c.loop-i.invariant.2 ∙ mark_more c.args.s.now c.loop-i.i c.loop-i.v (omega arith)),
-    )
+loop-i-preserved c = (
+  search rules,
+  omega arith,
+  rw c.wide.ensures.0
+      (c.loop-i.invariant.2 ∙ mark_more c.args.s.now c.loop-i.i c.loop-i.v (omega arith)),
+)
 
 pub returns : goal.returns
 returns c =

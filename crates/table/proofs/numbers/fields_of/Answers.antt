@@ -4,9 +4,5 @@ use Rattle.table.proofs.numbers.fields_of.Goals as goal
 
 pub returns : goal.returns
 returns c =
-    let at-word-at3 = c in
-    let at-word-at2 = c in
-    let at-word-at = c in
-    let start = c in
     fields_made c.args.r.now c.word_at.ensures c.word_at-2.ensures
     c.word_at-3.ensures c.number_at.ensures c.number_at-2.ensures c.number_at-3.ensures

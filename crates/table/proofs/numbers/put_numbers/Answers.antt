@@ -4,8 +4,5 @@ use Rattle.table.proofs.numbers.put_numbers.Goals as goal
 
 pub returns : goal.returns
 returns c =
-    let at-put-counts = c in
-    let start = c in
-    let o = c in
     numbers-written c.args.out.now c.args.p c.args.f c.requires
     c.put_counts.ensures c.put_times.ensures

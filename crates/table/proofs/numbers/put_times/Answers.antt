@@ -4,10 +4,6 @@ use Rattle.table.proofs.numbers.put_times.Goals as goal
 
 pub returns : goal.returns
 returns c =
-    let at-put = c in
-    let at-put-number2 = c in
-    let at-put-number = c in
-    let start = c in
     let o =
     c in
     times-written c.args.out.now c.args.p c.args.f c.requires

@@ -14,17 +14,14 @@ overflow_mul-v c = omega (arith, span_three c.loop-i.i c.loop-i.v (omega arith) 
 
 pub overflow_add-v : goal.overflow_add-v
 overflow_add-v c =
-    let l = c in
     omega (arith, span_three c.loop-i.i c.loop-i.v (omega arith) c.loop-i.invariant.2)
 
 pub loop-i-preserved : goal.loop-i-preserved
-loop-i-preserved c =
-    let o = c in
-    let l = c in (
-      search rules,
-      number_more c.args.s.now c.args.at c.loop-i.i c.loop-i.invariant.1 (omega arith) c.wide.ensures.0,
-      span_more c.loop-i.i c.loop-i.invariant.2 c.wide.ensures.1,
-    )
+loop-i-preserved c = (
+  search rules,
+  number_more c.args.s.now c.args.at c.loop-i.i c.loop-i.invariant.1 (omega arith) c.wide.ensures.0,
+  span_more c.loop-i.i c.loop-i.invariant.2 c.wide.ensures.1,
+)
 
 pub returns : goal.returns
 returns c = let e : c.loop-i.i ≡ 4 = omega arith in rw e at c.loop-i.invariant.1

@@ -4,12 +4,6 @@ use Rattle.table.proofs.records.open.Goals as goal
 
 pub returns : goal.returns
 returns c =
-    let at-put-text4 = c in
-    let at-put-text3 = c in
-    let at-put-text2 = c in
-    let at-put-text = c in
-    let at-put = c in
-    let start = c in
-    let o = c in opened c.args.call_id.now c.args.user.now c.args.caller-fire.now c.args.callee-fire.now c.args.f c.requires.1 c.requires.2 c.requires.3
+    opened c.args.call_id.now c.args.user.now c.args.caller_fire.now c.args.callee_fire.now c.args.f c.requires.1 c.requires.2 c.requires.3
     c.requires.4 c.args.t.now c.args.k c.requires.0 c.put.ensures.1 c.put_text.ensures c.put_text-2.ensures
     c.put_text-3.ensures c.put_text-4.ensures c.put_numbers.ensures

@@ -5,5 +5,4 @@ use mathlib.Core.Path.{◌∙◌}
 
 pub returns : goal.returns
 returns c =
-    let o = c in
     c.clear.ensures ∙ released c.args.t.now c.args.k

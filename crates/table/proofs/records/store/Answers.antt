@@ -4,8 +4,5 @@ use Rattle.table.proofs.records.store.Goals as goal
 
 pub returns : goal.returns
 returns c =
-    let at-put = c in
-    let start = c in
-    let o = c in
     stored c.args.t.now c.args.k c.args.f c.requires c.put.ensures.1
     c.put_numbers.ensures

@@ -16,24 +16,16 @@ loop-k-init c = (search rules, search rules, λ l h. absurd (omega arith))
 pub returns-then-is_named : goal.returns-then-is_named
 unfolding place_named
 returns-then-is_named c =
-    let at-loop = c in
-    let start = c in
-    let o = c in
-    let l = c in
     at-lowest (λ k. is_named c.args.id.now (record_at c.args.t.now k)) (record_count c.args.t.now) c.loop-k.k (omega arith) (cc)
     c.loop-k.invariant.2
 
 pub loop-k-preserved : goal.loop-k-preserved
-loop-k-preserved c =
-    let at-loop = c in
-    let start = c in
-    let o = c in
-    let l = c in (
-      search rules,
-      search rules,
-      below_more (λ k. is_named c.args.id.now (record_at c.args.t.now k) ≡ false) c.loop-k.k
-          c.loop-k.invariant.2 (cc),
-    )
+loop-k-preserved c = (
+  search rules,
+  search rules,
+  below_more (λ k. is_named c.args.id.now (record_at c.args.t.now k) ≡ false) c.loop-k.k
+      c.loop-k.invariant.2 (cc),
+)
 
 pub returns : goal.returns
 unfolding place_named

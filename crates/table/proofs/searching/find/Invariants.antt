@@ -7,7 +7,7 @@ use mathlib.Core.Bool.{false}
 use mathlib.Core.Path.{◌≡◌}
 
 abbrev pub invariant-loop-k : goal.invariant-loop-k
-invariant-loop-k l = (l.k ≤ l.n) × (l.n ≡ record_count l.t) × ((l : ℕ) → l < l.k → is_named l.id (record_at l.t l) ≡ false)
+invariant-loop-k at = (at.k ≤ at.n) × (at.n ≡ record_count at.t) × ((l : ℕ) → l < at.k → is_named at.id (record_at at.t l) ≡ false)
 
 abbrev pub decreases-loop-k : goal.decreases-loop-k
 decreases-loop-k l = l.n - l.k

@@ -17,20 +17,16 @@ loop-k-init c = (search rules, search rules, λ l h. absurd (omega arith))
 pub returns-then-t-p-eq0 : goal.returns-then-t-p-eq0
 unfolding free_place
 returns-then-t-p-eq0 c =
-    let o = c in
-    let l = c in
     at-lowest (λ k. is_free (record_at c.args.t.now k)) (record_count c.args.t.now) c.loop-k.k (omega arith)
     (is_free_lem c.args.t.now c.loop-k.k c.if-t-p-eq0.true) c.loop-k.invariant.2
 
 pub loop-k-preserved : goal.loop-k-preserved
-loop-k-preserved c =
-    let o = c in
-    let l = c in (
-      search rules,
-      search rules,
-      below_more (λ k. is_free (record_at c.args.t.now k) ≡ false) c.loop-k.k c.loop-k.invariant.2
-          (not_free c.args.t.now c.loop-k.k c.if-t-p-eq0.false),
-    )
+loop-k-preserved c = (
+  search rules,
+  search rules,
+  below_more (λ k. is_free (record_at c.args.t.now k) ≡ false) c.loop-k.k c.loop-k.invariant.2
+      (not_free c.args.t.now c.loop-k.k c.if-t-p-eq0.false),
+)
 
 pub returns : goal.returns
 unfolding free_place

@@ -4,10 +4,8 @@ use Rattle.table.proofs.searching.is_named.Goals as goal
 
 pub returns-then-r-eq0 : goal.returns-then-r-eq0
 returns-then-r-eq0 c =
-    let start = c in
     named-free c.args.id.now c.args.r.now c.if-r-eq0.true
 
 pub returns : goal.returns
 returns c =
-    let o = c in
     named-text c.args.id.now c.args.r.now c.if-r-eq0.false c.text.ensures c.same.ensures

@@ -17,24 +17,18 @@ loop-k-init c = (search rules, search rules, λ j h. absurd (omega arith))
 pub returns-then-not-is_record_sound : goal.returns-then-not-is_record_sound
 unfolding records_sound
 returns-then-not-is_record_sound c =
-    let at-loop = c in
-    let start = c in
-    let o = c in
     sym (every-stops (λ l. record_sound (record_at c.args.t.now l)) (record_count c.args.t.now)
     c.loop-k.k (omega arith)
     (through record_sound c.is_record_sound.ensures c.record_at.ensures.0 (not-true _ c.if-not-is_record_sound.true-raw)))
 
 pub loop-k-preserved : goal.loop-k-preserved
-loop-k-preserved c =
-    let at-loop = c in
-    let start = c in
-    let l = c in (
-      search rules,
-      search rules,
-      below_more (λ c. record_sound
-          (record_at c.args.t.now c) ≡ true) c.loop-k.k c.loop-k.invariant.2
-          (through record_sound c.is_record_sound.ensures c.record_at.ensures.0 (not-false _ c.if-not-is_record_sound.false-raw)),
-    )
+loop-k-preserved c = (
+  search rules,
+  search rules,
+  below_more (λ j. record_sound
+      (record_at c.args.t.now j) ≡ true) c.loop-k.k c.loop-k.invariant.2
+      (through record_sound c.is_record_sound.ensures c.record_at.ensures.0 (not-false _ c.if-not-is_record_sound.false-raw)),
+)
 
 pub returns : goal.returns
 unfolding records_sound

@@ -20,9 +20,6 @@ returns-then-t-n c =
 
 pub returns : goal.returns
 returns c =
-    let at-if3 = c in
-    let at-record-count = c in
-    let start = c in
     frame_header c.args.t.now
     c.record_count-n.result
     c.record_count-n.ensures (omega arith) (omega arith)

@@ -22,8 +22,6 @@ is_distinct-requires c = (
 
 pub returns : goal.returns
 returns c =
-    let at-is-frame-sound = c in
-    let start = c in
     only-distinct c.args.t.now
     (sym c.is_frame_sound.ensures ∙ not-false _ c.if-not-is_frame_sound.false-raw)
     (sym c.are_records_sound.ensures ∙ not-false _ c.if-not-are_records_sound.false-raw) c.is_distinct.ensures

@@ -15,15 +15,14 @@ loop-i-init c = (
 )
 
 pub loop-i-preserved : goal.loop-i-preserved
-loop-i-preserved c =
-    let o = c in (
-      search rules,
-      search rules,
-      rw c.loop-i.invariant.2
-          (clear-more c.args.out.now c.args.from c.loop-i.i (omega arith) (omega arith)),
-      simp length-set
-          c.loop-i.invariant.3,
-    )
+loop-i-preserved c = (
+  search rules,
+  search rules,
+  rw c.loop-i.invariant.2
+      (clear-more c.args.out.now c.args.from c.loop-i.i (omega arith) (omega arith)),
+  simp length-set
+      c.loop-i.invariant.3,
+)
 
 pub returns : goal.returns
 returns c = let e : c.loop-i.i ≡ c.args.to = omega arith in rw e at c.loop-i.invariant.2

@@ -5,12 +5,10 @@ use mathlib.Core.Path.{◌∙◌}
 
 pub returns-then-room-n : goal.returns-then-room-n
 returns-then-room-n c =
-    let o = c in
     not-padded c.args.r.now c.args.at c.args.room c.wide-n.result c.requires c.wide-n.ensures.0
     c.if-room-n.true
 
 pub returns : goal.returns
 returns c =
-    let o = c in
     c.all_zero.ensures ∙ rest-zero c.args.r.now c.args.at c.args.room c.wide-n.result c.requires
     c.wide-n.ensures.0 c.if-room-n.false

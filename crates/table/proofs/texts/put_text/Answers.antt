@@ -4,10 +4,6 @@ use Rattle.table.proofs.texts.put_text.Goals as goal
 
 pub returns : goal.returns
 returns c =
-    let at-put2 = c in
-    let at-put = c in
-    let start = c in
-    let o = c in
     slot_written c.args.out.now c.args.at c.args.room c.args.s.now c.requires.1 c.requires.2
     c.put.ensures.1
     c.put-e.ensures c.clear.ensures

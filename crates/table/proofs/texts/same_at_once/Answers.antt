@@ -9,14 +9,11 @@ pub loop-i-init : goal.loop-i-init
 loop-i-init c = (search rules, same_none c.args.a.now c.args.b.now)
 
 pub loop-i-preserved : goal.loop-i-preserved
-loop-i-preserved c =
-    let l = c in
-    let o = c in (
-      search rules,
-      c.and-alike.ensures ∙ rw c.loop-i.invariant.1 (same_more c.args.a.now c.args.b.now c.loop-i.i c.requires (omega arith)),
-    )
+loop-i-preserved c = (
+  search rules,
+  c.and-alike.ensures ∙ rw c.loop-i.invariant.1 (same_more c.args.a.now c.args.b.now c.loop-i.i c.requires (omega arith)),
+)
 
 pub returns : goal.returns
 returns c =
-    let o = c in
     same-all c.args.a.now c.args.b.now c.loop-i.i c.requires (omega arith) c.loop-i.invariant.1

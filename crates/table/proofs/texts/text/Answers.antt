@@ -4,12 +4,10 @@ use Rattle.table.proofs.texts.text.Goals as goal
 
 pub returns-then-n-room : goal.returns-then-n-room
 returns-then-n-room c =
-    let o = c in
     text-short c.args.r.now c.args.at c.args.room c.wide-n.result c.requires
     c.wide-n.ensures.0 c.if-n-room.true
 
 pub returns : goal.returns
 returns c =
-    let o = c in
     text-long c.args.r.now c.args.at c.args.room c.wide-n.result c.requires
     c.wide-n.ensures.0 c.if-n-room.false

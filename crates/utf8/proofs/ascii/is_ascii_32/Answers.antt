@@ -8,10 +8,6 @@ use native.Mathlib.Omega.{arith}
 
 pub returns : goal.returns
 returns c = λ t.
-    let d = c in
-    let e = c in
-    let b = c in
-    let a = c in
     let x = c.args in
     let s = x.s.now in
     let p = and_parts _ _ (sym c.and-3.ensures ∙ t) in

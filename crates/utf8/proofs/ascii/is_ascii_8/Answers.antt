@@ -9,14 +9,6 @@ use native.Mathlib.Omega.{arith}
 
 pub returns : goal.returns
 returns c = λ t.
-    let w7 = c in
-    let w6 = c in
-    let w5 = c in
-    let w4 = c in
-    let w3 = c in
-    let w2 = c in
-    let w1 = c in
-    let k = c in
     let x = c.args in
     let s = x.s.now in
     let z : x.at + 0 ≡ x.at = omega arith in

@@ -11,19 +11,16 @@ use native.Mathlib.Omega.{arith}
 
 pub returns-then-not-next : goal.returns-then-not-next
 returns-then-not-next c =
-    let n = c in
     let x = c.args in
     stops x.lo x.hi (tail ∷ []) x.s.now (x.at + 1) (omega arith) 3 (sym c.next.ensures ∙ not-true _ c.if-not-next.true-raw)
 
 pub overflow_add-at-2 : goal.overflow_add-at-2
 overflow_add-at-2 c =
-    let n = c in
     let x = c.args in
     omega (arith, inside x.s.now (x.at + 1) x.lo x.hi (omega arith) (sym c.next.ensures ∙ not-false _ c.if-not-next.false-raw))
 
 pub returns : goal.returns
 returns c =
-    let n = c in
     let x = c.args in
     c.whole.ensures
     ∙ ap (λ (t : Bool). counted t 3)

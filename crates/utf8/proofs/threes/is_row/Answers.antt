@@ -16,9 +16,6 @@ returns-then-not-among c =
 
 pub returns : goal.returns
 returns c =
-    let d = c in
-    let m = c in
-    let e = c in
     let x = c.args in
     let f : among x.from x.till (get_or x.s.now x.at 0) ≡ true = sym c.among.ensures ∙ not-false _ c.if-not-among.false-raw in
     rw (sym (three-bytes x.from x.till x.lo x.hi x.s.now x.at (omega arith)), f) (c.and.ensures ∙ rw (c.among-3.ensures, c.among-2.ensures))

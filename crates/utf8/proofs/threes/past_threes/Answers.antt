@@ -6,6 +6,5 @@ use native.Mathlib.Omega.{arith}
 
 pub loop-i-preserved : goal.loop-i-preserved
 loop-i-preserved c =
-    let l = c in
     let s = c.args.s.now in
     then s c.loop-i.invariant (passed-char s c.loop-i.i 3 (omega arith) (c.is_three.ensures (not-false _ c.if-not-is_three.false-raw)) (λ e. omega (arith, e)))

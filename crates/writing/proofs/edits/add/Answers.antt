@@ -13,26 +13,16 @@ returns-then-not-is_path c =
 
 pub add_to-requires : goal.add_to-requires
 add_to-requires c =
-    let at_read = c in
-    let at-if1 = c in
-    let at-is-path = c in
     (sym c.read.ensures ∙ c.in-Read.is, sym c.is_path.ensures ∙ not-false _ c.if-not-is_path.false-raw)
 
 pub returns-in-Refused : goal.returns-in-Refused
 returns-in-Refused c =
-    let at-is-path = c in
-    let start = c in
     let x = c.args in refused_as x.out.now Kind
     (add_none x.s.now x.host.now x.destination.now x.organization.now (sym c.is_path.ensures ∙ not-false _ c.if-not-is_path.false-raw)
     _ _ (sym c.read.ensures ∙ c.in-Refused.is))
 
 pub returns-in-Read : goal.returns-in-Read
 returns-in-Read c =
-    let at-m = c in
-    let at_read = c in
-    let at-if1 = c in
-    let at-is-path = c in
-    let start = c in
     let x = c.args in wrote_as
     (add_of x.s.now x.host.now x.destination.now x.organization.now (sym c.is_path.ensures ∙ not-false _ c.if-not-is_path.false-raw) _
     (sym c.read.ensures ∙ c.in-Read.is)) c.add_to.ensures

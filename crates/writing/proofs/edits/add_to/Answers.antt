@@ -9,39 +9,27 @@ use Rattle.writing.specs.declared.answers.Refusal.TheVariants.{Kind, Loop, Full}
 use native.Mathlib.Omega.{arith}
 
 pub returns-then-tag-ne1 : goal.returns-then-tag-ne1
-returns-then-tag-ne1 c = let x = c in
-    refused_as c.args.out.now Kind (no-adding c.args.s.now c.args.m c.args.host.now c.args.destination.now c.args.organization.now c.if-tag-ne1.true)
+returns-then-tag-ne1 c = refused_as c.args.out.now Kind (no-adding c.args.s.now c.args.m c.args.host.now c.args.destination.now c.args.organization.now c.if-tag-ne1.true)
 
 pub has_ours-requires : goal.has_ours-requires
-has_ours-requires c = let x = c in
-    via-inside ample c.args.s.now c.args.m c.requires.0 (omega (arith, c.if-tag-ne1.false))
+has_ours-requires c = via-inside ample c.args.s.now c.args.m c.requires.0 (omega (arith, c.if-tag-ne1.false))
 
 pub returns-then-has_ours : goal.returns-then-has_ours
-returns-then-has_ours c = let x = c in
-    refused_as c.args.out.now Loop
+returns-then-has_ours c = refused_as c.args.out.now Loop
     (on-trail c.args.s.now c.args.m c.args.host.now c.args.destination.now c.args.organization.now c.if-tag-ne1.false
     c.has_ours.ensures c.if-has_ours.true)
 
 pub returns-then-count-eq16 : goal.returns-then-count-eq16
 returns-then-count-eq16 c =
-    let at-if1 = c in
-    let start = c in
-    let x = c in refused_as c.args.out.now Full
+    refused_as c.args.out.now Full
     (sixteen c.args.s.now c.args.m c.args.host.now c.args.destination.now c.args.organization.now c.if-tag-ne1.false
     c.has_ours.ensures c.if-has_ours.false (trail-passed c.args.s.now c.args.m c.requires.0 (omega (arith, c.if-tag-ne1.false))) c.if-count-eq16.true)
 
 pub put_added-requires : goal.put_added-requires
-put_added-requires c = let x = c in
-    (read_short ample c.args.s.now c.args.m c.requires.0, c.requires.1)
+put_added-requires c = (read_short ample c.args.s.now c.args.m c.requires.0, c.requires.1)
 
 pub returns : goal.returns
 returns c =
-    let at-if3 = c in
-    let at-if2 = c in
-    let at-has-ours = c in
-    let at-if1 = c in
-    let start = c in
-    let x = c in
     wrote_as (an_adding c.args.s.now c.args.m c.args.host.now c.args.destination.now c.args.organization.now c.if-tag-ne1.false
     c.has_ours.ensures c.if-has_ours.false (trail-passed c.args.s.now c.args.m c.requires.0 (omega (arith, c.if-tag-ne1.false))) c.if-count-eq16.false)
     c.put_added.ensures

@@ -57,17 +57,14 @@ at5 c =
 
 pub overflow_add-total-2 : goal.overflow_add-total-2
 overflow_add-total-2 c =
-    let start = c in
     let x = c.args in omega (arith, c.requires.0, path-short x.host.now x.destination.now x.organization.now c.requires.1)
 
 pub overflow_add-total-3 : goal.overflow_add-total-3
 overflow_add-total-3 c =
-    let start = c in
     let x = c.args in omega (arith, c.requires.0, path-short x.host.now x.destination.now x.organization.now c.requires.1)
 
 pub overflow_add-total-4 : goal.overflow_add-total-4
 overflow_add-total-4 c =
-    let start = c in
     let x = c.args in omega (arith, c.requires.0, path-short x.host.now x.destination.now x.organization.now c.requires.1)
 
 pub returns-then-total-gt32768 : goal.returns-then-total-gt32768
@@ -92,46 +89,26 @@ put_both-p-requires c =
 
 pub put_both-p-requires-2 : goal.put_both-p-requires-2
 put_both-p-requires-2 c =
-    let at-put-both = c in
-    let at_part = c in
-    let at-if2 = c in
-    let start = c in
     let x = c.args in room (x.host.now ++ ascii "\",\"destination\":\"") (at1 (c))
     (simp length-append (omega (arith, fits (c), front-short x.s.now x.end c.part.ensures)))
 
 pub put_both-p-requires-3 : goal.put_both-p-requires-3
 put_both-p-requires-3 c =
-    let at-put-both2 = c in
-    let at_part = c in
-    let at-if2 = c in
-    let start = c in
     let x = c.args in room (x.destination.now ++ ascii "\",\"organization\":\"") (at2 (c))
     (simp length-append (omega (arith, fits (c), front-short x.s.now x.end c.part.ensures)))
 
 pub put_both-p-requires-4 : goal.put_both-p-requires-4
 put_both-p-requires-4 c =
-    let at-put-both3 = c in
-    let at_part = c in
-    let at-if2 = c in
-    let start = c in
     let x = c.args in room (x.organization.now ++ ascii "\"}") (at3 (c))
     (simp length-append (omega (arith, fits (c), front-short x.s.now x.end c.part.ensures)))
 
 pub put-requires : goal.put-requires
 put-requires c =
-    let at-put-both4 = c in
-    let at_part = c in
-    let at-if2 = c in
-    let start = c in
     let x = c.args in room c.part-2.result.now (at4 (c))
     (simp length-append (omega (arith, fits (c), both_long x.s.now x.end c.part.ensures c.part-2.ensures)))
 
 pub returns : goal.returns
 returns c =
-    let at_part = c in
-    let at-if2 = c in
-    let at-if1 = c in
-    let start = c in
     let x = c.args in
     done x.out.now (with_entry x.s.now x.end x.host.now x.destination.now x.organization.now)
     (length x.s.now + length x.host.now + length x.destination.now + length x.organization.now + 47)

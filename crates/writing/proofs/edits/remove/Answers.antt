@@ -18,19 +18,12 @@ remove_from-requires c = sym c.read.ensures ∙ c.in-Read.is
 
 pub returns-in-Refused : goal.returns-in-Refused
 returns-in-Refused c =
-    let at-is-path = c in
-    let start = c in
     let x = c.args in took-refused x.out.now (host_in (reading ample x.s.now)) Kind
     (remove-none x.s.now x.host.now x.destination.now x.organization.now
     (sym c.is_path.ensures ∙ not-false _ c.if-not-is_path.false-raw) _ _ (sym c.read.ensures ∙ c.in-Refused.is))
 
 pub returns-in-Read : goal.returns-in-Read
 returns-in-Read c =
-    let at-m = c in
-    let at_read = c in
-    let at-if1 = c in
-    let at-is-path = c in
-    let start = c in
     let x = c.args in let e = sym c.read.ensures ∙ c.in-Read.is in
     took_as (host_of_lem x.s.now _ e)
     (remove_of x.s.now x.host.now x.destination.now x.organization.now (sym c.is_path.ensures ∙ not-false _ c.if-not-is_path.false-raw) _ e)

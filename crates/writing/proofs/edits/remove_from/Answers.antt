@@ -10,53 +10,31 @@ use mathlib.Core.Path.{sym, ◌∙◌}
 use native.Mathlib.Omega.{arith}
 
 pub returns-then-tag-ne2 : goal.returns-then-tag-ne2
-returns-then-tag-ne2 c = let x = c in
-    took-refused c.args.out.now c.args.m.trail.host Kind (no-removing c.args.s.now c.args.m c.args.host.now c.args.destination.now c.if-tag-ne2.true)
+returns-then-tag-ne2 c = took-refused c.args.out.now c.args.m.trail.host Kind (no-removing c.args.s.now c.args.m c.args.host.now c.args.destination.now c.if-tag-ne2.true)
 
 pub returns-then-count-lt2 : goal.returns-then-count-lt2
-returns-then-count-lt2 c = let x = c in
-    took-refused c.args.out.now c.args.m.trail.host Few
+returns-then-count-lt2 c = took-refused c.args.out.now c.args.m.trail.host Few
     (too_few c.args.s.now c.args.m c.args.host.now c.args.destination.now c.if-tag-ne2.false
     (trail-passed c.args.s.now c.args.m c.requires (omega (arith, c.if-tag-ne2.false))) c.if-count-lt2.true)
 
 pub returns-then-not-is_ours : goal.returns-then-not-is_ours
 returns-then-not-is_ours c =
-    let at-if1 = c in
-    let start = c in
-    let x = c in
     took-refused c.args.out.now c.args.m.trail.host Foreign
     (not_ours c.args.s.now c.args.m c.args.host.now c.args.destination.now c.if-tag-ne2.false
     (trail-passed c.args.s.now c.args.m c.requires (omega (arith, c.if-tag-ne2.false))) c.if-count-lt2.false c.value_part.ensures
     (sym c.is_ours.ensures ∙ not-true _ c.if-not-is_ours.true-raw))
 
 pub put_removed-requires : goal.put_removed-requires
-put_removed-requires c = let x = c in
-    read_short ample c.args.s.now c.args.m c.requires
+put_removed-requires c = read_short ample c.args.s.now c.args.m c.requires
 
 pub returns-in-Done : goal.returns-in-Done
 returns-in-Done c =
-    let at-put-removed = c in
-    let at-if3 = c in
-    let at-is-ours = c in
-    let at-value-part = c in
-    let at-if2 = c in
-    let at-if1 = c in
-    let start = c in
-    let x = c in
     took-done c.args.s.now c.args.m c.args.host.now c.args.destination.now c.if-tag-ne2.false
     (trail-passed c.args.s.now c.args.m c.requires (omega (arith, c.if-tag-ne2.false))) c.if-count-lt2.false c.value_part.ensures
     (sym c.is_ours.ensures ∙ not-false _ c.if-not-is_ours.false-raw) c.in-Done.is c.put_removed.ensures
 
 pub returns-in-Refused : goal.returns-in-Refused
 returns-in-Refused c =
-    let at-put-removed = c in
-    let at-if3 = c in
-    let at-is-ours = c in
-    let at-value-part = c in
-    let at-if2 = c in
-    let at-if1 = c in
-    let start = c in
-    let x = c in
     took-not c.args.s.now c.args.m c.args.host.now c.args.destination.now c.if-tag-ne2.false
     (trail-passed c.args.s.now c.args.m c.requires (omega (arith, c.if-tag-ne2.false))) c.if-count-lt2.false c.value_part.ensures
     (sym c.is_ours.ensures ∙ not-false _ c.if-not-is_ours.false-raw) c.in-Refused.is c.put_removed.ensures

@@ -24,7 +24,6 @@ overflow_add-p c = omega (arith, c.requires)
 
 pub loop-n-init : goal.loop-n-init
 loop-n-init c =
-    let start = c in
     let x = c.args in
     let f = is_ours x.host.now x.destination.now in
     let s = x.s.now in (
@@ -37,10 +36,6 @@ loop-n-init c =
 
 pub returns-then-is_ours : goal.returns-then-is_ours
 returns-then-is_ours c =
-    let at-skip2 = c in
-    let at-loop-test = c in
-    let at-loop = c in
-    let start = c in
     let x = c.args in
     let f = is_ours x.host.now x.destination.now in
     let s = x.s.now in
@@ -52,12 +47,6 @@ returns-then-is_ours c =
 
 pub returns-then-byte-ne44 : goal.returns-then-byte-ne44
 returns-then-byte-ne44 c =
-    let at_part = c in
-    let at-element-at = c in
-    let at-skip2 = c in
-    let at-loop-test = c in
-    let at-loop = c in
-    let start = c in
     let x = c.args in
     let f = is_ours x.host.now x.destination.now in
     let s = x.s.now in
@@ -72,19 +61,10 @@ returns-then-byte-ne44 c =
 
 pub overflow_add-p-in-loop-n : goal.overflow_add-p-in-loop-n
 overflow_add-p-in-loop-n c =
-    let at-element-at = c in
-    let at-loop = c in
-    let start = c in
     omega (arith, c.loop-n.invariant.1.0, there c.args.s.now c.element_at-e.result.then 43 (sym c.byte-in-loop-n.ensures ∙ c.if-byte-ne44.false))
 
 pub loop-n-preserved : goal.loop-n-preserved
 loop-n-preserved c =
-    let at_part = c in
-    let at-element-at = c in
-    let at-skip2 = c in
-    let at-loop-test = c in
-    let at-loop = c in
-    let start = c in
     let x = c.args in
     let f = is_ours x.host.now x.destination.now in
     let s = x.s.now in

@@ -8,11 +8,10 @@ use mathlib.Core.Path.{◌∙◌}
 use native.Mathlib.Omega.{arith}
 
 pub put-p-requires : goal.put-p-requires
-put-p-requires c = let s = c in omega (arith, rw length-append at c.requires)
+put-p-requires c = omega (arith, rw length-append at c.requires)
 
 pub put-requires : goal.put-requires
 put-requires c =
-    let s = c in
     let x = c.args in
     let p : x.at + length x.first.now ≤ length x.out.now = omega (arith, rw length-append at c.requires) in
     rw (c.put-p.ensures.1, c.put-p.ensures.0, length-splice x.out.now x.at x.first.now p)
@@ -20,9 +19,6 @@ put-requires c =
 
 pub returns : goal.returns
 returns c =
-    let at-put = c in
-    let start = c in
-    let s = c in
     let x = c.args in
     let p = c.put-p.ensures in
     let q = c.put.ensures in

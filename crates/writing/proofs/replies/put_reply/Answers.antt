@@ -115,65 +115,38 @@ put-p-requires c =
 
 pub put_status-p-requires : goal.put_status-p-requires
 put_status-p-requires c =
-    let at-if2 = c in
-    let start = c in
     let x = c.args in room (status_text x.code) (at1 c) (simp length-append (omega (arith, fits (c))))
 
 pub put_both-p-requires : goal.put_both-p-requires
 put_both-p-requires c =
-    let at-put-status = c in
-    let at-if2 = c in
-    let start = c in
     let x = c.args in room (ascii "\",\"CSeq\":" ++ x.cseq.now) (at2 (c)) (simp length-append (omega (arith, fits (c))))
 
 pub put_both-p-requires-2 : goal.put_both-p-requires-2
 put_both-p-requires-2 c =
-    let at-put-both = c in
-    let at-if2 = c in
-    let start = c in
     let x = c.args in room (ascii ",\"To\":" ++ x.to.now) (at3 (c)) (simp length-append (omega (arith, fits (c))))
 
 pub put_both-p-requires-3 : goal.put_both-p-requires-3
 put_both-p-requires-3 c =
-    let at-put-both2 = c in
-    let at-if2 = c in
-    let start = c in
     let x = c.args in room (ascii ",\"From\":" ++ x.from.now) (at4 (c)) (simp length-append (omega (arith, fits (c))))
 
 pub put_both-p-requires-4 : goal.put_both-p-requires-4
 put_both-p-requires-4 c =
-    let at-put-both3 = c in
-    let at-if2 = c in
-    let start = c in
     let x = c.args in room (ascii ",\"Call-ID\":" ++ x.call.now) (at5 (c)) (simp length-append (omega (arith, fits (c))))
 
 pub put_both-p-requires-5 : goal.put_both-p-requires-5
 put_both-p-requires-5 c =
-    let at-put-both4 = c in
-    let at-if2 = c in
-    let start = c in
     let x = c.args in room (ascii ",\"Date\":\"" ++ x.date.now) (at6 (c)) (simp length-append (omega (arith, fits (c))))
 
 pub put_both-p-requires-6 : goal.put_both-p-requires-6
 put_both-p-requires-6 c =
-    let at-put-both5 = c in
-    let at-if2 = c in
-    let start = c in
     let x = c.args in room (ascii "\",\"Via\":" ++ x.via.now) (at7 (c)) (simp length-append (omega (arith, fits (c))))
 
 pub put-requires : goal.put-requires
 put-requires c =
-    let at-put-both6 = c in
-    let at-if2 = c in
-    let start = c in
     let x = c.args in room (ascii "}]") (at8 (c)) (simp length-append (omega (arith, fits (c))))
 
 pub returns : goal.returns
 returns c =
-    let at-if2 = c in
-    let at-if1 = c in
-    let at-status-length = c in
-    let start = c in
     let x = c.args in
     done x.out.now (reply_text (status_text x.code) x.cseq.now x.to.now x.from.now x.call.now x.date.now x.via.now)
     (76 + length (status_text x.code) + length x.date.now + length x.cseq.now + length x.to.now + length x.from.now + length x.call.now + length

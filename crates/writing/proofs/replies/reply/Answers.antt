@@ -14,7 +14,4 @@ returns-in-Refused c =
 
 pub returns-in-Read : goal.returns-in-Read
 returns-in-Read c =
-    let at-m = c in
-    let at_read = c in
-    let start = c in
     let x = c.args in wrote_as (reply_of_lem x.s.now _ x.code x.date.now (sym c.read.ensures ∙ c.in-Read.is)) c.reply_to.ensures

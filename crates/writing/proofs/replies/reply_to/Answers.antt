@@ -22,19 +22,12 @@ returns-then-is_wrong_code c =
 
 pub returns-then-not-is_date : goal.returns-then-not-is_date
 returns-then-not-is_date c =
-    let at-if1 = c in
-    let at-is-unanswered = c in
-    let start = c in
     let x = c.args in refused_as x.out.now Date
     (bad-date x.s.now x.m x.code x.date.now (sym c.is_unanswered.ensures ∙ c.if-is_unanswered.false)
     (sym c.is_wrong_code.ensures ∙ c.if-is_wrong_code.false) (sym c.is_date.ensures ∙ not-true _ c.if-not-is_date.true-raw))
 
 pub put_reply-requires : goal.put_reply-requires
 put_reply-requires c =
-    let at-value-part = c in
-    let at-if3 = c in
-    let at-is-date = c in
-    let start = c in
     let x = c.args in
     let e = c.requires in
     let s = x.s.now in (
@@ -53,17 +46,6 @@ put_reply-requires c =
 
 pub returns : goal.returns
 returns c =
-    let at-value-part4 = c in
-    let at-value-part3 = c in
-    let at-value-part2 = c in
-    let at-value-part = c in
-    let at-if3 = c in
-    let at-is-date = c in
-    let at-if2 = c in
-    let at-is-wrong-code = c in
-    let at-if1 = c in
-    let at-is-unanswered = c in
-    let start = c in
     let x = c.args in
     wrote_as (a-reply x.s.now x.m x.code x.date.now (sym c.is_unanswered.ensures ∙ c.if-is_unanswered.false)
     (sym c.is_wrong_code.ensures ∙ c.if-is_wrong_code.false) (sym c.is_date.ensures ∙ not-false _ c.if-not-is_date.false-raw)

@@ -16,8 +16,6 @@ returns-then-out-length c = let x = c.args in
 
 pub returns : goal.returns
 returns c =
-    let at-if3 = c in
-    let at-measure = c in
     let x = c.args in
     text-done x.out.now x.s.now c.measure-m.ensures c.if-m.false c.if-length-gt32768.false c.if-out-length.false
     c.decode.ensures
