@@ -28,9 +28,9 @@ module _ (r : Request) (c : Call) {h : Highest} {m : ℕ} (is : h ≡ highest_of
   unfolding admitted
   below e f = rw (sym is, sym by, ne_eqb _ _ e, le-leb r.number h.number (omega arith))
 
-  pub goes_on_lem : (r.number ≡ h.number → ⊥) → h.number ≤ r.number → in_talk c.state ≡ true → Goes (numbered r.from r.number m c) ≡ admitted r c
+  pub goes_on : (r.number ≡ h.number → ⊥) → h.number ≤ r.number → in_talk c.state ≡ true → Goes (numbered r.from r.number m c) ≡ admitted r c
   unfolding admitted
-  goes_on_lem e f t = rw (sym is, sym by, ne_eqb _ _ e, lt-leb r.number h.number (omega arith), t)
+  goes_on e f t = rw (sym is, sym by, ne_eqb _ _ e, lt-leb r.number h.number (omega arith), t)
 
   pub not-now : (r.number ≡ h.number → ⊥) → h.number ≤ r.number → in_talk c.state ≡ false → Stops (refused NotNow Requester) ≡ admitted r c
   unfolding admitted

@@ -138,8 +138,8 @@ module _ {s : List ℕ} {k i n : ℕ} (p : Sofar s k i n) where
       stops : n < w → i ≡ place_of s k
       stops g = sym (p.is ∙ rw e (among_them w i (places_from 0 (i + t) (drop (i + t) s)) n (length s) g))
 
-      goes_on_lem : i + t ≤ length s → w ≤ n → Sofar s k (i + t) (n - w)
-      goes_on_lem f g = record { inside = f; is = p.is ∙ rw e (behind_them w i (places_from 0 (i + t) (drop (i + t) s)) n (length s) g) }
+      goes_on : i + t ≤ length s → w ≤ n → Sofar s k (i + t) (n - w)
+      goes_on f g = record { inside = f; is = p.is ∙ rw e (behind_them w i (places_from 0 (i + t) (drop (i + t) s)) n (length s) g) }
 
     module _ (ne : get_or s i 0 ≡ 92 → ⊥) where
       turn-own : places_from 0 i (drop i s) ≡ replicate 1 i ++ places_from 0 (i + 1) (drop (i + 1) s)
@@ -150,7 +150,7 @@ module _ {s : List ℕ} {k i n : ℕ} (p : Sofar s k i n) where
       own-stops z = stops 1 1 turn-own (omega arith)
 
       pub own-more : (n ≡ 0 → ⊥) → Sofar s k (i + 1) (n - 1)
-      own-more z = goes_on_lem 1 1 turn-own (omega arith) (omega arith)
+      own-more z = goes_on 1 1 turn-own (omega arith) (omega arith)
 
     module _ (x : Escape) (f : x ≡ escape_of (drop i s)) (eq : get_or s i 0 ≡ 92) {w : ℕ} (is : w ≡ length (encoded x.code)) where
       turn-escape : places_from 0 i (drop i s) ≡ replicate w i ++ places_from 0 (i + x.took) (drop (i + x.took) s)
@@ -163,4 +163,4 @@ module _ {s : List ℕ} {k i n : ℕ} (p : Sofar s k i n) where
       escape-stops g = stops w x.took turn-escape g
 
       pub escape-more : w ≤ n → Sofar s k (i + x.took) (n - w)
-      escape-more g = goes_on_lem w x.took turn-escape (escape-room s i h x f) g
+      escape-more g = goes_on w x.took turn-escape (escape-room s i h x f) g

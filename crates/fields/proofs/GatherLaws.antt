@@ -41,9 +41,9 @@ module _ {ns : List (List ℕ)} {s : List ℕ} {o : ℕ} {at qs : List ℕ} (f :
   repeats q rest e late h = record { first = sym (f.again ∙ rw (e, h)); places = sym (f.kept ∙ rw (e, h)); all = λ z. absurd (late z) }
 
   -- the next member is none
-  pub goes_on_lem : (q : ℕ) (rest : List ℕ) {at' rest' : List ℕ} → qs ≡ q ∷ rest → has ns s at q ≡ false → at' ≡ note ns s at q → rest ≡ rest' → Sofar ns s o at' rest'
+  pub goes_on : (q : ℕ) (rest : List ℕ) {at' rest' : List ℕ} → qs ≡ q ∷ rest → has ns s at q ≡ false → at' ≡ note ns s at q → rest ≡ rest' → Sofar ns s o at' rest'
   unfolding repeated noted noted_once
-  goes_on_lem q rest e h a r =
+  goes_on q rest e h a r =
       record { again = f.again ∙ rw (e, h, ← a, r); known = f.known ∙ rw (e, ← a, r); kept = f.kept ∙ rw (e, h, ← a, r) }
 
 -- what the functions on the places say of a member

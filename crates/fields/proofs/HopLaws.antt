@@ -6,7 +6,7 @@ use Rattle.json_text.specs.inner.Landing.{Row}
 use Prim.Native.Nat.{ℕ, ◌+◌, ◌-◌, ◌<◌}
 use Rattle.json_text.proofs.PlaceLaws.{closing-is, raw-is}
 use Rattle.json_text.specs.Places.{part, past, behind, value_of, more, members, members_from}
-use Rattle.fields.proofs.GatherLaws.{Sofar, started, over, repeats, goes_on_lem, has-is, note-is, number_is, no-ends, note-ends}
+use Rattle.fields.proofs.GatherLaws.{Sofar, started, over, repeats, goes_on, has-is, note-is, number_is, no-ends, note-ends}
 use Rattle.fields.specs.Hop.{hop_of}
 use Rattle.fields.specs.Known.{empty, noted, number_at, repeated}
 use Rattle.fields.specs.Value.{word_spelled}
@@ -59,7 +59,7 @@ module _ {v : List ℕ} {o : ℕ} {m : Members} {n p : ℕ} (f : Walking v o m n
   module _ (new : r ≡ false) {m' : Members}
       (put : (m'.twice ≡ m.twice) × ((places_in m' ≡ cond (eqb k 0) (places_in m) (set (places_in m) k a)) × (ends_in m' ≡ cond (eqb k 0) (ends_in m) (set (ends_in m) k w)))) where
     next-sofar : (rest : List ℕ) → more v (members_from (n - 1) v) (value_of v q) ≡ rest → Sofar hop_members v o (places_in m') rest
-    next-sofar rest g = goes_on_lem f.sofar q (more v (members_from (n - 1) v) (value_of v q)) next (sym (has-is hop_members v (places_in m) q number seen) ∙ new)
+    next-sofar rest g = goes_on f.sofar q (more v (members_from (n - 1) v) (value_of v q)) next (sym (has-is hop_members v (places_in m) q number seen) ∙ new)
         (note-is hop_members v (places_in m) q number row.begins.is put.1.0) g
 
     next-ends : ends_in m' ≡ ends_of v (places_in m')

@@ -11,7 +11,7 @@ use Rattle.json_text.specs.Rfc7159.{JSON-text as JsonText}
 use Rattle.json_text.specs.Verdict.{TooDeep}
 use Rattle.json_text.specs.declared.Walked.{Walked}
 use Rattle.json_text.specs.declared.Walked.TheVariants.{End, Bad, Deep}
-use Rattle.json_text.proofs.Refusal.{Ends, rest, goes_on_lem, on}
+use Rattle.json_text.proofs.Refusal.{Ends, rest, goes_on, on}
 use Rattle.json_text.proofs.Complete.{complete}
 use Rattle.json_text.proofs.Sound.{sound}
 use Rattle.json_text.proofs.Raise.{raise, IsLive, is_live, up-live, up-deep, raise-text}
@@ -53,7 +53,7 @@ record Goes (b : ℕ) (m : Mode) (k : Stack) (i : ℕ) : Type 0 where
   fine : Ends (walk (b ∷ tail) m k i)
 
 go-live : (b : ℕ) (m : Mode) (k : Stack) (i : ℕ) (n : Next) → step m k b ≡ n → IsLive n → Goes b m k i
-go-live b m k i n e (is_live {m = m'} {k = k'}) = record { tail = rest m' k'; fine = subst Ends (sym (on b (rest m' k') m k i (live m' k') e)) (goes_on_lem m' k' (i + 1)) }
+go-live b m k i n e (is_live {m = m'} {k = k'}) = record { tail = rest m' k'; fine = subst Ends (sym (on b (rest m' k') m k i (live m' k') e)) (goes_on m' k' (i + 1)) }
 
 module _ (b : ℕ) (bs : List ℕ) (m : Mode) (k : Stack) (i p : ℕ) (f : Fits k) where
   here : step m k b ≡ deep → p ≡ i → At (b ∷ bs) m k i p
@@ -67,7 +67,7 @@ module _ (b : ℕ) (bs : List ℕ) (m : Mode) (k : Stack) (i p : ℕ) (f : Fits 
         split = refl;
         far = omega arith;
         more = rest m k;
-        can = goes_on_lem m k i;
+        can = goes_on m k i;
         cannot = λ u. on b u m k i deep e
             ∙ ap Deep (sym q);
         deeper = g.tail;

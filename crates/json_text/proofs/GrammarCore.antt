@@ -10,7 +10,7 @@ use lib.Dec.{eqb}
 use borrow.Author.Tests.{ne_eqb}
 use Rattle.octets.specs.Class.{all}
 use Rattle.json_text.specs.Places.{spaces, is_open, is_shut, is_mark, outside, size, is_ws}
-use Rattle.json_text.specs.Rfc7159.{Rule, Bytes, bytes as it, Byte, Range, range, ◌⨾◌, both, ◌or◌, left as one_of_lem, right, Opt, absent, present, Star, none}
+use Rattle.json_text.specs.Rfc7159.{Rule, Bytes, bytes as it, Byte, Range, range, ◌⨾◌, both, ◌or◌, left as one_of, right, Opt, absent, present, Star, none}
 use Rattle.json_text.specs.Rfc7159.{more, DIGIT, ws, value_separator, False, null, True, number, char, string, member, object, array, value}
 use Rattle.json_text.specs.inner.Derived.{shorn, bare}
 use Rattle.json_text.proofs.PlaceLaws.{left-none}
@@ -23,9 +23,9 @@ use Rattle.json_text.proofs.GrammarScan.{Passes, p_ws, p_chars, p_quote, p_value
 -- White space that is derived is blank.
 one-blank : (p : List ℕ) → (Byte 0x20 or Byte 0x09 or Byte 0x0A or Byte 0x0D) p → Blank p
 unfolding is_ws
-one-blank p (one_of_lem it) = (refl, tt)
-one-blank p (right (one_of_lem it)) = (refl, tt)
-one-blank p (right (right (one_of_lem it))) = (refl, tt)
+one-blank p (one_of it) = (refl, tt)
+one-blank p (right (one_of it)) = (refl, tt)
+one-blank p (right (right (one_of it))) = (refl, tt)
 one-blank p (right (right (right it))) = (refl, tt)
 
 pub blank-append : (p q : List ℕ) → Blank p → Blank q → Blank (p ++ q)
@@ -58,7 +58,7 @@ u-range {lo} {hi} f = record { all_of = plain-range lo hi f }
 
 module _ (A B : Rule) where
   plain-or : Plain A → Plain B → (s : List ℕ) → (A or B) s → Unmarked s
-  plain-or f g s (one_of_lem y) = f.all_of s y
+  plain-or f g s (one_of y) = f.all_of s y
   plain-or f g s (right y) = g.all_of s y
 
   plain-both : Plain A → Plain B → (s : List ℕ) → (A ⨾ B) s → Unmarked s
@@ -127,7 +127,7 @@ front b t l h₁ h₂ h₃ = record {
 
 number-front : (v : List ℕ) → number v → Front v
 number-front v (both (present it) r) = front 45 _ (omega arith) (omega arith) (omega arith) (omega arith)
-number-front v (both absent (both (one_of_lem it) r)) = front 48 _ (omega arith) (omega arith) (omega arith) (omega arith)
+number-front v (both absent (both (one_of it) r)) = front 48 _ (omega arith) (omega arith) (omega arith) (omega arith)
 number-front v (both absent (both (right (both (range {b} l u) ds)) r)) = front b _ (omega arith) (omega arith) (omega arith) (omega arith)
 
 -- the last byte of a value is no white space
@@ -278,7 +278,7 @@ array-core d v (both (both {s = w} h (both {t = w₂} it h₂)) (both {s = o} x 
   behind = blank_of z g₂;
   sized = λ t m. record { starts = (ws_91, refl); ends = array_size (value d) (p_value d) (w₂ ++ (o ++ (e ++ (93 ∷ [])))) t (both h₂ (both x (both g it))) };
   inked = record { before = 91 ∷ (w₂ ++ (o ++ e)); last = 93; is = simp append_assoc; ink = ws_93 };
-  derives = right (right (right (right (one_of_lem (both (both none (both it h₂)) (both x (both g (both it none))))))));
+  derives = right (right (right (right (one_of (both (both none (both it h₂)) (both x (both g (both it none))))))));
 }
 
 object-core : (d : ℕ) (v : List ℕ) → object (value d) v → Core (suc d) v
@@ -291,20 +291,20 @@ object-core d v (both (both {s = w} h (both {t = w₂} it h₂)) (both {s = o} x
   behind = blank_of z g₂;
   sized = λ t m. record { starts = (ws_123, refl); ends = object-size (value d) (p_value d) (w₂ ++ (o ++ (e ++ (125 ∷ [])))) t (both h₂ (both x (both g it))) };
   inked = record { before = 123 ∷ (w₂ ++ (o ++ e)); last = 125; is = simp append_assoc; ink = ws_125 };
-  derives = right (right (right (one_of_lem (both (both none (both it h₂)) (both x (both g (both it none)))))));
+  derives = right (right (right (one_of (both (both none (both it h₂)) (both x (both g (both it none)))))));
 }
 
 pub core_of : (d : ℕ) (v : List ℕ) → value d v → Core d v
-core_of zero v (one_of_lem x) = false-core zero v x (one_of_lem x)
-core_of zero v (right (one_of_lem x)) = null-core zero v x (right (one_of_lem x))
-core_of zero v (right (right (one_of_lem x))) = true-core zero v x (right (right (one_of_lem x)))
-core_of zero v (right (right (right (one_of_lem x)))) = scalar_core zero v (number-front v x) (u-number.all_of v x) (right (right (right (one_of_lem x))))
+core_of zero v (one_of x) = false-core zero v x (one_of x)
+core_of zero v (right (one_of x)) = null-core zero v x (right (one_of x))
+core_of zero v (right (right (one_of x))) = true-core zero v x (right (right (one_of x)))
+core_of zero v (right (right (right (one_of x)))) = scalar_core zero v (number-front v x) (u-number.all_of v x) (right (right (right (one_of x))))
 core_of zero v (right (right (right (right x)))) = string-core zero v x (right (right (right (right x))))
-core_of (suc d) v (one_of_lem x) = false-core (suc d) v x (one_of_lem x)
-core_of (suc d) v (right (one_of_lem x)) = null-core (suc d) v x (right (one_of_lem x))
-core_of (suc d) v (right (right (one_of_lem x))) = true-core (suc d) v x (right (right (one_of_lem x)))
-core_of (suc d) v (right (right (right (one_of_lem x)))) = object-core d v x
-core_of (suc d) v (right (right (right (right (one_of_lem x))))) = array-core d v x
-core_of (suc d) v (right (right (right (right (right (one_of_lem x)))))) = scalar_core (suc d) v (number-front v x) (u-number.all_of v x)
-    (right (right (right (right (right (one_of_lem x))))))
+core_of (suc d) v (one_of x) = false-core (suc d) v x (one_of x)
+core_of (suc d) v (right (one_of x)) = null-core (suc d) v x (right (one_of x))
+core_of (suc d) v (right (right (one_of x))) = true-core (suc d) v x (right (right (one_of x)))
+core_of (suc d) v (right (right (right (one_of x)))) = object-core d v x
+core_of (suc d) v (right (right (right (right (one_of x))))) = array-core d v x
+core_of (suc d) v (right (right (right (right (right (one_of x)))))) = scalar_core (suc d) v (number-front v x) (u-number.all_of v x)
+    (right (right (right (right (right (one_of x))))))
 core_of (suc d) v (right (right (right (right (right (right x)))))) = string-core (suc d) v x (right (right (right (right (right (right x))))))

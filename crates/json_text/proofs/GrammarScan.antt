@@ -9,7 +9,7 @@ use lib.ListN.{length, length-append}
 use lib.Dec.{eqb}
 use borrow.Author.Tests.{ne_eqb}
 use Rattle.json_text.specs.Places.{is_open, is_shut, Inside, outside, quoted, escaped, left}
-use Rattle.json_text.specs.Rfc7159.{Rule, Bytes, bytes as it, Byte, Range, range, AtLeast, at_least, ◌⨾◌, both, ◌or◌, left as one_of_lem, right, Opt, absent}
+use Rattle.json_text.specs.Rfc7159.{Rule, Bytes, bytes as it, Byte, Range, range, AtLeast, at_least, ◌⨾◌, both, ◌or◌, left as one_of, right, Opt, absent}
 use Rattle.json_text.specs.Rfc7159.{present, Star, none, more, DIGIT, HEXDIG, ws, name_separator, value_separator, False, null, True, number, char, string}
 use Rattle.json_text.specs.Rfc7159.{member, object, array, value}
 use Rattle.json_text.proofs.ScanLaws.{Calm, calm, calm-letter, left-calm, left-quote, left_open, left-shut, left-closes, left_back, left-char, left-taken}
@@ -45,7 +45,7 @@ module _ {x x' : Inside} {n n' : ℕ} where
   p_least f = record { run = least-run f }
 
   or-run : (A B : Rule) → Passes A x n x' n' → Passes B x n x' n' → (s : List ℕ) → (A or B) s → (r : List ℕ) → left (s ++ r) x n ≡ length s + left r x' n'
-  or-run A B f g s (one_of_lem y) = f.run s y
+  or-run A B f g s (one_of y) = f.run s y
   or-run A B f g s (right y) = g.run s y
 
   infixr 40 ◌or_else◌

@@ -115,26 +115,26 @@ rest exp k = 48 ∷ closers k
 rest sign k = 48 ∷ closers k
 rest power k = closers k
 
-pub goes_on_lem : (m : Mode) (k : Stack) (i : ℕ) → Ends (walk (rest m k) m k i)
+pub goes_on : (m : Mode) (k : Stack) (i : ℕ) → Ends (walk (rest m k) m k i)
 unfolding rest walk step begin is_ws is_digit among is_esc is_sign due
-goes_on_lem value k i = closes k _
-goes_on_lem first k i = closes k _
-goes_on_lem name k i = closes-str label k _
-goes_on_lem name₁ k i = closes-str label k _
-goes_on_lem colon k i = closes k _
-goes_on_lem after k i = closes k _
-goes_on_lem (str w) k i = closes-str w k _
-goes_on_lem (esc w) k i = closes-str w k _
-goes_on_lem (hex w n) k i = closes-hex w k n _
-goes_on_lem (word x xs) k i = closes-due (x ∷ xs) k i
-goes_on_lem minus k i = closes-nought k _
-goes_on_lem nought k i = closes-nought k _
-goes_on_lem int k i = closes-int k _
-goes_on_lem dot k i = closes-frac k _
-goes_on_lem frac k i = closes-frac k _
-goes_on_lem exp k i = closes-power k _
-goes_on_lem sign k i = closes-power k _
-goes_on_lem power k i = closes-power k _
+goes_on value k i = closes k _
+goes_on first k i = closes k _
+goes_on name k i = closes-str label k _
+goes_on name₁ k i = closes-str label k _
+goes_on colon k i = closes k _
+goes_on after k i = closes k _
+goes_on (str w) k i = closes-str w k _
+goes_on (esc w) k i = closes-str w k _
+goes_on (hex w n) k i = closes-hex w k n _
+goes_on (word x xs) k i = closes-due (x ∷ xs) k i
+goes_on minus k i = closes-nought k _
+goes_on nought k i = closes-nought k _
+goes_on int k i = closes-int k _
+goes_on dot k i = closes-frac k _
+goes_on frac k i = closes-frac k _
+goes_on exp k i = closes-power k _
+goes_on sign k i = closes-power k _
+goes_on power k i = closes-power k _
 
 -- p is the place: the bytes before it can go on to a whole text, and with the byte at it, if there is one, no bytes can
 pub record Place (bs : List ℕ) (m : Mode) (k : Stack) (i p : ℕ) : Type 0 where
@@ -166,7 +166,7 @@ module _ (b : ℕ) (bs : List ℕ) (m : Mode) (k : Stack) (i p : ℕ) where
         split = refl;
         far = omega arith;
         more = rest m k;
-        can = goes_on_lem m k i;
+        can = goes_on m k i;
         cannot = λ b' l s u.
             on b' u m k i dead (ap (step m k) (cc) ∙ e)
             ∙ ap Bad (sym q);
@@ -203,7 +203,7 @@ placed [] m k i p e =
       split = refl;
       far = omega arith;
       more = rest m k;
-      can = goes_on_lem m k i;
+      can = goes_on m k i;
       cannot = λ b l s u. let z : ◌≡◌ {A = ℕ} 0 1 = cc in absurd (omega arith);
     }
 placed (b ∷ bs) m k i p e = next b bs m k i p (step m k b) refl e (λ m' k' q. placed bs m' k' (i + 1) p q)

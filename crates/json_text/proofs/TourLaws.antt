@@ -187,7 +187,7 @@ scalar_quiet m b in_power = refl
 scalar_quiet m b in_after = refl
 
 data Rests (d : ℕ) : Next → Type 0 where
-  goes_on_lem : {m : Mode} → InScalar m → Rests d (live m (alone d))
+  goes_on : {m : Mode} → InScalar m → Rests d (live m (alone d))
   refused : Rests d dead
   is-over : Rests d done
 
@@ -197,8 +197,8 @@ rests_cond {d} = picked (Rests d)
 module _ (d b : ℕ) where
   due-rests : (xs : List ℕ) → Rests d (live (due xs) (alone d))
   unfolding due
-  due-rests [] = goes_on_lem in_after
-  due-rests (x ∷ xs) = goes_on_lem in_word
+  due-rests [] = goes_on in_after
+  due-rests (x ∷ xs) = goes_on in_word
 
   ends-rests : Rests d (ends (alone d) b)
   unfolding ends
@@ -206,27 +206,27 @@ module _ (d b : ℕ) where
 
   expo-rests : Rests d (expo (alone d) b)
   unfolding expo
-  expo-rests = rests_cond (eqb b 101 || eqb b 69) (goes_on_lem in_exp) ends-rests
+  expo-rests = rests_cond (eqb b 101 || eqb b 69) (goes_on in_exp) ends-rests
 
   point-rests : Rests d (point (alone d) b)
   unfolding point
-  point-rests = rests_cond (eqb b 46) (goes_on_lem in_dot) expo-rests
+  point-rests = rests_cond (eqb b 46) (goes_on in_dot) expo-rests
 
   scalar_rests : (m : Mode) → InScalar m → Rests d (step m (alone d) b)
   unfolding step
   scalar_rests m (in_word {x = x} {xs = xs}) = rests_cond (eqb b x) (due-rests xs) refused
-  scalar_rests m in_minus = rests_cond (eqb b 48) (goes_on_lem in_nought) (rests_cond (is_digit b) (goes_on_lem in_int) refused)
+  scalar_rests m in_minus = rests_cond (eqb b 48) (goes_on in_nought) (rests_cond (is_digit b) (goes_on in_int) refused)
   scalar_rests m in_nought = point-rests
-  scalar_rests m in_int = rests_cond (is_digit b) (goes_on_lem in_int) point-rests
-  scalar_rests m in_dot = rests_cond (is_digit b) (goes_on_lem in_frac) refused
-  scalar_rests m in_frac = rests_cond (is_digit b) (goes_on_lem in_frac) expo-rests
-  scalar_rests m in_exp = rests_cond (is_digit b) (goes_on_lem in_power) (rests_cond (is_sign b) (goes_on_lem in_sign) refused)
-  scalar_rests m in_sign = rests_cond (is_digit b) (goes_on_lem in_power) refused
-  scalar_rests m in_power = rests_cond (is_digit b) (goes_on_lem in_power) ends-rests
+  scalar_rests m in_int = rests_cond (is_digit b) (goes_on in_int) point-rests
+  scalar_rests m in_dot = rests_cond (is_digit b) (goes_on in_frac) refused
+  scalar_rests m in_frac = rests_cond (is_digit b) (goes_on in_frac) expo-rests
+  scalar_rests m in_exp = rests_cond (is_digit b) (goes_on in_power) (rests_cond (is_sign b) (goes_on in_sign) refused)
+  scalar_rests m in_sign = rests_cond (is_digit b) (goes_on in_power) refused
+  scalar_rests m in_power = rests_cond (is_digit b) (goes_on in_power) ends-rests
   scalar_rests m in_after = ends-rests
 
 none-go : (d i : ℕ) (bs : List ℕ) (t : Bool) (x : Next) → t ≡ false → Rests d x → ((m : Mode) → InScalar m → begins bs m (alone d) (i + 1) ≡ []) → begins_at t x (begins bs) i ≡ []
-none-go d i bs t x o (goes_on_lem {m = m} r) ih = rw o (ih m r)
+none-go d i bs t x o (goes_on {m = m} r) ih = rw o (ih m r)
 none-go d i bs t x o refused ih = refl
 none-go d i bs t x o is-over ih = refl
 

@@ -28,7 +28,7 @@ use Rattle.json_text.proofs.AnswerLaws.{Says, says, says-one, beyond, order}
 use Rattle.json_text.proofs.Bound.{bound, agree}
 use Rattle.json_text.proofs.Complete.{complete-places, begin-on, begin-none}
 use Rattle.json_text.proofs.Raise.{raise, raise-text, Up, lives, dies, ended-up, deeps, up_step}
-use Rattle.json_text.proofs.Refusal.{Ends, rest, goes_on_lem, on}
+use Rattle.json_text.proofs.Refusal.{Ends, rest, goes_on, on}
 use Rattle.json_text.proofs.Sound.{sound}
 
 -- Those below a place.
@@ -252,7 +252,7 @@ module _ (b : ℕ) (bs : List ℕ) (m m' : Mode) (k k' : Stack) (i : ℕ) (t : B
         split = refl;
         far = omega arith;
         more = rest m' k';
-        can = subst Ends (sym (on b (rest m' k') m k i (live m' k') f)) (goes_on_lem m' k' (i + 1));
+        can = subst Ends (sym (on b (rest m' k') m k i (live m' k') f)) (goes_on m' k' (i + 1));
         few = ap length (begin-none m k i);
         one = ap length (begin-on b [] m k i true (live m' k') (o ∙ h) f ∙ ap (λ (l : List ℕ). i ∷ l) (begin-none m' k' (i + 1)));
       }

@@ -140,8 +140,8 @@ module _ (o : List ℕ) (len : ℕ) (s : List ℕ) (from : ℕ) where
 pub ends_in : (s : List ℕ) (from : ℕ) → line_end s from < length s → before 10 (drop from s) < length (drop from s)
 ends_in s from h = rw length-drop (omega arith)
 
-pub goes_on_lem : (s : List ℕ) (from : ℕ) → drop (suc (before 10 (drop from s))) (drop from s) ≡ drop (line_end s from + 1) s
-goes_on_lem s from =
+pub goes_on : (s : List ℕ) (from : ℕ) → drop (suc (before 10 (drop from s))) (drop from s) ≡ drop (line_end s from + 1) s
+goes_on s from =
     let z : from + suc (before 10 (drop from s)) ≡ line_end s from + 1 = omega arith in
     rw (drop-drop, z)
 
@@ -164,8 +164,8 @@ one : (s o b : List ℕ) (from e : ℕ) (k x : List ℕ) (ls : List (List ℕ)) 
     → x ≡ first_bytes o (k ++ rest_of_line s from) → Given s b e [] ls o' n → Given s o from k (x ∷ ls) o' n
 one s o b from e k x ls o' n h is size xe g =
     let st = step k (drop from s) (ends_in s from h) in
-    let f : ended_lines k (drop from s) ≡ (k ++ rest_of_line s from) ∷ ended_lines [] (drop e s) = st.first ∙ rw (is, goes_on_lem s from) in
-    let u : open_line k (drop from s) ≡ open_line [] (drop e s) = st.then ∙ rw (is, goes_on_lem s from) in
+    let f : ended_lines k (drop from s) ≡ (k ++ rest_of_line s from) ∷ ended_lines [] (drop e s) = st.first ∙ rw (is, goes_on s from) in
+    let u : open_line k (drop from s) ≡ open_line [] (drop e s) = st.then ∙ rw (is, goes_on s from) in
     let l : ls ≡ map (first_bytes o) (ended_lines [] (drop e s)) = subst (λ (m : ℕ). ls ≡ map (take m) (ended_lines [] (drop e s))) size g.lines in
     record {
       lines = rw (f, xe, l);

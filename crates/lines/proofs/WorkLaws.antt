@@ -1,6 +1,6 @@
 -- How the work on a piece goes on, line by line, whatever a line does: one law for each answer of the splitter. Assumes nothing.
 use Prim.Native.Nat.{ℕ, ◌+◌, ◌-◌, ◌≤◌, ◌<◌}
-use Rattle.lines.proofs.Cutting.{ends_in, goes_on_lem, buffered-says, here-says, pending-says, step, whole}
+use Rattle.lines.proofs.Cutting.{ends_in, goes_on, buffered-says, here-says, pending-says, step, whole}
 use Rattle.lines.proofs.WritingLaws.{front-written}
 use Rattle.lines.specs.Input.{ended_lines, open_line}
 use Rattle.lines.specs.inner.Splitting.{buffer_after, joined, line_end, next_line, rest_of_line}
@@ -33,9 +33,9 @@ module _ {S : Type 0} (done : S → List ℕ → Effect S) (cap : ℕ) where
   one_line t k s from l h e =
       let st = step k (drop from s) (ends_in s from h) in
       record {
-        written = rw (st.first, e, goes_on_lem s from);
-        held = rw (st.first, e, goes_on_lem s from);
-        open_line = rw (st.then, goes_on_lem s from);
+        written = rw (st.first, e, goes_on s from);
+        held = rw (st.first, e, goes_on s from);
+        open_line = rw (st.then, goes_on s from);
       }
 
   -- the piece is used up

@@ -122,12 +122,12 @@ pub record CallerParts (s : List ℕ) (u f : ℕ) : Type 0 where
   pub user : user_rule (take (u - 7) (drop 7 s)) ≡ true
   pub fire : fire_rule (take (f - (u + 1)) (drop (u + 1) s)) ≡ true
   pub starts : 7 < u
-  pub goes_on_lem : u + 2 < f
+  pub goes_on : u + 2 < f
   pub ends : f + 7 ≡ length s
 
 pub record CalleeParts (s : List ℕ) (f : ℕ) : Type 0 where
   pub fire : fire_rule (take (f - 12) (drop 12 s)) ≡ true
-  pub goes_on_lem : 13 < f
+  pub goes_on : 13 < f
   pub ends : f + 7 ≡ length s
 
 caller-parts : (s : List ℕ) (u f : ℕ) → u ≡ user_end s → f ≡ caller_end s → caller_rule s ≡ true → CallerParts s u f
@@ -149,7 +149,7 @@ caller-parts s u f p q h =
       user = cut-run 1 15 Alnum Alnum s 7 u (omega arith) p x.0;
       fire = cut-run 2 15 Fire Small s (u + 1) f (omega arith) w y.0;
       starts = omega arith;
-      goes_on_lem = omega arith;
+      goes_on = omega arith;
       ends = eqb-true (f + 7) (length s) z.1;
     }
 
@@ -165,7 +165,7 @@ callee-parts s f q h =
     let n = run_in 2 15 Fire Small s 12 f (omega arith) q y.0 in
     record {
       fire = cut-run 2 15 Fire Small s 12 f (omega arith) q y.0;
-      goes_on_lem = omega arith;
+      goes_on = omega arith;
       ends = eqb-true (f + 7) (length s) z.1;
     }
 

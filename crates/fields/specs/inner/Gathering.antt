@@ -1,5 +1,5 @@
 -- What a walk over an object's members keeps: the places of the known ones up to the first repeat, and where their values end. `all` of `Gathered`, with
--- `over` and `goes_on_lem` of proofs/GatherLaws.antt, ties it to `noted` and `repeated` in Known.antt; and where the object is shut, by the brackets that are open
+-- `over` and `goes_on` of proofs/GatherLaws.antt, ties it to `noted` and `repeated` in Known.antt; and where the object is shut, by the brackets that are open
 -- (`shut` of proofs/ClosingLaws.antt). Assumes nothing.
 use Prim.Native.Char.{code}
 use Rattle.std.specs.Prelude.{ℕ, ◌+◌, ◌<◌, eqb, drop, get_or, replicate, Bool, ◌&&◌, ◌||◌, cond, List, [], ◌∷◌, map, ◌≡◌}

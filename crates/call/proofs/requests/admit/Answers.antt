@@ -1,5 +1,5 @@
 -- `call::requests::admit` meets its contract: one law of `Admission` for each way out. Assumes nothing.
-use Rattle.call.proofs.Admission.{repeats, other, below, goes_on_lem, not-now}
+use Rattle.call.proofs.Admission.{repeats, other, below, goes_on, not-now}
 use Rattle.call.proofs.requests.admit.Goals as goal
 use Rattle.call.specs.declared.requests.Admitted.TheVariants.{Stops, Goes}
 use mathlib.Core.Path.{sym, ap, ◌∙◌}
@@ -23,7 +23,7 @@ pub returns-then-in_talk : goal.returns-then-in_talk
 returns-then-in_talk c =
     let x = c.args in
     ap Goes c.numbered.ensures
-    ∙ goes_on_lem x.r x.c c.highest-h.ensures c.method_code-m.ensures c.if-r-h.false c.if-r-h-2.false
+    ∙ goes_on x.r x.c c.highest-h.ensures c.method_code-m.ensures c.if-r-h.false c.if-r-h-2.false
     (sym c.in_talk.ensures ∙ c.if-in_talk.true)
 
 pub returns-else-in_talk : goal.returns-else-in_talk

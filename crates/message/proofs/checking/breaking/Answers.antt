@@ -10,7 +10,7 @@ pub loop-n-init : goal.loop-n-init
 loop-n-init c = (search rules, (search rules, c.requires.1.1.1))
 
 pub place_in-requires : goal.place_in-requires
-place_in-requires c =
+place_in-requires c h =
     let x = c.args in let l = c.loop-n in
     let f = field_fault x.s.now x.run x.k x.at.now l.n (sym c.in-Broken.is ∙ c.judge_field-j.ensures) in
     omega (arith, fault_there x.s.now x.k l.n (get_or x.at.now l.n 0) refl f.0 h)

@@ -21,7 +21,7 @@ judge_cseq-requires c =
     subst (λ (l : List ℕ). Own l) (sym c.value_at.ensures) (own-bytes c.args.s.now (get_or c.args.at.now 1 0))
 
 pub place_in-requires : goal.place_in-requires
-place_in-requires c =
+place_in-requires c h =
     let x = c.args in let k = first_setting x.tag in
     let f = cseq_fault _ k (sym c.in-Broken.is ∙ c.judge_cseq.ensures) in
     omega (arith, fault_there x.s.now k 1 (get_or x.at.now 1 0) c.value_at.ensures f.0 h)
@@ -34,7 +34,7 @@ judge_party-requires c =
     subst (λ (l : List ℕ). Own l) (sym c.value_at-in-Kept.ensures) (own-bytes c.args.s.now (get_or c.args.at.now 2 0))
 
 pub place_in-requires-in-Broken-judge_party : goal.place_in-requires-in-Broken-judge_party
-place_in-requires-in-Broken-judge_party c =
+place_in-requires-in-Broken-judge_party c h =
     let x = c.args in let k = first_setting x.tag in
     let f = party_fault _ k 2 (omega arith) (omega arith) (sym c.in-Broken-judge_party.is ∙ c.judge_party.ensures) in
     omega (arith, fault_there x.s.now k 2 (get_or x.at.now 2 0) c.value_at-in-Kept.ensures f.0 h)
@@ -47,7 +47,7 @@ judge_party-requires-in-Kept-judge_party c =
     subst (λ (l : List ℕ). Own l) (sym c.value_at-in-Kept-judge_party.ensures) (own-bytes c.args.s.now (get_or c.args.at.now 3 0))
 
 pub place_in-requires-in-Broken-judge_party-2 : goal.place_in-requires-in-Broken-judge_party-2
-place_in-requires-in-Broken-judge_party-2 c =
+place_in-requires-in-Broken-judge_party-2 c h =
     let x = c.args in let k = first_setting x.tag in
     let f = party_fault _ k 3 (omega arith) (omega arith) (sym c.in-Broken-judge_party-2.is ∙ c.judge_party-in-Kept-judge_party.ensures) in
     omega (arith, fault_there x.s.now k 3 (get_or x.at.now 3 0) c.value_at-in-Kept-judge_party.ensures f.0 h)

@@ -22,7 +22,7 @@ judge-requires c =
     (subst (λ (l : List ℕ). Own l) (sym c.value_at.ensures) (own-bytes c.args.s.now (get_or c.args.at.now 4 0)), (omega arith, omega arith))
 
 pub place_in-requires : goal.place_in-requires
-place_in-requires c =
+place_in-requires c h =
     let x = c.args in let k = first_setting x.tag in
     let f = judged_fault _ k 4 (sym c.in-Broken.is ∙ c.judge.ensures) in
     omega (arith, fault_there x.s.now k 4 (get_or x.at.now 4 0) c.value_at.ensures f.0 h)
@@ -35,7 +35,7 @@ judge-requires-in-Kept c =
     (subst (λ (l : List ℕ). Own l) (sym c.value_at-in-Kept.ensures) (own-bytes c.args.s.now (get_or c.args.at.now 5 0)), (omega arith, omega arith))
 
 pub place_in-requires-in-Broken-judge : goal.place_in-requires-in-Broken-judge
-place_in-requires-in-Broken-judge c =
+place_in-requires-in-Broken-judge c h =
     let x = c.args in let k = first_setting x.tag in
     let f = judged_fault _ k 5 (sym c.in-Broken-judge.is ∙ c.judge-in-Kept.ensures) in
     omega (arith, fault_there x.s.now k 5 (get_or x.at.now 5 0) c.value_at-in-Kept.ensures f.0 h)
@@ -44,7 +44,7 @@ pub value_at-requires-in-Kept-judge : goal.value_at-requires-in-Kept-judge
 value_at-requires-in-Kept-judge c = c.requires.1.ends 6
 
 pub place_in-requires-in-Broken-judge_via : goal.place_in-requires-in-Broken-judge_via
-place_in-requires-in-Broken-judge_via c =
+place_in-requires-in-Broken-judge_via c h =
     let z = (via_fault _ (sym c.in-Broken-judge_via.is ∙ c.judge_via.ensures)).0 in
     absurd (omega arith)
 

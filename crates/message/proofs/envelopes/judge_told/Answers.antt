@@ -21,7 +21,7 @@ judge_status-requires c =
     subst (λ (l : List ℕ). Own l) (sym c.value_at.ensures) (own-bytes c.args.s.now (get_or c.args.at.now 7 0))
 
 pub place_in-requires : goal.place_in-requires
-place_in-requires c =
+place_in-requires c h =
     let z = (status_fault _ (sym c.in-Broken.is ∙ c.judge_status.ensures)).0 in
     absurd (omega arith)
 
