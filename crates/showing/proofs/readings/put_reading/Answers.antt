@@ -18,15 +18,14 @@ returns-in-Read c = rw c.in-Read.is
 
 pub returns-in-Refused : goal.returns-in-Refused
 returns-in-Refused c =
-    let v = c.verdict-1.given in
-    rw v.1 (
-      reading-refused c.args.out.now v.0.0 v.0.1.0 c.put-before_number.ensures c.put_number-before_place.ensures c.put_number.ensures,
+    rw c.in-Refused.is (
+      reading-refused c.args.out.now c.in-Refused.number c.in-Refused.place c.put-before_number.ensures c.put_number-before_place.ensures c.put_number.ensures,
       omega (
         arith,
         c.put-before_number.ensures.0,
         c.put_number-before_place.ensures.0,
         c.put_number.ensures.0,
-        number-length v.0.0 (ascii " ") (omega arith),
-        number-length v.0.1.0 (ascii " ") (omega arith),
+        number-length c.in-Refused.number (ascii " ") (omega arith),
+        number-length c.in-Refused.place (ascii " ") (omega arith),
       ),
     )

@@ -4,4 +4,4 @@ use Rattle.showing.proofs.writers.add_into.Goals as goal
 
 pub returns : goal.returns
 returns c =
-    wrote-part c.args.n c.args.room.now c.add.new.0 _ c.requires c.add.auto.0 c.add.ensures
+    wrote-part c.args.n c.args.room.now c.add.new.out _ c.requires c.add.auto.out c.add.ensures

@@ -29,7 +29,7 @@ pub write_edit-requires : goal.write_edit-requires
 write_edit-requires c =
     let x = c.args in
     let l = last_taken x.words.now x.bytes.now x.c _ _ c.requires.2 c.take_last-e.ensures c.requires.3 (omega arith) in
-    (rw c.room_in-n.ensures l.small, omega (arith, l.short, length-take (c.take_last-e.result - x.c) (drop x.c c.take_last-e.new.0)))
+    (rw c.room_in-n.ensures l.small, omega (arith, l.short, length-take (c.take_last-e.result - x.c) (drop x.c c.take_last-e.new.bytes)))
 
 pub returns : goal.returns
 returns c =

@@ -4,5 +4,5 @@ use Rattle.showing.proofs.writers.remove_into.Goals as goal
 
 pub returns : goal.returns
 returns c =
-    took-part c.args.n c.args.room.now c.remove.new.0 _ c.requires c.remove.auto.0
+    took-part c.args.n c.args.room.now c.remove.new.out _ c.requires c.remove.auto.out
     c.remove.ensures

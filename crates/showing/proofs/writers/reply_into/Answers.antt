@@ -4,4 +4,4 @@ use Rattle.showing.proofs.writers.reply_into.Goals as goal
 
 pub returns : goal.returns
 returns c =
-    wrote-part c.args.n c.args.room.now c.reply.new.0 _ c.requires c.reply.auto.0 c.reply.ensures
+    wrote-part c.args.n c.args.room.now c.reply.new.out _ c.requires c.reply.auto.out c.reply.ensures

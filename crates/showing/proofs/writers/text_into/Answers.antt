@@ -4,4 +4,4 @@ use Rattle.showing.proofs.writers.text_into.Goals as goal
 
 pub returns : goal.returns
 returns c =
-    wrote-part c.args.n c.args.room.now c.text.new.0 _ c.requires c.text.auto.0 c.text.ensures
+    wrote-part c.args.n c.args.room.now c.text.new.out _ c.requires c.text.auto.out c.text.ensures
