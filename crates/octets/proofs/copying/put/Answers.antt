@@ -1,4 +1,3 @@
-use Prim.Native.Nat.{◌-◌}
 use Rattle.octets.proofs.Chain.{paste_whole}
 use Rattle.octets.proofs.copying.put.Goals as goal
 use borrow.Author.Rules.{rules}

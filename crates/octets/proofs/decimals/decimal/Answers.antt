@@ -1,4 +1,3 @@
-use Prim.Native.Nat.{◌-◌}
 use Rattle.octets.proofs.ClassLaws.{all_more, all-stops, all-ends, digit_in}
 use Rattle.octets.proofs.DecimalLaws.{empty, long, no_digit, too_large, read, tens-more, tens-ends}
 use Rattle.octets.proofs.decimals.decimal.Goals as goal

@@ -1,4 +1,3 @@
-use Prim.Native.Nat.{◌-◌}
 use Rattle.octets.proofs.NumberLaws.{none_yet, below_one, span_seven, number_more, span_more}
 use Rattle.octets.proofs.numbers.number_at.Goals as goal
 use borrow.Author.Rules.{rules}

@@ -1,5 +1,5 @@
 -- `octets::numbers::put_number` meets its contract. The loop writes from the last byte back, and keeps that the rest of the number is still due. Assumes nothing.
-use Prim.Native.Nat.{◌≤◌, ◌-◌}
+use Prim.Native.Nat.{◌≤◌}
 use Rattle.octets.proofs.numbers.put_number.Given as goal
 use Rattle.octets.specs.Number.{bytes_of}
 use Rattle.octets.specs.Splice.{splice}

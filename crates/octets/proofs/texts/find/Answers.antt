@@ -1,4 +1,3 @@
-use Prim.Native.Nat.{◌-◌}
 use Rattle.octets.proofs.TextLaws.{before_more, before-stops, before-ends}
 use Rattle.octets.proofs.texts.find.Goals as goal
 use borrow.Author.Rules.{rules}

@@ -1,4 +1,3 @@
-use Prim.Native.Nat.{◌-◌}
 use Rattle.octets.proofs.TextLaws.{length-same, same_more, same-stops, same_ends}
 use Rattle.octets.proofs.texts.same.Goals as goal
 use borrow.Author.Rules.{rules}
