@@ -1,6 +1,6 @@
 /*
  * Three calls taken through libnet119.a, as a relay does: build with
- *   rt staticlib net119 && cc -Iinclude -o relay examples/relay.c target/staticlib/libnet119.a
+ *   tools/staticlib net119 && cc -Iinclude -o relay examples/relay.c target/staticlib/libnet119.a
  * A line is printed for each step. What each step must answer stands beside it; a difference is printed, and the exit is then 1.
  */
 #include <stdio.h>

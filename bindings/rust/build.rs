@@ -1,4 +1,4 @@
-//! Finds libnet119.a: in the directory that NET119_LIB names, or where `rt staticlib net119` leaves it.
+//! Finds libnet119.a: in the directory that NET119_LIB names, or where `tools/staticlib net119` leaves it.
 
 use std::env;
 use std::path::PathBuf;

@@ -1,6 +1,6 @@
-// The library for C (libnet119.a, include/net119.h): the public entries of the crates below, with flat answers.
+// The public entries of the crates below, with flat answers: what the library for C hands on.
 // Proved: each function answers what the entry behind it answers, and leaves in each lent buffer what that leaves.
-// A caller may hand over any bytes; what it must hold to about its pointers is in the header.
+// A caller may hand over any bytes; the exports themselves are the crate `net119_c`.
 #![tactic(auto)]
 
 mod flat;
@@ -17,47 +17,40 @@ ghost use Rattle.writing.specs.Removing.{host_in, removing, host_shown};
 ghost use Rattle.writing.specs.Reply.{replying};
 ghost use Rattle.writing.specs.Texting.{texting};
 
-use flat::{
-    CountAnswer, EventAnswer, ReadAnswer, RemoveAnswer, WriteAnswer, flat_answer, flat_reading,
-    flat_removed, flat_report, flat_written,
-};
+pub use flat::{CountAnswer, EventAnswer, ReadAnswer, RemoveAnswer, WriteAnswer};
+use flat::{flat_answer, flat_reading, flat_removed, flat_report, flat_written};
 use message::AMPLE;
 
 // Reads a message, at the program's ceiling.
-#[unsafe(no_mangle)]
-pub extern "C" fn net119_read(message: &[u8]) -> ReadAnswer
+pub fn net119_read(message: &[u8]) -> ReadAnswer
     ensures { result ≡ flat_reading (reading ample message.now) }
 {
     flat_reading(message::read(message, AMPLE))
 }
 
 // Reads a message under a ceiling, and tells how many JSON values were visited.
-#[unsafe(no_mangle)]
-pub extern "C" fn net119_read_within(message: &[u8], ceiling: u32) -> CountAnswer
+pub fn net119_read_within(message: &[u8], ceiling: u32) -> CountAnswer
     ensures { result ≡ flat_report (reporting ceiling message.now) }
 {
     flat_report(message::read_and_count(message, ceiling))
 }
 
 // Makes a blank table of so many records: 0, or 1 where count or length is wrong.
-#[unsafe(no_mangle)]
-pub extern "C" fn net119_blank(table: &mut [u8], count: usize) -> u8
+pub fn net119_blank(table: &mut [u8], count: usize) -> u8
     ensures { (result ≡ made_number (blank_answer table.old count)) × (table.new ≡ blank_after table.old count) }
 {
     table::made_number(table::blank(table, count))
 }
 
 // Whether a table is well-formed.
-#[unsafe(no_mangle)]
-pub extern "C" fn net119_well_formed(table: &[u8]) -> bool
+pub fn net119_well_formed(table: &[u8]) -> bool
     ensures { result ≡ well_formed table.now }
 {
     table::well_formed(table)
 }
 
 // A message at a time, on a table, at the program's ceiling.
-#[unsafe(no_mangle)]
-pub extern "C" fn net119_message(table: &mut [u8], time: u64, message: &[u8]) -> EventAnswer
+pub fn net119_message(table: &mut [u8], time: u64, message: &[u8]) -> EventAnswer
     ensures { (result ≡ flat_answer (on_message ample table.old time message.now).answer)
         × (table.new ≡ (on_message ample table.old time message.now).table) }
 {
@@ -65,8 +58,7 @@ pub extern "C" fn net119_message(table: &mut [u8], time: u64, message: &[u8]) ->
 }
 
 // The same under a ceiling.
-#[unsafe(no_mangle)]
-pub extern "C" fn net119_message_within(
+pub fn net119_message_within(
     table: &mut [u8],
     time: u64,
     message: &[u8],
@@ -79,8 +71,7 @@ pub extern "C" fn net119_message_within(
 }
 
 // A tick for a Call-ID at a time, on a table.
-#[unsafe(no_mangle)]
-pub extern "C" fn net119_tick(table: &mut [u8], time: u64, call_id: &[u8]) -> EventAnswer
+pub fn net119_tick(table: &mut [u8], time: u64, call_id: &[u8]) -> EventAnswer
     ensures { (result ≡ flat_answer (on_tick table.old time call_id.now).answer)
         × (table.new ≡ (on_tick table.old time call_id.now).table) }
 {
@@ -88,13 +79,7 @@ pub extern "C" fn net119_tick(table: &mut [u8], time: u64, call_id: &[u8]) -> Ev
 }
 
 // Writes the reply to a request.
-#[unsafe(no_mangle)]
-pub extern "C" fn net119_reply(
-    out: &mut [u8],
-    message: &[u8],
-    code: u16,
-    date: &[u8],
-) -> WriteAnswer
+pub fn net119_reply(out: &mut [u8], message: &[u8], code: u16, date: &[u8]) -> WriteAnswer
     ensures { (result ≡ flat_written (answered (length out.old) (replying message.now code date.now)))
         × (out.new ≡ output_left out.old (replying message.now code date.now)) }
 {
@@ -102,8 +87,7 @@ pub extern "C" fn net119_reply(
 }
 
 // Writes a request with our Via entry added.
-#[unsafe(no_mangle)]
-pub extern "C" fn net119_add(
+pub fn net119_add(
     out: &mut [u8],
     message: &[u8],
     host: &[u8],
@@ -117,8 +101,7 @@ pub extern "C" fn net119_add(
 }
 
 // Writes a response with our Via entry taken off; where the next host stands in the message.
-#[unsafe(no_mangle)]
-pub extern "C" fn net119_remove(
+pub fn net119_remove(
     out: &mut [u8],
     message: &[u8],
     host: &[u8],
@@ -132,8 +115,7 @@ pub extern "C" fn net119_remove(
 }
 
 // Writes the text that a part of a message spells.
-#[unsafe(no_mangle)]
-pub extern "C" fn net119_text(out: &mut [u8], spelled: &[u8]) -> WriteAnswer
+pub fn net119_text(out: &mut [u8], spelled: &[u8]) -> WriteAnswer
     ensures { (result ≡ flat_written (answered (length out.old) (texting spelled.now)))
         × (out.new ≡ output_left out.old (texting spelled.now)) }
 {

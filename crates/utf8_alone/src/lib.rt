@@ -1,4 +1,4 @@
-// The check of UTF-8 alone, for C: what `bench/run` counts beside a peer's. No part of the library for C.
+// The check of UTF-8 alone: what `bench/run` counts beside a peer's. No part of the library for C.
 // Proved: it answers what `utf8::check` answers, as one number.
 #![tactic(auto)]
 
@@ -9,8 +9,7 @@ ghost use Rattle.utf8_alone.specs.Alone.{good_bytes};
 use utf8::Verdict;
 
 // How many bytes are good: all, or those before the first bad sequence.
-#[unsafe(no_mangle)]
-pub extern "C" fn utf8_alone(text: &[u8]) -> usize
+pub fn utf8_alone(text: &[u8]) -> usize
     ensures { result ≡ good_bytes (verdict text.now) (length text.now) }
 {
     match utf8::check(text) {
