@@ -43,25 +43,25 @@ abbrev nobody : Highest
 nobody = record { number = 0; method = 0 }
 
 -- 1xx in 1, pass: a 100 sets the last time alone, and the 15 seconds go on
-pub hundred-starts-nothing :
+pub hundred_starts-nothing :
     decided (Is (call_in Calling nobody 1000 1000)) (Replies (record { method = Invite; number = 1; from = Caller; status = 100 }) true) 2000
     ≡ record { answer = Accepted Pass (In Calling); after = Set (call_in Calling nobody 2000 1000) }
 unfolding decided_held response to_invite
-hundred-starts-nothing = refl
+hundred_starts-nothing = refl
 
 -- CALLBACK sets no number: the callee has none afterwards
-pub callback-sets-no-number :
+pub callback_sets_no-number :
     decided (Is (call_in Ended nobody 1000 1000)) (Asks (record { method = Callback; number = 1; from = Callee; secure = false }) true) 2000
     ≡ record { answer = Accepted Pass (In Ended); after = Set (call_in Ended nobody 2000 1000) }
 unfolding decided_held request
-callback-sets-no-number = refl
+callback_sets_no-number = refl
 
 -- a passed MESSAGE sets that side's number and method, and the chat time
-pub message-sets-chat-time :
+pub message_sets_chat-time :
     decided (Is (call_in Talking nobody 1000 1000)) (Asks (record { method = Message; number = 7; from = Callee; secure = false }) true) 2000
     ≡ record { answer = Accepted Pass (In Talking); after = Set (call_in Talking (record { number = 7; method = 5 }) 2000 2000) }
 unfolding decided_held request message admitted
-message-sets-chat-time = refl
+message_sets_chat-time = refl
 
 -- a tick for a call that entered its state, and chatted, at 1000
 abbrev tick_at : State → ℕ → Answer

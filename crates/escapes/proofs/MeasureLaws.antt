@@ -115,7 +115,8 @@ step {s} {m} {i} t w b p e f h g =
       is = p.is ∙ rw (e, f) (added_more m w (text (drop (i + t) s)) b (is_broken (drop (i + t) s)));
     }
 
-pub step-own : {s : List ℕ} {m : Measured} {i : ℕ} (m' : Measured) → Sofar s m i → i < length s → (get_or s i 0 ≡ 92 → ⊥) → m' ≡ added m (get_or s i 0 ∷ []) false → Sofar s m' (i + 1)
+pub step-own : {s : List ℕ} {m : Measured} {i : ℕ} (m' : Measured) → Sofar s m i → i < length s → (get_or s i 0 ≡ 92 → ⊥) → m' ≡ added m (get_or s i 0 ∷ []) false
+    → Sofar s m' (i + 1)
 step-own {s} {i = i} m' p h ne e = rw e (step 1 (get_or s i 0 ∷ []) false p (text-own s i h ne) (broken-own s i h ne) (omega arith) (omega arith))
 
 pub step-escape : {s : List ℕ} {m : Measured} {i : ℕ} (m' : Measured) (x : Escape) → Sofar s m i → i < length s → get_or s i 0 ≡ 92 → x ≡ escape_of (drop i s) →

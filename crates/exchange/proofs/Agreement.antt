@@ -135,7 +135,8 @@ on_read c t now s (readings.Read m) e = go (ltb 2 m.tag) refl
     go true w = rw w (on-mute c t (message now s) _ (rw (e, w)) (rw e))
     go false w = rw w (on-asked c t now s m e (rw (e, w)) (place_named (call_id_of s m) t) refl)
 
-on-ticked : (c : ℕ) (t : List ℕ) (now : Time) (id : List ℕ) → call_id_rule id ≡ true → (f : Found) → place_named id t ≡ f → Agrees c t (tick now id) (ticked_at t now.milliseconds f)
+on-ticked : (c : ℕ) (t : List ℕ) (now : Time) (id : List ℕ) → call_id_rule id ≡ true → (f : Found) → place_named id t ≡ f
+    → Agrees c t (tick now id) (ticked_at t now.milliseconds f)
 unfolding name_of
 on-ticked c t now id b (At k) p = on-old c t (tick now id) id (rw b) k (decided (Is (call_at t k)) Tick now.milliseconds) p refl
 on-ticked c t now id b Nothing p = on_none c t (tick now id) id (rw b) (decided Unheld Tick now.milliseconds).answer p refl

@@ -83,11 +83,14 @@ and-more (suc n) c = suc (and-more n c)
 
 read_above : (c : ℕ) → BothRead (and-more 23 c)
 unfolding among is_digit is_lower is_upper is_letter is_alnum all same stands_at begins goes_on char_at octets is_ws opens begin due ends step stops walk from point expo
-    tour begun json.begins part spaces past is_open is_shut is_mark left unmarked size behind closing raw next value_of follows more member_at members_from members elements_from elements
-    sequence_rule number_end sequence_of run_length digits decimal_at word_number_from within reads leap days_in date_rule caller_rule callee_rule user_end caller_end callee_end address_of
+    tour begun json.begins part spaces past is_open is_shut is_mark left unmarked size behind closing raw next value_of follows more member_at members_from members elements_from
+    elements
+    sequence_rule number_end sequence_of run_length digits decimal_at word_number_from within reads leap days_in date_rule caller_rule callee_rule user_end caller_end callee_end
+    address_of
     call_id_rule host_rule destination_rule organization_rule language_rule holds is_in tag_asks method_asks spelling_at text_at spelling_span number_of method_of
     from_caller to_caller content_at code_of secure_of setting_of same_side wrong_side wrong_number sides_disagree callback_training request_disagrees disagrees caller_place
-    callee_place message_of agreed settled judged known shaped reading reporting lacks breaks lowest checked is_string is_array is_object spelling_of text_of freely ruled word_spelled
+    callee_place message_of agreed settled judged known shaped reading reporting lacks breaks lowest checked is_string is_array is_object spelling_of text_of freely ruled
+    word_spelled
     text spells is_broken spelt lone letters_from letter_of took tag_at tag_of object_of
     one_of address_rule keeps hop_places hop_rule hop_keeps is_hop via_rule number_at has note noted repeated pieces.piece_end
     pieces.has_piece sequence.cseq_number sequence.cseq_method last_of prev_of trail_of trail_in moved

@@ -74,7 +74,8 @@ apart_of : (r s : List ℕ) → ((i : List ℕ) → is_named i r ≡ true → is
 unfolding apart is_named
 apart_of r s f = go (is_free r) (is_free s) (same (record_call_id r) (record_call_id s)) refl refl refl
   where
-    go : (a b c : Bool) → is_free r ≡ a → is_free s ≡ b → same (record_call_id r) (record_call_id s) ≡ c → (is_free r || (is_free s || not (same (record_call_id r) (record_call_id s)))) ≡ true
+    go : (a b c : Bool) → is_free r ≡ a → is_free s ≡ b → same (record_call_id r) (record_call_id s) ≡ c
+        → (is_free r || (is_free s || not (same (record_call_id r) (record_call_id s)))) ≡ true
     go true b c p q e = rw p
     go false true c p q e = rw (p, q)
     go false false false p q e = rw (p, q, e)

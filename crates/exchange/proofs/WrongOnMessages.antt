@@ -127,7 +127,8 @@ w1 : well_formed t1 ≡ true
 w1 = well 23 t0 s1 0 w0 (invites_read 23 (omega arith)).0 searched.0.0 searched.0.1
 
 handed : Handed t0 1000 [] × (Handed t0 1000 s1 × Handed t1 1000 s2)
-unfolding all blank_of header_of bytes_of splice record_for new_record record_of fields_from slot_of counts_of times_of call_id_of caller_address_of callee_address_of user_of caller_fire_of
+unfolding all blank_of header_of bytes_of splice record_for new_record record_of fields_from slot_of counts_of times_of call_id_of caller_address_of callee_address_of user_of
+    caller_fire_of
     callee_fire_of cut part text spelt letters_from letter_of took
 handed = (
   record { table = each-byte t0 refl; clock = omega arith; text = each-byte [] refl },

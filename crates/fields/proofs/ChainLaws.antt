@@ -35,7 +35,8 @@ type_keeps : (method : ℕ) (v : List ℕ) → freely (on_type method) v ≡ con
 unfolding on_type content_field freely
 type_keeps method v = by (eqb method method_message)
   where
-    by : (b : Bool) → (is_string v && cond b (one_of message_types (text_of v)) (one_of notify_types (text_of v))) ≡ cond b (ruled (one_of message_types) v) (ruled (one_of notify_types) v)
+    by : (b : Bool) → (is_string v && cond b (one_of message_types (text_of v)) (one_of notify_types (text_of v))) ≡ cond b (ruled (one_of message_types) v)
+        (ruled (one_of notify_types) v)
     by true = sym (ruled-is message_type_plain v)
     by false = sym (ruled-is notify_type_plain v)
 
@@ -44,7 +45,8 @@ unfolding on_body body_field freely names_image
 body-keeps content v = go (ℕ_discrete content content_location)
   where
     by : (a b c : Bool) → (is_string v && cond a true (cond b (image_rule (text_of v)) (cond c (one_of presences (text_of v)) (status_rule (text_of v)))))
-        ≡ cond a (is_string v) (cond b (is_string v && image_rule (text_of v)) (cond c (ruled (one_of presences) v) (cond false (is_object v) (is_string v && status_rule (text_of v)))))
+        ≡ cond a (is_string v) (cond b (is_string v && image_rule (text_of v))
+        (cond c (ruled (one_of presences) v) (cond false (is_object v) (is_string v && status_rule (text_of v)))))
     by true b c = and-true (is_string v)
     by false true c = refl
     by false false true = sym (ruled-is presence_plain v)

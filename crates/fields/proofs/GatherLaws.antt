@@ -52,7 +52,8 @@ pub has-is : (ns : List (List ℕ)) (s at : List ℕ) (q : ℕ) {k : ℕ} {r : B
 unfolding has
 has-is ns s at q e f = f ∙ rw e
 
-pub note-is : (ns : List (List ℕ)) (s at : List ℕ) (q : ℕ) {k v : ℕ} {r : List ℕ} → k ≡ number_at ns s q → v ≡ value_of s q → r ≡ cond (eqb k 0) at (set at k v) → r ≡ note ns s at q
+pub note-is : (ns : List (List ℕ)) (s at : List ℕ) (q : ℕ) {k v : ℕ} {r : List ℕ} → k ≡ number_at ns s q → v ≡ value_of s q → r ≡ cond (eqb k 0) at (set at k v)
+    → r ≡ note ns s at q
 unfolding note
 note-is ns s at q e g f = f ∙ rw (e, g)
 

@@ -77,7 +77,8 @@ module _ (d : ℕ) (p : Pair) (ps : List Pair) (h : Sounds d p ps) where
   compact-piece = subst (λ (r : List ℕ). Piece (d + 1) (123 ∷ r)) (sym (compact-is p ps [])) (object-piece d (field_of p) (map field_of ps) (fines_of d p ps h))
 
   pub compact-append : (t : List ℕ) → compact p ps [] ++ t ≡ compact p ps t
-  compact-append t = ap (λ (r : List ℕ). 123 ∷ (r ++ t)) (compact-is p ps []) ∙ ap (λ (r : List ℕ). 123 ∷ r) (body-append (field_of p) (map field_of ps) t ∙ sym (compact-is p ps t))
+  compact-append t = ap (λ (r : List ℕ). 123 ∷ (r ++ t)) (compact-is p ps [])
+      ∙ ap (λ (r : List ℕ). 123 ∷ r) (body-append (field_of p) (map field_of ps) t ∙ sym (compact-is p ps t))
 
 -- An array of a tag and an object, as every message is.
 unfoldable pub tagged : List ℕ → Pair → List Pair → List ℕ

@@ -92,7 +92,8 @@ module _ (t : List ℕ) (d : ℕ) (k : Stack) (l : levels k ≡ d) where
   BeginsAround bs i = (m : Mode) (s : Stack) → In d m s → begins bs m (onto k s) i ≡ begins bs m s i ++ behind (walk bs m s i)
 
   takes-begins : (b : ℕ) (bs : List ℕ) (m : Mode) (s : Stack) (i : ℕ) {n n' : Next} → drop i t ≡ b ∷ bs
-      → Lifts d k m s b n n' → BeginsAround bs (i + 1) → begins_at (begins_value m b) n' (begins bs) i ≡ begins_at (begins_value m b) n (begins bs) i ++ behind (takes n (walk bs) i)
+      → Lifts d k m s b n n' → BeginsAround bs (i + 1)
+      → begins_at (begins_value m b) n' (begins bs) i ≡ begins_at (begins_value m b) n (begins bs) i ++ behind (takes n (walk bs) i)
   unfolding begun begins step
   takes-begins b bs m s i e (on {m = m₁} {s = s₁} f h) ih =
       rw f (ap (λ (l : List ℕ). only (begins_value m b) i ++ l) (ih m₁ s₁ h)

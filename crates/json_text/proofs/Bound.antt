@@ -109,7 +109,8 @@ value-bound zero s x = omega (arith, ink_scalar s x)
 value-bound (suc d) s (left x) = omega (arith, ink-bytes _ _ s x)
 value-bound (suc d) s (right (left x)) = omega (arith, ink-bytes _ _ s x)
 value-bound (suc d) s (right (right (left x))) = omega (arith, ink-bytes _ _ s x)
-value-bound (suc d) s (right (right (right (left o)))) = in_bound (member (value d)) (count_member (value d) (count_value d)) (member-bound (value d) (count_value d) (value-bound d))
+value-bound (suc d) s (right (right (right (left o)))) = in_bound (member (value d)) (count_member (value d) (count_value d))
+    (member-bound (value d) (count_value d) (value-bound d))
     _ _ (ink-only 0x7B) (ink-only 0x7D) s o
 value-bound (suc d) s (right (right (right (right (left a))))) = in_bound (value d) (count_value d) (value-bound d) _ _ (ink-only 0x5B) (ink-only 0x5D) s a
 value-bound (suc d) s (right (right (right (right (right (left x)))))) = omega (arith, ink-number s x)

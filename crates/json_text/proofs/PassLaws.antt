@@ -207,7 +207,8 @@ module _ (left room : ℕ) (s : List ℕ) (q : ℕ) {e : ℕ} (at-e : e ≡ pass
         pub not-followed : is_next (get_or s t 0) ≡ false → no_visit ≡ passed_member left room s q
         not-followed f = sym (ap (followed s e v) ended ∙ rw (← at-t, f)) ∙ to-value
 
-        pub a-member : is_next (get_or s t 0) ≡ true → ◌≡◌ {A = Visit} (record { member = record { name = e; value = v; end = w; then = t }; room = n }) (passed_member left room s q)
+        pub a-member : is_next (get_or s t 0) ≡ true
+            → ◌≡◌ {A = Visit} (record { member = record { name = e; value = v; end = w; then = t }; room = n }) (passed_member left room s q)
         a-member f = sym (ap (followed s e v) ended ∙ rw (← at-t, f)) ∙ to-value
 
 module _ (left room : ℕ) (s : List ℕ) (q : ℕ) (h : q < length s) (quote : get_or s q 0 ≡ 34) where
@@ -317,7 +318,8 @@ module _ (left room : ℕ) (s : List ℕ) (q : ℕ) (h : q < length s) (quote : 
     stuck : Stuck → View no_visit
 
   module _ (e c v : ℕ) (at-e : e ≡ passed s q) (at_c : c ≡ past s e) (at-v : v ≡ past s (c + 1)) where
-    by-follow : (w n t : ℕ) → 0 < e → get_or s c 0 ≡ 58 → (r : Toured) → (is-r : r ≡ lone left room s v) → r ≡ counts.End w n → t ≡ past s w → (x : Bool) → is_next (get_or s t 0) ≡ x
+    by-follow : (w n t : ℕ) → 0 < e → get_or s c 0 ≡ 58 → (r : Toured) → (is-r : r ≡ lone left room s v) → r ≡ counts.End w n → t ≡ past s w → (x : Bool)
+        → is_next (get_or s t 0) ≡ x
         → View (passed_member left room s q)
     by-follow w n t some b r is-r f at-t true g =
         let z : t < length s = (member-there e c at-e some at_c v r b at-v is-r w n t f at-t g).inside in

@@ -223,7 +223,8 @@ module _ (s : List ℕ) (i n : ℕ) (o : 0 < n) (h : i < length s) where
       let q : left (drop (i + 1) s) outside (n - 1) ≡ 0 = ap (left (drop (i + 1) s) outside) (omega arith) ∙ left-none (drop (i + 1) s) in
       nest_shuts e g f ∙ rw q (omega arith)
 
-  pub nest_more : is_open (get_or s i 0) ≡ false → is_shut (get_or s i 0) ≡ false → (get_or s i 0 ≡ 34 → ⊥) → i + left (drop i s) outside n ≡ (i + 1) + left (drop (i + 1) s) outside n
+  pub nest_more : is_open (get_or s i 0) ≡ false → is_shut (get_or s i 0) ≡ false → (get_or s i 0 ≡ 34 → ⊥)
+      → i + left (drop i s) outside n ≡ (i + 1) + left (drop (i + 1) s) outside n
   nest_more e g f = nest_step ∙ rw (ne_eqb _ _ f, e, g)
 
 -- Numbers and literals.

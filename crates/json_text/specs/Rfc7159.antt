@@ -75,11 +75,11 @@ end-array = ws ⨾ Byte 0x5D ⨾ ws
 abbrev pub end-object : Rule
 end-object = ws ⨾ Byte 0x7D ⨾ ws
 
--- name_separator = ws %x3A ws
+-- name-separator = ws %x3A ws
 abbrev pub name_separator : Rule
 name_separator = ws ⨾ Byte 0x3A ⨾ ws
 
--- value_separator = ws %x2C ws
+-- value-separator = ws %x2C ws
 abbrev pub value_separator : Rule
 value_separator = ws ⨾ Byte 0x2C ⨾ ws
 
@@ -95,11 +95,11 @@ null = Bytes (0x6E ∷ 0x75 ∷ 0x6C ∷ 0x6C ∷ [])
 abbrev pub True : Rule
 True = Bytes (0x74 ∷ 0x72 ∷ 0x75 ∷ 0x65 ∷ [])
 
--- Section 6. decimal_point = %x2E
+-- Section 6. decimal-point = %x2E
 abbrev pub decimal_point : Rule
 decimal_point = Byte 0x2E
 
--- digit1_9 = %x31-39
+-- digit1-9 = %x31-39
 abbrev pub digit1_9 : Rule
 digit1_9 = Range 0x31 0x39
 
@@ -123,11 +123,11 @@ Zero = Byte 0x30
 abbrev pub exp : Rule
 exp = e ⨾ Opt (minus or plus) ⨾ Plus DIGIT
 
--- frac = decimal_point 1*DIGIT
+-- frac = decimal-point 1*DIGIT
 abbrev pub frac : Rule
 frac = decimal_point ⨾ Plus DIGIT
 
--- int = zero / ( digit1_9 *DIGIT )
+-- int = zero / ( digit1-9 *DIGIT )
 abbrev pub int : Rule
 int = Zero or digit1_9 ⨾ Star DIGIT
 
@@ -139,7 +139,7 @@ number = Opt minus ⨾ int ⨾ Opt frac ⨾ Opt exp
 abbrev pub escape : Rule
 escape = Byte 0x5C
 
--- quotation_mark = %x22
+-- quotation-mark = %x22
 abbrev pub quotation_mark : Rule
 quotation_mark = Byte 0x22
 
@@ -154,19 +154,19 @@ char =
     unescaped
     or escape ⨾ (Byte 0x22 or Byte 0x5C or Byte 0x2F or Byte 0x62 or Byte 0x66 or Byte 0x6E or Byte 0x72 or Byte 0x74 or Byte 0x75 ⨾ HEXDIG ⨾ HEXDIG ⨾ HEXDIG ⨾ HEXDIG)
 
--- string = quotation_mark *char quotation_mark
+-- string = quotation-mark *char quotation-mark
 abbrev pub string : Rule
 string = quotation_mark ⨾ Star char ⨾ quotation_mark
 
--- Section 4, over the rule X for a value. member = string name_separator value
+-- Section 4, over the rule X for a value. member = string name-separator value
 abbrev pub member : Rule → Rule
 member X = string ⨾ name_separator ⨾ X
 
--- object = begin-object [ member *( value_separator member ) ] end-object
+-- object = begin-object [ member *( value-separator member ) ] end-object
 abbrev pub object : Rule → Rule
 object X = begin-object ⨾ Opt (member X ⨾ Star (value_separator ⨾ member X)) ⨾ end-object
 
--- Section 5, over X. array = begin-array [ value *( value_separator value ) ] end-array
+-- Section 5, over X. array = begin-array [ value *( value-separator value ) ] end-array
 abbrev pub array : Rule → Rule
 array X = begin-array ⨾ Opt (X ⨾ Star (value_separator ⨾ X)) ⨾ end-array
 

@@ -105,7 +105,8 @@ module _ (lo hi : ℕ) (K : ℕ → List ℕ → ℕ) where
       w : ℕ
       w = v * 10 + (y - 48)
 
-      go : Either (is_digit y && meets lo hi m w) → number_reach lo hi K m w u ≡ cond (eqb (number_letters lo hi m w u) m) (m + K (onto m w u) (drop m u)) (number_letters lo hi m w u)
+      go : Either (is_digit y && meets lo hi m w)
+          → number_reach lo hi K m w u ≡ cond (eqb (number_letters lo hi m w u) m) (m + K (onto m w u) (drop m u)) (number_letters lo hi m w u)
           → number_reach lo hi K (suc m) v (y ∷ u) ≡ cond (eqb (number_letters lo hi (suc m) v (y ∷ u)) (suc m)) (suc m + K (onto m w u) (drop m u))
           (number_letters lo hi (suc m) v (y ∷ u))
       go (inl e) r = rw (e, r, eqb-suc (number_letters lo hi m w u) m) (suc_cond (eqb (number_letters lo hi m w u) m) m (K (onto m w u) (drop m u)) (number_letters lo hi m w u))
@@ -170,7 +171,8 @@ module _ (lo hi : ℕ) (c e : Class) (K : List ℕ → ℕ) where
       → r ≡ cond (within lo hi e s at end) then end → r ≡ at + run_reach lo hi c e K 0 true (drop at s)
   run_is h s at q t f =
       let g = run_letters hi c e 0 (drop at s) in
-      let w = whole_is h s at g (λ i. ap (holds e) (ap (λ (k : ℕ). get_or s k 0) (let z : at ≡ at + 0 = omega arith in z) ∙ sym (get_or-drop at s 0 0)) ∙ first_edge (drop at s) i) in
+      let w = whole_is h s at g (λ i. ap (holds e) (ap (λ (k : ℕ). get_or s k 0) (let z : at ≡ at + 0 = omega arith in z) ∙ sym (get_or-drop at s 0 0))
+      ∙ first_edge (drop at s) i) in
       f ∙ rw (t, q, ← w, run-joins 0 true (drop at s), drop-drop g at s)
       (sym (at_cond (among lo hi (0 + g) && last_of true g (drop at s)) at g (K (drop (at + g) s)) g))
 

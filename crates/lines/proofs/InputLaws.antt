@@ -49,7 +49,8 @@ passed-one s at k h ne = let z : at + (k + 1) ≡ at + k + 1 = omega arith in rw
 module _ (o : List ℕ) (len : ℕ) (s : List ℕ) (from : ℕ) where
   -- the line's end is behind the piece
   pub beyond : (p : List ℕ) {r : ℕ} {o' : List ℕ} → length s ≤ line_end s from → p ≡ rest_of_line s from
-      → (r ≡ length (first_bytes o (take len o ++ p))) × (o' ≡ written o (first_bytes o (take len o ++ p))) → (Pending r ≡ next_line o len s from) × (o' ≡ buffer_after o len s from)
+      → (r ≡ length (first_bytes o (take len o ++ p))) × (o' ≡ written o (first_bytes o (take len o ++ p)))
+      → (Pending r ≡ next_line o len s from) × (o' ≡ buffer_after o len s from)
   unfolding next_line buffer_after
   beyond p h e k = rw (le-ltb (line_end s from) (length s) h, ← e) (ap Pending k.0, k.1)
 

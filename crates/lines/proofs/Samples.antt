@@ -17,7 +17,7 @@ use lib.ListN.{replicate}
 use mathlib.Core.List.{[], ◌∷◌, ◌++◌}
 use mathlib.Core.Path.{◌≡◌, refl}
 
-pub lines-say :
+pub lines_say :
     (said (ascii "1000 tick A1.nx") ≡ tick (ascii "1000") 1000 (ascii "A1.nx"))
     × (said (ascii "007 [1]") ≡ message (ascii "007") 7 (ascii "[1]"))
     × (said (ascii "7 tick") ≡ message (ascii "7") 7 (ascii "tick"))
@@ -30,7 +30,7 @@ pub lines-say :
     × (said (ascii " x") ≡ bad)
     × (said [] ≡ bad)
 unfolding said said_by line_of timed before same stands_at decimal_in is_decimal tens all is_digit among
-lines-say = (refl, refl, refl, refl, refl, refl, refl, refl, refl, refl, refl)
+lines_say = (refl, refl, refl, refl, refl, refl, refl, refl, refl, refl, refl)
 
 -- 32,768 bytes after the time's space, and one more, tick or not
 pub longest :

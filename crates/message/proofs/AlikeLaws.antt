@@ -7,7 +7,8 @@ use Rattle.json_text.specs.declared.Walked.TheVariants as walked
 use Rattle.message.specs.Checks.{asks, lacks, breaks}
 use Rattle.fields.specs.Field.{keeps}
 use Rattle.fields.specs.Known.{empty, noted, repeated}
-use Rattle.message.specs.Message.{method_of, number_of, from_caller, to_caller, content_at, code_in, code_of, secure_of, setting_of, sides_disagree, callback_training, request_disagrees}
+use Rattle.message.specs.Message.{method_of, number_of, from_caller, to_caller, content_at, code_in, code_of, secure_of, setting_of, sides_disagree, callback_training}
+use Rattle.message.specs.Message.{request_disagrees}
 use Rattle.message.specs.Message.{response_disagrees, disagrees, message_of, first_setting}
 use Rattle.fields.specs.Spans.{spelling_at, text_at}
 use Rattle.message.specs.Shape.{tag_of, object_of}
@@ -174,7 +175,8 @@ module _ {s t s' t' : List ℕ} {tag : ℕ} (a : Accepted s tag t) (l : Alike s 
     unfolding callback_training spelling_at
     same_training = rw (same-mode, same-service)
 
-  request-by : tag ≡ 1 → (u : Bool) → eqb (setting_of s tag t).method 1 ≡ u → (f : Bool) → request_disagrees s' (setting_of s tag t) t' f ≡ request_disagrees s (setting_of s tag t) t f
+  request-by : tag ≡ 1 → (u : Bool) → eqb (setting_of s tag t).method 1 ≡ u → (f : Bool)
+      → request_disagrees s' (setting_of s tag t) t' f ≡ request_disagrees s (setting_of s tag t) t f
   unfolding request_disagrees
   request-by o true h f = rw (same_training o (eqb-true _ 1 h))
   request-by o false h f = rw h

@@ -36,7 +36,8 @@ module _ (v : List ℕ) (o : ℕ) where
   abbrev ms : List (List ℕ × List ℕ)
   ms = map (spell v) (members v o)
 
-  keeps-parts : (n : ℕ) → hop_keeps v (get_or (hop_places v o) n 0) n ≡ true → (0 < get_or (hop_places v o) n 0) × (ruled (hop_rule n) (bytes v (get_or (hop_places v o) n 0)) ≡ true)
+  keeps-parts : (n : ℕ) → hop_keeps v (get_or (hop_places v o) n 0) n ≡ true
+      → (0 < get_or (hop_places v o) n 0) × (ruled (hop_rule n) (bytes v (get_or (hop_places v o) n 0)) ≡ true)
   unfolding hop_keeps
   keeps-parts n e = let r = and_parts (ltb 0 (get_or (hop_places v o) n 0)) (ruled (hop_rule n) (bytes v (get_or (hop_places v o) n 0))) e in (ltb-true 0 _ r.0, r.1)
 

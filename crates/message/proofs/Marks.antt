@@ -104,8 +104,10 @@ pub rows :
     × (reading ample (image (ascii "\"https://x\"") (ascii "NOTIFY") caller callee) ≡ Refused 9 57)
 unfolding reading reporting octets char_at begins goes_on tour begun json.begins from walk step is_ws begin opens point expo ends stops shaped tag_of tag_at object_of elements
     elements_from more follows past spaces
-    behind size left unmarked is_mark is_open is_shut raw closing part word_number_from same stands_at members members_from member_at value_of next known repeated has number_at note noted
-    judged checked lacks breaks lowest tag_asks method_asks is_in keeps ruled freely is_string is_array spelling_of text_of spelling_at text_at word_spelled text is_broken spelt lone
+    behind size left unmarked is_mark is_open is_shut raw closing part word_number_from same stands_at members members_from member_at value_of next known repeated has number_at
+    note noted
+    judged checked lacks breaks lowest tag_asks method_asks is_in keeps ruled freely is_string is_array spelling_of text_of spelling_at text_at word_spelled text is_broken spelt
+    lone
     letters_from letter_of took via_rule is_hop hop_places hop_rule hop_keeps
     address_rule status_field status_rule date_rule days_in leap caller_rule callee_rule sequence_rule call_id_rule destination_rule host_rule organization_rule reads run_length
     decimal_at
@@ -147,16 +149,20 @@ pub spelled :
     × (reading ample (referred (ascii "a\\rb")) ≡ Refused 9 64)
 unfolding reading reporting octets char_at begins goes_on tour begun json.begins from walk step is_ws begin opens point expo ends stops shaped tag_of tag_at object_of elements
     elements_from more follows past spaces
-    behind size left unmarked is_mark is_open is_shut raw closing part word_number_from same stands_at members members_from member_at value_of next known repeated has number_at note noted
-    judged checked lacks breaks lowest tag_asks method_asks is_in keeps ruled freely is_string is_array spelling_of text_of spelling_at text_at word_spelled text is_broken spelt lone
-    letters_from letter_of took is_hex_digit is_esc hexes memo_rule no_break points begins_point fire_rule escape_of strings.short unit quad nibble joined strings.pair is_high is_low
+    behind size left unmarked is_mark is_open is_shut raw closing part word_number_from same stands_at members members_from member_at value_of next known repeated has number_at
+    note noted
+    judged checked lacks breaks lowest tag_asks method_asks is_in keeps ruled freely is_string is_array spelling_of text_of spelling_at text_at word_spelled text is_broken spelt
+    lone
+    letters_from letter_of took is_hex_digit is_esc hexes memo_rule no_break points begins_point fire_rule escape_of strings.short unit quad nibble joined strings.pair is_high
+    is_low
     is_surrogate encoded via_rule is_hop hop_places hop_rule
     hop_keeps
     address_rule status_field status_rule date_rule days_in leap caller_rule callee_rule sequence_rule call_id_rule destination_rule host_rule organization_rule reads run_length
     decimal_at
     digits within holds all among is_alnum is_digit is_letter is_lower is_upper pieces.has_piece pieces.piece_end setting_of method_of number_of content_at sequence_of number_end
     sequence.cseq_number sequence.cseq_method settled agreed disagrees sides_disagree same_side from_caller to_caller address_of user_end caller_end callee_end
-    message_id_rule content_field one_of body_field names_image image_rule wrong_side wrong_number request_disagrees fault_at letter_at letter_reach place_of places_from letters.call_id_reach
+    message_id_rule content_field one_of body_field names_image image_rule wrong_side wrong_number request_disagrees fault_at letter_at letter_reach place_of places_from
+    letters.call_id_reach
     letters.reach_of letters.run_reach letters.follows letters.end_reach
 spelled = (refl, refl, refl, refl, refl, refl, refl, refl, refl, refl, refl)
 
@@ -176,16 +182,20 @@ pub letter-places :
     × (reading ample (dated (ascii "20230229")) ≡ Refused 9 16)
 unfolding reading reporting octets char_at begins goes_on tour begun json.begins from walk step is_ws begin opens point expo ends stops shaped tag_of tag_at object_of elements
     elements_from more follows past spaces
-    behind size left unmarked is_mark is_open is_shut raw closing part word_number_from same stands_at members members_from member_at value_of next known repeated has number_at note noted
-    judged checked lacks breaks lowest tag_asks method_asks is_in keeps ruled freely is_string is_array spelling_of text_of spelling_at text_at word_spelled text is_broken spelt lone
-    letters_from letter_of took is_hex_digit is_esc hexes memo_rule no_break points begins_point fire_rule escape_of strings.short unit quad nibble joined strings.pair is_high is_low
+    behind size left unmarked is_mark is_open is_shut raw closing part word_number_from same stands_at members members_from member_at value_of next known repeated has number_at
+    note noted
+    judged checked lacks breaks lowest tag_asks method_asks is_in keeps ruled freely is_string is_array spelling_of text_of spelling_at text_at word_spelled text is_broken spelt
+    lone
+    letters_from letter_of took is_hex_digit is_esc hexes memo_rule no_break points begins_point fire_rule escape_of strings.short unit quad nibble joined strings.pair is_high
+    is_low
     is_surrogate encoded via_rule is_hop hop_places hop_rule
     hop_keeps
     address_rule status_field status_rule date_rule days_in leap caller_rule callee_rule sequence_rule call_id_rule destination_rule host_rule organization_rule reads run_length
     decimal_at
     digits within holds all among is_alnum is_digit is_letter is_lower is_upper pieces.has_piece pieces.piece_end setting_of method_of number_of content_at sequence_of number_end
     sequence.cseq_number sequence.cseq_method settled agreed disagrees sides_disagree same_side from_caller to_caller address_of user_end caller_end callee_end
-    message_id_rule content_field one_of body_field names_image image_rule wrong_side wrong_number request_disagrees fault_at letter_at letter_reach place_of places_from letters.sequence_reach
+    message_id_rule content_field one_of body_field names_image image_rule wrong_side wrong_number request_disagrees fault_at letter_at letter_reach place_of places_from
+    letters.sequence_reach
     letters.date_reach letters.month_reach letters.day_reach letters.call_id_reach letters.reach_of letters.count_reach letters.fixed_reach
     letters.words_reach letters.higher letters.common letters.number_reach letters.meets letters.low letters.top letters.run_reach letters.follows letters.end_reach
 letter-places = (refl, refl, refl, refl, refl, refl)
@@ -198,10 +208,13 @@ pub counts :
     (reporting 6 six ≡ record { reading = Refused 8 25; count = 6 })
     × (reporting 5 six ≡ record { reading = Refused 11 30; count = 0 })
     × (reporting 2 six ≡ record { reading = Refused 11 8; count = 0 })
-unfolding reporting octets char_at begins goes_on tour begun json.begins from walk step is_ws begin opens point expo ends stops shaped tag_of tag_at object_of elements elements_from more
+unfolding reporting octets char_at begins goes_on tour begun json.begins from walk step is_ws begin opens point expo ends stops shaped tag_of tag_at object_of elements
+    elements_from more
     follows past spaces
-    behind size left unmarked is_mark is_open is_shut raw closing part word_number_from same stands_at members members_from member_at value_of next known repeated has number_at note noted
-    judged checked lacks breaks lowest tag_asks method_asks is_in keeps ruled freely is_string is_array spelling_of text_of text_at word_spelled text is_broken spelt lone letters_from
+    behind size left unmarked is_mark is_open is_shut raw closing part word_number_from same stands_at members members_from member_at value_of next known repeated has number_at
+    note noted
+    judged checked lacks breaks lowest tag_asks method_asks is_in keeps ruled freely is_string is_array spelling_of text_of text_at word_spelled text is_broken spelt lone
+    letters_from
     letter_of took among
 counts = (refl, refl, refl)
 
@@ -216,8 +229,10 @@ via_of n = ascii "[" ++ (hops n ++ ascii "{\"host\":\"h\",\"destination\":\"d\",
 
 -- Via: 1–16 objects
 pub via-counts : (via_rule (ascii "[]") ≡ false) × (via_rule (via_of 0) ≡ true) × (via_rule (via_of 15) ≡ true) × (via_rule (via_of 16) ≡ false)
-unfolding via_rule is_array elements elements_from more follows past spaces behind size left is_open is_shut is_ws is_hop hop_places hop_rule hop_keeps noted repeated has note number_at
-    members members_from member_at value_of next raw closing part word_number_from same ruled freely is_string spelling_of text_of word_spelled text is_broken spelt lone letters_from
+unfolding via_rule is_array elements elements_from more follows past spaces behind size left is_open is_shut is_ws is_hop hop_places hop_rule hop_keeps noted repeated has note
+    number_at
+    members members_from member_at value_of next raw closing part word_number_from same ruled freely is_string spelling_of text_of word_spelled text is_broken spelt lone
+    letters_from
     letter_of took host_rule destination_rule organization_rule reads
     pieces.has_piece pieces.piece_end run_length within holds among all is_alnum is_digit is_letter is_lower is_upper
 via-counts = (refl, refl, refl, refl)

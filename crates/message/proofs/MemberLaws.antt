@@ -77,7 +77,8 @@ paired s tag h e =
     }
 
 -- back
-pub tag_of_lem : (s : List ℕ) (x y tag : ℕ) → get_or s (past s 0) 0 ≡ 91 → elements s (past s 0) ≡ x ∷ (y ∷ []) → get_or s x 0 ≡ 34 → get_or s y 0 ≡ 123 → word_spelled tags (raw s x) ≡ tag
+pub tag_of_lem : (s : List ℕ) (x y tag : ℕ) → get_or s (past s 0) 0 ≡ 91 → elements s (past s 0) ≡ x ∷ (y ∷ []) → get_or s x 0 ≡ 34 → get_or s y 0 ≡ 123
+    → word_spelled tags (raw s x) ≡ tag
     → (tag_of s ≡ tag) × (object_of s ≡ y)
 unfolding tag_of tag_at
 tag_of_lem s x y tag a b c d e = (rw (eq-eqb _ 91 a, b, eq-eqb _ 34 c, eq-eqb _ 123 d, e), object-is s x y b)

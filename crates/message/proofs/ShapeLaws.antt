@@ -103,7 +103,8 @@ module _ (s : List ℕ) {o : ℕ} (at-o : o ≡ past s 0) where
                   nil-cons (sym (tail_of (tail_of (sym two-listed ∙ e)))
                   ∙ comma s (elements_from (n - 1 - 1) s) y at-z f ∙ one_element s (n - 1 - 1) (z + 1) g refl))
 
-              pub a_pair : get_or s o 0 ≡ 91 → get_or s y 0 ≡ 123 → (get_or s z 0 ≡ 44 → ⊥) → y < length s → {name : List ℕ} {tag : ℕ} → name ≡ raw s x → tag ≡ word_spelled tags name
+              pub a_pair : get_or s o 0 ≡ 91 → get_or s y 0 ≡ 123 → (get_or s z 0 ≡ 44 → ⊥) → y < length s → {name : List ℕ} {tag : ℕ} → name ≡ raw s x
+                  → tag ≡ word_spelled tags name
                   → Shaped s tag y
               unfolding tag_of tag_at open_of open_at
               a_pair array object ne inside {name} {tag} e f =

@@ -371,7 +371,8 @@ module _ {s : List ℕ} {c n tag o e room : ℕ} {t es : List ℕ} (big : c ≡ 
           by (no g) =
               no-json s c
               (ap is_end to_end
-              ∙ arr-end s after (text 8) room z z-high (λ i. arr-miss (text 8) (get_or s z 0) (ap (λ (j : ℕ). is_ws (get_or s j 0)) at-z ∙ past-ink s e (omega (arith, at-z))) ne g))
+              ∙ arr-end s after (text 8) room z z-high
+              (λ i. arr-miss (text 8) (get_or s z 0) (ap (λ (j : ℕ). is_ws (get_or s j 0)) at-z ∙ past-ink s e (omega (arith, at-z))) ne g))
 
       module _ (array : get_or s z 0 ≡ 93) {w : ℕ} (at-w : w ≡ past s (z + 1)) where
         to_last : tour s 0 value (text 8) c ≡ tour s w after (text 8) room

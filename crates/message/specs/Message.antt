@@ -12,7 +12,8 @@ use Rattle.fields.specs.declared.judging.Setting.{Setting}
 use Rattle.rules.specs.Address.{address_of}
 use Rattle.octets.specs.Ascii.{ascii}
 use Rattle.octets.specs.Text.{same}
-use Rattle.rules.specs.Numbers.{content_text, field_cseq, field_call_id, field_call_mode, field_content_type, field_from, field_request_service, field_secure_call, field_status, field_to}
+use Rattle.rules.specs.Numbers.{content_text, field_cseq, field_call_id, field_call_mode, field_content_type, field_from, field_request_service, field_secure_call, field_status}
+use Rattle.rules.specs.Numbers.{field_to}
 use Rattle.rules.specs.Numbers.{field_via, method_ack, method_callback, method_cancel, method_invite, method_message, method_notify, method_refer, tag_request, tag_response}
 use Rattle.rules.specs.Sequence.{sequence_of}
 use Rattle.rules.specs.Status.{status_of}

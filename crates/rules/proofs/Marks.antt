@@ -15,7 +15,8 @@ use Rattle.rules.specs.Names as names
 use Rattle.rules.specs.Names.{methods, tags}
 use Rattle.rules.specs.Numbers.{content_location, content_message_image, content_presence, content_text, content_text_image, tag_pong, tag_request, tag_response}
 use Rattle.rules.specs.Numbers.{method_ack, method_callback, method_cancel, method_invite, method_message, method_notify, method_refer}
-use Rattle.rules.specs.Numbers.{field_cseq, field_call_id, field_call_mode, field_content_type, field_from, field_request_service, field_secure_call, field_status, field_to, field_via}
+use Rattle.rules.specs.Numbers.{field_cseq, field_call_id, field_call_mode, field_content_type, field_from, field_request_service, field_secure_call, field_status, field_to}
+use Rattle.rules.specs.Numbers.{field_via}
 use Rattle.rules.specs.Words.{content_types}
 use Rattle.rules.specs.Pieces.{word_number, piece_end, digits, has_piece, word_number_from, reads, run_length, decimal_at, within}
 use Rattle.rules.specs.Sequence.{sequence_rule}
@@ -54,7 +55,8 @@ pub lengths :
     × Takes destination_rule 1 64
     × Takes organization_rule 2 10
     × Takes language_rule 2 2
-unfolding fire_rule user_rule call_id_rule host_rule destination_rule organization_rule language_rule reads has_piece piece_end within run_length holds among is_alnum is_digit is_letter is_lower
+unfolding fire_rule user_rule call_id_rule host_rule destination_rule organization_rule language_rule reads has_piece piece_end within run_length holds among is_alnum is_digit
+    is_letter is_lower
     is_upper
 lengths = (
   (refl, refl, refl, refl),
@@ -135,14 +137,14 @@ unfolding word_number_from same
 method-names = (refl, refl, refl, refl, refl, refl, refl)
 
 -- Content-Types
-pub content-names :
+pub content_names :
     (word_number content_types (ascii "text/plain") ≡ content_text)
     × (word_number content_types (ascii "text/vnd.net119.uri.image") ≡ content_text_image)
     × (word_number content_types (ascii "message/vnd.net119.uri.image") ≡ content_message_image)
     × (word_number content_types (ascii "message/vnd.net119.presence") ≡ content_presence)
     × (word_number content_types (ascii "message/vnd.net119.location") ≡ content_location)
 unfolding word_number_from same
-content-names = (refl, refl, refl, refl, refl)
+content_names = (refl, refl, refl, refl, refl)
 
 -- fields
 pub field-names :

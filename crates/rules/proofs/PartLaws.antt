@@ -76,11 +76,13 @@ module _ (lo hi : ℕ) (k e : Class) (s : List ℕ) (at end : ℕ) (some : 1 ≤
 
   first_edge : holds e (get_or s at 0) ≡ true
   unfolding within
-  first_edge = (and_parts (holds e (get_or s at 0)) (holds e (get_or s (end - 1) 0)) (and_parts (among lo hi (end - at)) (holds e (get_or s at 0) && holds e (get_or s (end - 1) 0)) h).1).0
+  first_edge = (and_parts (holds e (get_or s at 0)) (holds e (get_or s (end - 1) 0))
+      (and_parts (among lo hi (end - at)) (holds e (get_or s at 0) && holds e (get_or s (end - 1) 0)) h).1).0
 
   last_edge : holds e (get_or s (end - 1) 0) ≡ true
   unfolding within
-  last_edge = (and_parts (holds e (get_or s at 0)) (holds e (get_or s (end - 1) 0)) (and_parts (among lo hi (end - at)) (holds e (get_or s at 0) && holds e (get_or s (end - 1) 0)) h).1).1
+  last_edge = (and_parts (holds e (get_or s at 0)) (holds e (get_or s (end - 1) 0))
+      (and_parts (among lo hi (end - at)) (holds e (get_or s at 0) && holds e (get_or s (end - 1) 0)) h).1).1
 
   cut-length : length (take (end - at) (drop at s)) ≡ end - at
   cut-length = length-take-le (end - at) (drop at s) (omega (arith, run-le k (drop at s)))

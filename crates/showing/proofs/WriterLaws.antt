@@ -12,7 +12,8 @@ use Rattle.showing.proofs.WordLaws.{got_false, got_front, got_true, half, hex-sh
 use Rattle.showing.specs.Shown.{Puts, hexed, unknown}
 use Rattle.showing.specs.Words.{hex_bytes, first_word, has_space, is_bytes, number_to, rest}
 use Rattle.showing.specs.inner.Got.{Got}
-use Rattle.showing.specs.Writers.{edit_text, edited, filled, head_of, is_first, is_last, is_number, on_code, on_first, on_last, reply_line, text_line, took_line, took_text, wrote_line}
+use Rattle.showing.specs.Writers.{edit_text, edited, filled, head_of, is_first, is_last, is_number, on_code, on_first, on_last, reply_line, text_line, took_line, took_text}
+use Rattle.showing.specs.Writers.{wrote_line}
 use Rattle.showing.specs.Writers.{written_of, wrote_text}
 use Rattle.message.proofs.AcceptedVia.{part-short}
 use Rattle.writing.specs.Adding.{adding}
@@ -76,11 +77,13 @@ last_none words e = rw e
 
 -- Taking bytes.
 
-got_taken : (t : Bool) (w : List ℕ) {b : List ℕ} {at : ℕ} {r : ℕ} {b' : List ℕ} → t ≡ true → Got (is_bytes w) b at (hex_bytes w) r b' → Got (t && is_bytes w) b at (hex_bytes w) r b'
+got_taken : (t : Bool) (w : List ℕ) {b : List ℕ} {at : ℕ} {r : ℕ} {b' : List ℕ} → t ≡ true → Got (is_bytes w) b at (hex_bytes w) r b'
+    → Got (t && is_bytes w) b at (hex_bytes w) r b'
 got_taken t w e x = rw e x
 
 module _ (words : List ℕ) {b : List ℕ} {at r : ℕ} {b' : List ℕ} where
-  pub first_got : has_space words ≡ true → Got (is_bytes (first_word words)) b at (hex_bytes (first_word words)) r b' → Got (is_first words) b at (hex_bytes (first_word words)) r b'
+  pub first_got : has_space words ≡ true → Got (is_bytes (first_word words)) b at (hex_bytes (first_word words)) r b'
+      → Got (is_first words) b at (hex_bytes (first_word words)) r b'
   unfolding is_first
   first_got e x = got_taken _ (first_word words) e x
 
@@ -289,7 +292,8 @@ module _ (o : List ℕ) {k : ℕ} {o' : List ℕ} where
       says o (rw (q, l.taken, z, l.front) refl ∙ sym (l.on f)) p
 
   pub reply-first : {words b : List ℕ} {d : ℕ} {b' v : List ℕ} (code : ℕ) → First words b 0 d b' → v ≡ rest words
-      → Puts o (on_last v (λ n s. wrote_line n (replying s code (take d b')))) k o' → Puts o (on_first words (λ date v. on_last v (λ n s. wrote_line n (replying s code date)))) k o'
+      → Puts o (on_last v (λ n s. wrote_line n (replying s code (take d b')))) k o'
+      → Puts o (on_first words (λ date v. on_last v (λ n s. wrote_line n (replying s code date)))) k o'
   reply-first {words} {b} {d} {b'} {v} code l q p =
       let z : d - 0 ≡ d = omega arith in
       let t : take d b' ≡ hex_bytes (first_word words) = rw z at l.taken in

@@ -17,7 +17,8 @@ use Rattle.table.proofs.SlotLaws.{length_slot}
 use Rattle.table.proofs.SoundLaws.{record_used, texts_of_lem}
 use Rattle.table.specs.Blank.{blank_of}
 use Rattle.table.specs.Image.{record_count, header_of, record_at, with_record, free_record, record_size, header_size}
-use Rattle.table.specs.Record.{call_id_at, call_id_room, record_call_id, record_user, record_caller_fire, record_callee_fire, room_text, record_fields, texts_of, slot_of, with_fields}
+use Rattle.table.specs.Record.{call_id_at, call_id_room, record_call_id, record_user, record_caller_fire, record_callee_fire, room_text, record_fields, texts_of, slot_of}
+use Rattle.table.specs.Record.{with_fields}
 use Rattle.table.specs.Record.{new_record}
 use Rattle.table.specs.Record.{is_free, is_named, same_parties}
 use Rattle.table.specs.WellFormed.{padded, slot_sound, texts_sound, fields_sound, spare_sound, used_sound, record_sound, apart, apart_before, distinct, frame_sound, records_sound}
@@ -419,7 +420,8 @@ module _ (n : ℕ) (low : 1 ≤ n) (high : n ≤ 255) where
       let d : drop (header_size + record_size * k) (header_of n ++ zs (record_size * n)) ≡ drop (record_size * k) (zs (record_size * n)) =
       ap (λ (j : ℕ). drop (j + record_size * k) (header_of n ++ zs (record_size * n))) (sym (length_header n)) ∙ drop-append-add (header_of n)
       (zs (record_size * n)) (record_size * k) in
-      ap (take record_size) (d ∙ ap (drop (record_size * k)) q ∙ drop_at (zs (record_size * k)) (zs record_size ++ zs m) (record_size * k) (length-replicate {A = ℕ} (record_size * k) 0))
+      ap (take record_size) (d ∙ ap (drop (record_size * k)) q
+      ∙ drop_at (zs (record_size * k)) (zs record_size ++ zs m) (record_size * k) (length-replicate {A = ℕ} (record_size * k) 0))
       ∙ take_at (zs record_size) (zs m) record_size (length-replicate {A = ℕ} record_size 0)
 
   blank-frame : frame_sound (blank_of n) ≡ true

@@ -75,8 +75,10 @@ pub well-formed :
     × (well_formed (table_of (set (record_named (ascii "A1")) 65 1) free_record) ≡ false)
     -- a free record is all 00
     × (well_formed (table_of (record_named (ascii "A1")) (set free_record 159 1)) ≡ false)
-unfolding well_formed frame_sound header_of bytes_of same records_sound every record_sound used_sound fields_sound callee_sound record_fields onto texts_sound slot_sound padded room_text
-    call_id_rule user_rule fire_rule reads has_piece piece_end within run_length holds among all is_alnum is_digit is_letter is_lower is_upper distinct apart_before apart new_record record_of
+unfolding well_formed frame_sound header_of bytes_of same records_sound every record_sound used_sound fields_sound callee_sound record_fields onto texts_sound slot_sound padded
+    room_text
+    call_id_rule user_rule fire_rule reads has_piece piece_end within run_length holds among all is_alnum is_digit is_letter is_lower is_upper distinct apart_before apart
+    new_record record_of
     slot_of
     counts_of times_of
 well-formed = (refl, refl, refl, refl, refl, refl)

@@ -5,7 +5,8 @@ use Rattle.octets.specs.Class.{among, all}
 use Rattle.octets.specs.Text.{same}
 use Rattle.rules.specs.Texts.{call_id_rule, user_rule, fire_rule}
 use Rattle.table.specs.Image.{header_size, record_size, most_records, header_of, record_count, record_at}
-use Rattle.table.specs.Record.{call_id_at, user_at, caller_fire_at, callee_fire_at, spare_at, spare_size, call_id_room, party_room, room_at, room_text, record_call_id, record_fields, is_free}
+use Rattle.table.specs.Record.{call_id_at, user_at, caller_fire_at, callee_fire_at, spare_at, spare_size, call_id_room, party_room, room_at, room_text, record_call_id}
+use Rattle.table.specs.Record.{record_fields, is_free}
 use Rattle.table.specs.Search.{every}
 use Rattle.table.specs.declared.numbers.Fields.{Fields}
 

@@ -140,7 +140,8 @@ module _ {s : List ℕ} {tag : ℕ} {t : List ℕ} (a : Accepted s tag t) where
         rw added-text (utf_insert f (44 ∷ entry h d o) l (back-front 5 i is rest via-array.solid) g (entry-good h d o k))
 
     -- THE LAW: the message with our entry is accepted again
-    pub added-again : 1 ≤ length (added s (get_or t 6 0) (entry h d o)) → length (added s (get_or t 6 0) (entry h d o)) ≤ 32768 → Again s tag t (added s (get_or t 6 0) (entry h d o))
+    pub added-again : 1 ≤ length (added s (get_or t 6 0) (entry h d o)) → length (added s (get_or t 6 0) (entry h d o)) ≤ 32768
+        → Again s tag t (added s (get_or t 6 0) (entry h d o))
     added-again x y = via-changed a (added s (get_or t 6 0) (entry h d o)) (added (bytes s (get_or t 6 0)) 0 (entry h d o)) forward-all.changed added-rule x y added-good
 
   -- taking off, where there are two or more
@@ -148,7 +149,8 @@ module _ {s : List ℕ} {tag : ℕ} {t : List ℕ} (a : Accepted s tag t) where
     reduce-by : (es : List ℕ) → elements s (get_or t 6 0) ≡ es → Reduced s (shape a).x (shape a).y (via_where a).n (get_or t 6 0)
     reduce-by [] e = absurd (omega (arith, ap length e))
     reduce-by (x₁ ∷ []) e = absurd (omega (arith, ap length e))
-    reduce-by (x₁ ∷ (x₂ ∷ xs)) e = removing s (shape a).x (shape a).y (via_where a).n (get_or t 6 0) (via-member a) x₁ x₂ xs opens e (all_open 5 s (elements s (get_or t 6 0)) stand)
+    reduce-by (x₁ ∷ (x₂ ∷ xs)) e = removing s (shape a).x (shape a).y (via_where a).n (get_or t 6 0) (via-member a) x₁ x₂ xs opens e
+        (all_open 5 s (elements s (get_or t 6 0)) stand)
 
     pub reduce-all : Reduced s (shape a).x (shape a).y (via_where a).n (get_or t 6 0)
     reduce-all = reduce-by (elements s (get_or t 6 0)) refl

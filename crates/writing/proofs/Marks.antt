@@ -7,7 +7,8 @@ use Prim.Native.Nat.{ℕ}
 use Rattle.frame.specs.Edit.{added, stops_of}
 use Rattle.json_text.specs.inner.Machine.{ends}
 use Rattle.json_text.specs.inner.Tour.{tour}
-use Rattle.json_text.specs.Places.{behind, closing, elements, elements_from, follows, is_open, is_shut, left as left_of, member_at, members, members_from, more, next, part, last_of, is_ws}
+use Rattle.json_text.specs.Places.{behind, closing, elements, elements_from, follows, is_open, is_shut, left as left_of, member_at, members, members_from, more, next, part}
+use Rattle.json_text.specs.Places.{last_of, is_ws}
 use Rattle.json_text.specs.Places.{past, raw, size, spaces, value_of}
 use Rattle.message.specs.Checks.{breaks, checked, lacks, lowest}
 use Rattle.fields.specs.Field.{keeps}
@@ -55,13 +56,19 @@ begun =
 pub adds :
     adding (begun ++ ascii " ]}]") (ascii "h2") (ascii "d") (ascii "og")
     ≡ write (begun ++ ascii ",{\"host\":\"h2\",\"destination\":\"d\",\"organization\":\"og\"} ]}]")
-unfolding reading reporting tour json.begun json.begins octets char_at begins goes_on from walk step is_ws begin opens ends stops shaped tag_of tag_at object_of elements elements_from
+unfolding reading reporting tour json.begun json.begins octets char_at begins goes_on from walk step is_ws begin opens ends stops shaped tag_of tag_at object_of elements
+    elements_from
     more follows past spaces behind size left_of is_open is_shut raw closing part word_number_from same stands_at members members_from member_at value_of next known repeated has
-    number_at note noted judged checked lacks breaks lowest tag_asks method_asks is_in keeps ruled freely is_string is_array spelling_of text_of spelling_at text_at word_spelled text
-    is_broken spelt lone letters_from letter_of took via_rule is_hop hop_places hop_rule hop_keeps address_rule date_rule days_in leap caller_rule callee_rule sequence_rule call_id_rule
-    destination_rule host_rule organization_rule reads run_length decimal_at digits within holds all among is_alnum is_digit is_letter is_lower is_upper pieces.has_piece pieces.piece_end
-    setting_of method_of number_of content_at sequence_of number_end sequence.cseq_number sequence.cseq_method settled agreed disagrees sides_disagree same_side wrong_side wrong_number
-    request_disagrees from_caller to_caller address_of user_end caller_end callee_end message_of adding add_to entry path_rule some is_ours spells host_of destination_of hop_of added stops_of
+    number_at note noted judged checked lacks breaks lowest tag_asks method_asks is_in keeps ruled freely is_string is_array spelling_of text_of spelling_at text_at word_spelled
+    text
+    is_broken spelt lone letters_from letter_of took via_rule is_hop hop_places hop_rule hop_keeps address_rule date_rule days_in leap caller_rule callee_rule sequence_rule
+    call_id_rule
+    destination_rule host_rule organization_rule reads run_length decimal_at digits within holds all among is_alnum is_digit is_letter is_lower is_upper pieces.has_piece
+    pieces.piece_end
+    setting_of method_of number_of content_at sequence_of number_end sequence.cseq_number sequence.cseq_method settled agreed disagrees sides_disagree same_side wrong_side
+    wrong_number
+    request_disagrees from_caller to_caller address_of user_end caller_end callee_end message_of adding add_to entry path_rule some is_ours spells host_of destination_of hop_of
+    added stops_of
     last_of
 adds = refl
 
@@ -70,21 +77,24 @@ abbrev sixteen : List ℕ
 sixteen = ascii "[{\"host\":\"h\",\"destination\":\"d\"},{},{},{},{},{},{},{},{},{},{},{},{},{},{},{}]"
 
 -- adding: 34, our host and destination in one Via object, comes before 35, sixteen objects
-pub loop-before-full :
+pub loop_before-full :
     (add_to sixteen (probe_of 1) (ascii "h") (ascii "d") (ascii "og") ≡ refuse Loop)
     × (add_to sixteen (probe_of 1) (ascii "h") (ascii "e") (ascii "og") ≡ refuse Full)
 unfolding add_to probe_of some is_ours host_of destination_of hop_of hop_places repeated has number_at note noted members members_from member_at value_of next raw closing part
-    word_number_from same elements elements_from more follows past spaces behind size left_of is_open is_shut is_ws spelling_at spelling_of word_spelled spells text is_broken spelt lone
+    word_number_from same elements elements_from more follows past spaces behind size left_of is_open is_shut is_ws spelling_at spelling_of word_spelled spells text is_broken
+    spelt lone
     letters_from letter_of took
-loop-before-full = (refl, refl)
+loop_before-full = (refl, refl)
 
 -- an object is ours by its texts, however they are spelled; the text of a part of a message (02 §2)
 pub by-texts :
     (is_ours (ascii "h") (ascii "d") (ascii "{\"ho\\u0073t\":\"\\u0068\",\"destination\":\"d\"}") ≡ true)
     × (texting (ascii "h\\u0031") ≡ write (ascii "h1"))
     × (texting (ascii "\\uD834") ≡ refuse Broken)
-unfolding is_ours spells host_of destination_of hop_of hop_places repeated has number_at note noted members members_from member_at value_of next raw closing part word_number_from same
-    more follows past spaces behind size left_of is_open is_shut is_ws spelling_at spelling_of word_spelled texting text is_broken spelt lone letters_from letter_of took escape_of short
+unfolding is_ours spells host_of destination_of hop_of hop_places repeated has number_at note noted members members_from member_at value_of next raw closing part word_number_from
+    same
+    more follows past spaces behind size left_of is_open is_shut is_ws spelling_at spelling_of word_spelled texting text is_broken spelt lone letters_from letter_of took escape_of
+    short
     unit joined quad nibble is_high is_low is_surrogate encoded among is_digit
 by-texts = (refl, refl, refl)
 

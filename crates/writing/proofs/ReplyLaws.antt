@@ -157,7 +157,8 @@ module _ (status cseq to from call date via : List ℕ) (p₀ : plainly status �
   tag-two = rw tag-name
 
   shape_two : (tag_of text₀ ≡ 2) × (object_of text₀ ≡ 12)
-  shape_two = tag_of_lem text₀ 1 12 2 (ap (λ (n : ℕ). get_or text₀ n 0) (message-start around around-fine f₀ fs₀ seven-fine) ∙ array-byte) two-elements string-byte object-byte tag-two
+  shape_two = tag_of_lem text₀ 1 12 2 (ap (λ (n : ℕ). get_or text₀ n 0) (message-start around around-fine f₀ fs₀ seven-fine) ∙ array-byte) two-elements string-byte object-byte
+      tag-two
 
   six-few : 6 ≤ length fs₀
   six-few = omega arith

@@ -355,7 +355,8 @@ unfolding message_of setting_of
 method-is s tag t m e = sym (ap (λ (x : Message). x.method) e)
 
 text_of_lem : (s t : List ℕ) (m : Message) (code : ℕ) (date : List ℕ) → message_of s (setting_of s 1 t) t ≡ m
-    → reply_text (status_text code) (bytes s (get_or t 1 0)) (bytes s (get_or t 2 0)) (bytes s (get_or t 3 0)) (bytes s (get_or t 5 0)) date (bytes s (get_or t 6 0)) ≡ reply_of s m code date
+    → reply_text (status_text code) (bytes s (get_or t 1 0)) (bytes s (get_or t 2 0)) (bytes s (get_or t 3 0)) (bytes s (get_or t 5 0)) date (bytes s (get_or t 6 0)) ≡ reply_of s
+    m code date
 unfolding reply_of message_of
 text_of_lem s t m code date e = ap (λ (x : Message). reply_of s x code date) e
 

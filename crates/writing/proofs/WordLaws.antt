@@ -66,7 +66,8 @@ unfolding status_text listed right_at
 status-right code e =
     let h = ltb-true (index_in codes code) 14 e in
     let r = right-at texts codes (index_in codes code) all_right h in
-    let p = and_parts (status_rule (get_or texts (index_in codes code) [])) (eqb (decimal_at 3 (get_or texts (index_in codes code) []) 0) (get_or codes (index_in codes code) 0)) r in
+    let p = and_parts (status_rule (get_or texts (index_in codes code) [])) (eqb (decimal_at 3 (get_or texts (index_in codes code) []) 0) (get_or codes (index_in codes code) 0))
+    r in
     (p.0, eqb-true _ _ p.1 ∙ index_is codes code h)
 
 pub status-kept : (code : ℕ) → listed code ≡ true → status_rule (status_text code) ≡ true

@@ -59,7 +59,8 @@ is_sign b = eqb b (code "+") || eqb b (code "-")
 
 -- what may follow a backslash, 'u' aside: " \ / b f n r t
 unfoldable pub is_esc : ℕ → Bool
-is_esc b = eqb b (code "\"") || (eqb b (code "\\") || (eqb b (code "/") || (eqb b (code "b") || (eqb b (code "f") || (eqb b (code "n") || (eqb b (code "r") || eqb b (code "t")))))))
+is_esc b = eqb b (code "\"") ||
+    (eqb b (code "\\") || (eqb b (code "/") || (eqb b (code "b") || (eqb b (code "f") || (eqb b (code "n") || (eqb b (code "r") || eqb b (code "t")))))))
 
 -- a byte of a string that stands for itself: neither a quote, a backslash nor a control
 unfoldable pub is_plain : ℕ → Bool

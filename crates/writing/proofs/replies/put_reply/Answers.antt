@@ -30,20 +30,23 @@ returns-then-out-total c =
 pub put-p-requires : goal.put-p-requires
 put-p-requires c =
     let x = c.args in
-    let fits : 76 + length (status_text x.code) + length x.date.now + length x.cseq.now + length x.to.now + length x.from.now + length x.call.now + length x.via.now ≤ length x.out.now = omega (arith, c.status_length-status.ensures.0, c.if-out-total.false) in
+    let fits : 76 + length (status_text x.code) + length x.date.now + length x.cseq.now + length x.to.now + length x.from.now + length x.call.now + length x.via.now ≤ length
+    x.out.now = omega (arith, c.status_length-status.ensures.0, c.if-out-total.false) in
     room (ascii "[\"response\",{\"Status\":\"") (start x.out.now) (simp length-append (omega (arith, fits)))
 
 pub put_status-p-requires : goal.put_status-p-requires
 put_status-p-requires c =
     let x = c.args in
-    let fits : 76 + length (status_text x.code) + length x.date.now + length x.cseq.now + length x.to.now + length x.from.now + length x.call.now + length x.via.now ≤ length x.out.now = omega (arith, c.status_length-status.ensures.0, c.if-out-total.false) in
+    let fits : 76 + length (status_text x.code) + length x.date.now + length x.cseq.now + length x.to.now + length x.from.now + length x.call.now + length x.via.now ≤ length
+    x.out.now = omega (arith, c.status_length-status.ensures.0, c.if-out-total.false) in
     let a1 = more (ascii "[\"response\",{\"Status\":\"") (start x.out.now) c.put-p.ensures in
     room (status_text x.code) a1 (simp length-append (omega (arith, fits)))
 
 pub put_both-p-requires : goal.put_both-p-requires
 put_both-p-requires c =
     let x = c.args in
-    let fits : 76 + length (status_text x.code) + length x.date.now + length x.cseq.now + length x.to.now + length x.from.now + length x.call.now + length x.via.now ≤ length x.out.now = omega (arith, c.status_length-status.ensures.0, c.if-out-total.false) in
+    let fits : 76 + length (status_text x.code) + length x.date.now + length x.cseq.now + length x.to.now + length x.from.now + length x.call.now + length x.via.now ≤ length
+    x.out.now = omega (arith, c.status_length-status.ensures.0, c.if-out-total.false) in
     let a1 = more (ascii "[\"response\",{\"Status\":\"") (start x.out.now) c.put-p.ensures in
     let a2 = more (status_text x.code) a1 c.put_status-p.ensures in
     room (ascii "\",\"CSeq\":" ++ x.cseq.now) a2 (simp length-append (omega (arith, fits)))
@@ -51,7 +54,8 @@ put_both-p-requires c =
 pub put_both-p-requires-2 : goal.put_both-p-requires-2
 put_both-p-requires-2 c =
     let x = c.args in
-    let fits : 76 + length (status_text x.code) + length x.date.now + length x.cseq.now + length x.to.now + length x.from.now + length x.call.now + length x.via.now ≤ length x.out.now = omega (arith, c.status_length-status.ensures.0, c.if-out-total.false) in
+    let fits : 76 + length (status_text x.code) + length x.date.now + length x.cseq.now + length x.to.now + length x.from.now + length x.call.now + length x.via.now ≤ length
+    x.out.now = omega (arith, c.status_length-status.ensures.0, c.if-out-total.false) in
     let a1 = more (ascii "[\"response\",{\"Status\":\"") (start x.out.now) c.put-p.ensures in
     let a2 = more (status_text x.code) a1 c.put_status-p.ensures in
     let a3 = more (ascii "\",\"CSeq\":" ++ x.cseq.now) a2 c.put_both-p.ensures in
@@ -60,7 +64,8 @@ put_both-p-requires-2 c =
 pub put_both-p-requires-3 : goal.put_both-p-requires-3
 put_both-p-requires-3 c =
     let x = c.args in
-    let fits : 76 + length (status_text x.code) + length x.date.now + length x.cseq.now + length x.to.now + length x.from.now + length x.call.now + length x.via.now ≤ length x.out.now = omega (arith, c.status_length-status.ensures.0, c.if-out-total.false) in
+    let fits : 76 + length (status_text x.code) + length x.date.now + length x.cseq.now + length x.to.now + length x.from.now + length x.call.now + length x.via.now ≤ length
+    x.out.now = omega (arith, c.status_length-status.ensures.0, c.if-out-total.false) in
     let a1 = more (ascii "[\"response\",{\"Status\":\"") (start x.out.now) c.put-p.ensures in
     let a2 = more (status_text x.code) a1 c.put_status-p.ensures in
     let a3 = more (ascii "\",\"CSeq\":" ++ x.cseq.now) a2 c.put_both-p.ensures in
@@ -70,7 +75,8 @@ put_both-p-requires-3 c =
 pub put_both-p-requires-4 : goal.put_both-p-requires-4
 put_both-p-requires-4 c =
     let x = c.args in
-    let fits : 76 + length (status_text x.code) + length x.date.now + length x.cseq.now + length x.to.now + length x.from.now + length x.call.now + length x.via.now ≤ length x.out.now = omega (arith, c.status_length-status.ensures.0, c.if-out-total.false) in
+    let fits : 76 + length (status_text x.code) + length x.date.now + length x.cseq.now + length x.to.now + length x.from.now + length x.call.now + length x.via.now ≤ length
+    x.out.now = omega (arith, c.status_length-status.ensures.0, c.if-out-total.false) in
     let a1 = more (ascii "[\"response\",{\"Status\":\"") (start x.out.now) c.put-p.ensures in
     let a2 = more (status_text x.code) a1 c.put_status-p.ensures in
     let a3 = more (ascii "\",\"CSeq\":" ++ x.cseq.now) a2 c.put_both-p.ensures in
@@ -81,7 +87,8 @@ put_both-p-requires-4 c =
 pub put_both-p-requires-5 : goal.put_both-p-requires-5
 put_both-p-requires-5 c =
     let x = c.args in
-    let fits : 76 + length (status_text x.code) + length x.date.now + length x.cseq.now + length x.to.now + length x.from.now + length x.call.now + length x.via.now ≤ length x.out.now = omega (arith, c.status_length-status.ensures.0, c.if-out-total.false) in
+    let fits : 76 + length (status_text x.code) + length x.date.now + length x.cseq.now + length x.to.now + length x.from.now + length x.call.now + length x.via.now ≤ length
+    x.out.now = omega (arith, c.status_length-status.ensures.0, c.if-out-total.false) in
     let a1 = more (ascii "[\"response\",{\"Status\":\"") (start x.out.now) c.put-p.ensures in
     let a2 = more (status_text x.code) a1 c.put_status-p.ensures in
     let a3 = more (ascii "\",\"CSeq\":" ++ x.cseq.now) a2 c.put_both-p.ensures in
@@ -93,7 +100,8 @@ put_both-p-requires-5 c =
 pub put_both-p-requires-6 : goal.put_both-p-requires-6
 put_both-p-requires-6 c =
     let x = c.args in
-    let fits : 76 + length (status_text x.code) + length x.date.now + length x.cseq.now + length x.to.now + length x.from.now + length x.call.now + length x.via.now ≤ length x.out.now = omega (arith, c.status_length-status.ensures.0, c.if-out-total.false) in
+    let fits : 76 + length (status_text x.code) + length x.date.now + length x.cseq.now + length x.to.now + length x.from.now + length x.call.now + length x.via.now ≤ length
+    x.out.now = omega (arith, c.status_length-status.ensures.0, c.if-out-total.false) in
     let a1 = more (ascii "[\"response\",{\"Status\":\"") (start x.out.now) c.put-p.ensures in
     let a2 = more (status_text x.code) a1 c.put_status-p.ensures in
     let a3 = more (ascii "\",\"CSeq\":" ++ x.cseq.now) a2 c.put_both-p.ensures in
@@ -106,7 +114,8 @@ put_both-p-requires-6 c =
 pub put-requires : goal.put-requires
 put-requires c =
     let x = c.args in
-    let fits : 76 + length (status_text x.code) + length x.date.now + length x.cseq.now + length x.to.now + length x.from.now + length x.call.now + length x.via.now ≤ length x.out.now = omega (arith, c.status_length-status.ensures.0, c.if-out-total.false) in
+    let fits : 76 + length (status_text x.code) + length x.date.now + length x.cseq.now + length x.to.now + length x.from.now + length x.call.now + length x.via.now ≤ length
+    x.out.now = omega (arith, c.status_length-status.ensures.0, c.if-out-total.false) in
     let a1 = more (ascii "[\"response\",{\"Status\":\"") (start x.out.now) c.put-p.ensures in
     let a2 = more (status_text x.code) a1 c.put_status-p.ensures in
     let a3 = more (ascii "\",\"CSeq\":" ++ x.cseq.now) a2 c.put_both-p.ensures in
@@ -120,7 +129,8 @@ put-requires c =
 pub returns : goal.returns
 returns c =
     let x = c.args in
-    let fits : 76 + length (status_text x.code) + length x.date.now + length x.cseq.now + length x.to.now + length x.from.now + length x.call.now + length x.via.now ≤ length x.out.now = omega (arith, c.status_length-status.ensures.0, c.if-out-total.false) in
+    let fits : 76 + length (status_text x.code) + length x.date.now + length x.cseq.now + length x.to.now + length x.from.now + length x.call.now + length x.via.now ≤ length
+    x.out.now = omega (arith, c.status_length-status.ensures.0, c.if-out-total.false) in
     let a1 = more (ascii "[\"response\",{\"Status\":\"") (start x.out.now) c.put-p.ensures in
     let a2 = more (status_text x.code) a1 c.put_status-p.ensures in
     let a3 = more (ascii "\",\"CSeq\":" ++ x.cseq.now) a2 c.put_both-p.ensures in
@@ -131,6 +141,7 @@ returns c =
     let a8 = more (ascii "\",\"Via\":" ++ x.via.now) a7 c.put_both-p-6.ensures in
     let a9 = more (ascii "}]") a8 c.put.ensures in
     done x.out.now (reply_text (status_text x.code) x.cseq.now x.to.now x.from.now x.call.now x.date.now x.via.now)
-    (76 + length (status_text x.code) + length x.date.now + length x.cseq.now + length x.to.now + length x.from.now + length x.call.now + length x.via.now) (sym (reply-long (status_text x.code) x.cseq.now x.to.now x.from.now x.call.now x.date.now x.via.now))
+    (76 + length (status_text x.code) + length x.date.now + length x.cseq.now + length x.to.now + length x.from.now + length x.call.now + length x.via.now)
+    (sym (reply-long (status_text x.code) x.cseq.now x.to.now x.from.now x.call.now x.date.now x.via.now))
     (omega (arith, c.status_length-status.ensures.0, c.if-total-gt32768.false)) fits
     (rw (reply-parts (status_text x.code) x.cseq.now x.to.now x.from.now x.call.now x.date.now x.via.now) at a9)
