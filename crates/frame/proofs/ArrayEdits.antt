@@ -9,7 +9,7 @@ use Prim.Native.Nat.{ℕ, ◌+◌}
 use native.Mathlib.Omega.{arith}
 use lib.ListN.{length, take, drop, length-append}
 use lib.Seq.{drop-append_seam, take-append_seam, drop-append-add}
-use Rattle.json_text.specs.Places.{behind, elements, bytes, last_of, prev_of}
+use Rattle.json_text.specs.Places.{elements, bytes, last_of, prev_of}
 use Rattle.json_text.proofs.Listing.{Blank, Item, item, items, Good, Goods, values, stops_at, array-read, array-stops}
 use Rattle.frame.specs.Edit.{added, removed, stops_of}
 use Rattle.frame.proofs.Standing.{Val, Piece, piece-val}

@@ -24,7 +24,7 @@ use Rattle.frame.proofs.ArrayEdits.{Solids, solid-goods, grow, grow₁, grow-sol
 use Rattle.frame.proofs.ArrayEdits.{array-elements, added_is, removed-is, removed-added, removed-framed}
 use Rattle.frame.proofs.Parsed.{spaced, piece-array}
 use Rattle.frame.proofs.MessageShape.{Fronts, beyond-front, swap₁, swaps, value_at, swap_read, swap_read_lem, swap_fine, before, beyond, value-val, Around}
-use Rattle.frame.proofs.MessageShape.{AroundFine, object, message, head, tail, up_to, message-split, message-swapped, message-accepted, message-members}
+use Rattle.frame.proofs.MessageShape.{AroundFine, message, head, tail, up_to, message-split, message-swapped, message-accepted, message-members}
 use Rattle.frame.proofs.MessageShape.{value_there, message-start, message-elements, message-tag, Shape, accepted, shape-place, seen, starts_with}
 use Rattle.frame.proofs.MessageShape.{not-empty}
 

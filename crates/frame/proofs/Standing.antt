@@ -11,7 +11,7 @@ use native.Mathlib.Omega.{arith}
 use lib.ListN.{length, get_or, drop, take, length-append}
 use lib.Seq.{take-append_seam}
 use lib.Dec.{eqb}
-use Rattle.json_text.specs.inner.Machine.{Stack, alone, levels, Mode, value, after, Next, live, step, ends, over, takes, walk, from, one}
+use Rattle.json_text.specs.inner.Machine.{Stack, alone, levels, Mode, value, after, Next, live, step, over, takes, walk, from, one}
 use Rattle.json_text.specs.Places.{behind, bytes, is_ws}
 use Rattle.json_text.specs.declared.Walked.TheVariants.{End}
 use Rattle.json_text.proofs.Listing.{Sized, Starts, behind-is, bytes-is}

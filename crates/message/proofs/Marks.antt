@@ -3,7 +3,7 @@ use Rattle.json_text.specs.inner.Begun as json
 use Rattle.json_text.specs.inner.Begun.{begun}
 use Rattle.json_text.specs.inner.Machine.{begin, ends, expo, from, hexes, is_esc, is_hex_digit, opens, point, step, stops, walk}
 use Rattle.json_text.specs.inner.Tour.{tour}
-use Prim.Native.Nat.{ℕ, zero, suc, ◌+◌}
+use Prim.Native.Nat.{ℕ, zero, suc}
 use Rattle.json_text.specs.Places.{behind, closing, elements, elements_from, follows, is_mark, is_open, is_shut, left, member_at, members, members_from, more, next, part, is_ws}
 use Rattle.json_text.specs.Places.{past, raw, size, spaces, unmarked, value_of}
 use Rattle.message.specs.Checks.{breaks, checked, lacks, lowest}

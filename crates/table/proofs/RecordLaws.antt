@@ -1,5 +1,5 @@
 -- A record and its fields: how the stores put it together, and that what is put together is read back. Assumes nothing.
-use Prim.Native.Nat.{ℕ, ◌+◌, ◌-◌, ◌≤◌, ◌<◌}
+use Prim.Native.Nat.{ℕ, ◌+◌, ◌≤◌, ◌<◌}
 use Rattle.octets.proofs.Chain.{length-splice}
 use Rattle.octets.proofs.NumberLaws.{length-bytes_of}
 use Rattle.octets.specs.Number.{bytes_of}

@@ -1,6 +1,5 @@
 -- Objects of Via by their own bytes: an object of Via in any text is one by itself, and back (`hop-own`, `own-hop`), so Via's rule is one on the bytes of
 -- its objects (`via-solid`, `solid-via`). Assumes nothing.
-use Rattle.octets.proofs.TextLaws.{there}
 use Prim.Native.Nat.{ℕ, zero, suc, ◌+◌, ◌-◌, ◌≤◌, ◌<◌}
 use Rattle.frame.proofs.ArrayEdits.{Solids, solid-goods, array-elements}
 use Rattle.frame.proofs.Forwarding.{AllOpen, Solidly, solidly_as, not_none}

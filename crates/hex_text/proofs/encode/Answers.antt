@@ -1,4 +1,4 @@
-use Prim.Native.Nat.{◌*◌, ◌+◌, ◌-◌, ◌<◌}
+use Prim.Native.Nat.{◌*◌, ◌+◌, ◌<◌}
 use Rattle.hex_text.proofs.HexLaws.{encoded-high, encoded-low, length-encoded, written_all, written-more, written_none}
 use Rattle.hex_text.proofs.encode.Goals as goal
 use Rattle.hex_text.specs.Digits.{encoded}

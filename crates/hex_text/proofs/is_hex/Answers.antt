@@ -1,4 +1,3 @@
-use Prim.Native.Nat.{◌-◌}
 use Rattle.hex_text.proofs.is_hex.Goals as goal
 use Rattle.hex_text.specs.Digits.{is_hex, is_lower_hex}
 use Rattle.octets.proofs.ClassLaws.{all-ends, all_more, all-stops}

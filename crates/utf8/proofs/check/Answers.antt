@@ -1,4 +1,3 @@
-use Prim.Native.Nat.{◌-◌}
 use Rattle.utf8.proofs.PassedLaws.{stays, then, passed-char}
 use Rattle.utf8.proofs.Walk.{char-bad, ends}
 use Rattle.utf8.proofs.check.Goals as goal

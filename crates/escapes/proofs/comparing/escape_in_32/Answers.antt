@@ -1,4 +1,4 @@
-use Prim.Native.Nat.{◌-◌, ◌+◌, ℕ}
+use Prim.Native.Nat.{◌+◌, ℕ}
 use Rattle.escapes.proofs.PlainLaws.{escaped-more}
 use Rattle.escapes.proofs.comparing.escape_in_32.Goals as goal
 use Rattle.escapes.specs.Text.{escaped}

@@ -1,4 +1,3 @@
-use Prim.Native.Nat.{◌-◌}
 use Rattle.escapes.proofs.PlainLaws.{found_at}
 use Rattle.escapes.proofs.comparing.is_escaped.Goals as goal
 use borrow.Author.Rules.{rules}

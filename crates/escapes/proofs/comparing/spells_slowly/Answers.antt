@@ -1,4 +1,3 @@
-use Prim.Native.Nat.{◌-◌}
 use Rattle.escapes.proofs.LetterLaws.{sound-at, escape-room}
 use Rattle.escapes.proofs.SpellLaws.{own-goes, own-stops, own-past, escape-lone, escape-goes, escape-stops, all_read, text-room}
 use Rattle.escapes.proofs.comparing.spells_slowly.Goals as goal

@@ -1,4 +1,3 @@
-use Prim.Native.Nat.{◌-◌}
 use Rattle.escapes.proofs.DecodeLaws.{start, step-own, step-escape, ends}
 use Rattle.escapes.proofs.LetterLaws.{sound-at, escape-room}
 use Rattle.escapes.proofs.decoding.decode.Goals as goal

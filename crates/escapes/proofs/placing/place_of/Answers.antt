@@ -1,4 +1,3 @@
-use Prim.Native.Nat.{◌-◌}
 use Rattle.escapes.proofs.LetterLaws.{sound-at, escape-room}
 use Rattle.escapes.proofs.PlaceLaws.{start, ends, own-stops, own-more, escape-stops, escape-more}
 use Rattle.escapes.proofs.placing.place_of.Goals as goal

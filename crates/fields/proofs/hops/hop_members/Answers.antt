@@ -6,7 +6,6 @@ use Rattle.json_text.proofs.TurnLaws.{no_more, spent}
 use Rattle.octets.proofs.TextLaws.{there}
 use borrow.Author.Rules.{rules}
 use borrow.Author.Tests.{eqb-true}
-use mathlib.Core.Bool.{true}
 use mathlib.Core.Path.{sym, ◌∙◌}
 use native.Mathlib.Omega.{arith}
 

@@ -1,5 +1,5 @@
 -- `fields::judging::is_strings` meets its contract. The loop keeps that the elements still to come decide. Assumes nothing.
-use Prim.Native.Nat.{◌-◌, ◌≤◌, ◌<◌}
+use Prim.Native.Nat.{◌≤◌, ◌<◌}
 use Rattle.fields.proofs.FieldLaws.{quotes}
 use Rattle.fields.proofs.judging.is_strings.Given as goal
 use Rattle.fields.specs.Field.{strings_field}

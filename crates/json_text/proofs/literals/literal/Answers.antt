@@ -1,4 +1,3 @@
-use Prim.Native.Nat.{◌-◌}
 use Rattle.json_text.proofs.LeafLaws.{word-hit, word-miss, word-short, word-done}
 use Rattle.json_text.proofs.literals.literal.Goals as goal
 use borrow.Author.Rules.{rules}

@@ -1,10 +1,7 @@
-use Prim.Native.Nat.{◌-◌}
 use Rattle.json_text.proofs.MoveLaws.{moves}
 use Rattle.json_text.proofs.numbers.past_digits.Goals as goal
 use Rattle.json_text.specs.inner.Machine.{live}
-use Rattle.octets.specs.Class.{is_digit}
 use borrow.Author.Rules.{rules}
-use mathlib.Core.Bool.{true}
 use mathlib.Core.Path.{refl, sym, ◌∙◌}
 use native.Mathlib.Omega.{arith}
 

@@ -1,4 +1,3 @@
-use Prim.Native.Nat.{◌-◌}
 use Rattle.json_text.proofs.PlaceLaws as laws
 use Rattle.json_text.proofs.places.nest_end.Goals as goal
 use Rattle.json_text.specs.Places.{outside}

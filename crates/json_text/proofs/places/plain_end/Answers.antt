@@ -1,4 +1,3 @@
-use Prim.Native.Nat.{◌-◌}
 use Rattle.json_text.proofs.PlaceLaws as laws
 use Rattle.json_text.proofs.places.plain_end.Goals as goal
 use mathlib.Core.Path.{refl, sym, ◌∙◌}

@@ -1,4 +1,3 @@
-use Prim.Native.Nat.{◌-◌}
 use Rattle.json_text.proofs.PlaceLaws as laws
 use Rattle.json_text.proofs.places.string_tail.Goals as goal
 use Rattle.json_text.specs.Places.{quoted}

@@ -1,9 +1,7 @@
-use Prim.Native.Nat.{◌-◌}
 use Rattle.json_text.proofs.MoveLaws.{moves, run}
 use Rattle.json_text.proofs.strings.past_plain.Goals as goal
 use Rattle.json_text.specs.inner.Machine.{live, is_plain}
 use borrow.Author.Rules.{rules}
-use mathlib.Core.Bool.{true}
 use mathlib.Core.Path.{refl, sym, ◌∙◌}
 use native.Mathlib.Omega.{arith}
 

@@ -1,4 +1,3 @@
-use Prim.Native.Nat.{◌-◌}
 use Rattle.json_text.proofs.RunLaws.{seen_none, seen_more, seen_all}
 use Rattle.json_text.proofs.strings.plain_of_32.Goals as goal
 use borrow.Author.Rules.{rules}

@@ -1,4 +1,3 @@
-use Prim.Native.Nat.{◌-◌}
 use Rattle.json_text.proofs.MoveLaws.{moves, short, leaf_is, stuck}
 use Rattle.json_text.proofs.StepLaws.{str-quote, str-back, str_ctl, str-plain, not_plain}
 use Rattle.json_text.proofs.strings.string.Goals as goal

@@ -1,9 +1,7 @@
 use mathlib.Core.Bool.{false}
 use mathlib.Core.Path.{refl, ◌∙◌}
-use Prim.Native.Nat.{◌-◌}
 use native.Mathlib.Omega.{arith}
 use borrow.Author.Rules.{rules}
-use borrow.Fn.PlainCycle.{is}
 use Rattle.json_text.specs.inner.Machine.{arr, obj, value as val, first, name, name₁, after, live, dead}
 use Rattle.json_text.proofs.Complete.{first-not}
 use Rattle.json_text.proofs.MoveLaws.{short-arr, short-obj}
@@ -11,8 +9,6 @@ use Rattle.json_text.proofs.StepLaws.{ws-first, ws-name₁, ws-arr, ws-obj, firs
 use Rattle.json_text.proofs.StepLaws.{obj-comma, obj_close, obj-miss}
 use Rattle.json_text.proofs.TourLaws.{tour-moves, tour-short, tour-alike, spaces, close_quiet, first_alike, calm-is, tally-is, remains, label-stops}
 use Rattle.json_text.proofs.TourLaws.{value-short, value-text, value_scalar, array-bracket, object-bracket, bracket-deep, bracket-many, bracket_in}
-use Rattle.json_text.proofs.values.array.Reads as array
-use Rattle.json_text.proofs.values.object.Reads as object
 use Rattle.json_text.proofs.values.+array_object_value.Goals as goal
 
 pub array-returns-then-s-i : goal.array-returns-then-s-i

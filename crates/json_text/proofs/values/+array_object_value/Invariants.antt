@@ -3,11 +3,9 @@
 -- follows its bytes, and each of `value` is one law. Assumes nothing.
 use mathlib.Core.Path.{◌≡◌}
 use Prim.Native.Nat.{◌+◌, ◌-◌, ◌≤◌}
-use borrow.Fn.PlainCycle.{and}
 use lib.ListN.{length}
 use Rattle.json_text.specs.inner.Machine.{Stack, arr, obj, value as val, first, name, name₁, levels}
 use Rattle.json_text.specs.inner.Tour.{tour}
-use Rattle.json_text.proofs.values.value.Reads as value
 use Rattle.json_text.proofs.values.+array_object_value.Given as goal
 
 -- Arguments: the text, the place and the levels left. A bracket takes a level and a byte; behind it a value may begin at once.

@@ -1,4 +1,3 @@
-use Prim.Native.Nat.{◌-◌}
 use Rattle.letters.proofs.LoopLaws.{common-ends, common-more, common-short, common-stops}
 use Rattle.letters.proofs.pieces.common.Goals as goal
 use mathlib.Core.Path.{sym, ◌∙◌}

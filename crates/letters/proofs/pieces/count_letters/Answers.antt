@@ -1,4 +1,3 @@
-use Prim.Native.Nat.{◌-◌}
 use Rattle.letters.proofs.LoopLaws.{count-ends, count-more, count-other, count-over, count-zero}
 use Rattle.letters.proofs.pieces.count_letters.Goals as goal
 use borrow.Author.Tests.{not-false, not-true}

@@ -1,4 +1,3 @@
-use Prim.Native.Nat.{◌-◌}
 use Rattle.letters.proofs.LoopLaws.{run_ends, run_more, run-stops}
 use Rattle.letters.proofs.pieces.run_letters.Goals as goal
 use borrow.Author.Tests.{not-false, not-true}

@@ -1,4 +1,3 @@
-use Prim.Native.Nat.{◌-◌}
 use Rattle.lines.proofs.InputLaws.{passed_none, passed-one}
 use Rattle.lines.proofs.splitting.feed_in_32.Goals as goal
 use borrow.Author.Rules.{rules}

@@ -1,5 +1,4 @@
 -- `message::checking::asks` meets its contract. One law of `CheckLaws` for each way out. Assumes nothing.
-use Prim.Native.Nat.{◌-◌}
 use Rattle.message.proofs.checking.asks.Goals as goal
 
 pub returns-then-run : goal.returns-then-run

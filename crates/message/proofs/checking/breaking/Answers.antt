@@ -1,4 +1,3 @@
-use Prim.Native.Nat.{◌-◌}
 use Rattle.message.proofs.CheckLaws.{fault_there, field_fault, field-kept, over, passes, stops}
 use Rattle.message.proofs.checking.breaking.Goals as goal
 use borrow.Author.Rules.{rules}

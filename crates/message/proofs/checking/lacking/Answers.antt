@@ -1,4 +1,3 @@
-use Prim.Native.Nat.{◌-◌}
 use Rattle.message.proofs.CheckLaws.{found, higher, none_found}
 use Rattle.message.proofs.checking.lacking.Goals as goal
 use Rattle.message.specs.Checks.{lacks}

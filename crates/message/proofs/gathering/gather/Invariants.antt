@@ -1,5 +1,5 @@
 -- `message::gathering::gather` meets its contract. The loop keeps that the members still to come decide what is left to gather. Assumes nothing.
-use Prim.Native.Nat.{◌≤◌, ◌<◌, ◌-◌}
+use Prim.Native.Nat.{◌≤◌, ◌<◌}
 use Rattle.fields.proofs.GatherLaws.{Sofar}
 use Rattle.json_text.specs.Places.{members_from}
 use Rattle.message.proofs.gathering.gather.Given as goal

@@ -1,4 +1,3 @@
-use Prim.Native.Nat.{◌-◌}
 use Rattle.rules.proofs.PieceLaws.{count-ends, count-more, count-over}
 use Rattle.rules.proofs.pieces.count.Goals as goal
 use Rattle.rules.specs.Pieces.{decimal_at}

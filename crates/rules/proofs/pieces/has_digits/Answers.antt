@@ -1,4 +1,3 @@
-use Prim.Native.Nat.{◌-◌}
 use Rattle.octets.specs.Class.{is_digit}
 use Rattle.rules.proofs.PieceLaws.{digits_more, digits-stops}
 use Rattle.rules.proofs.pieces.has_digits.Goals as goal

@@ -1,4 +1,3 @@
-use Prim.Native.Nat.{◌-◌}
 use Rattle.rules.proofs.PieceLaws.{number_more, value-small}
 use Rattle.rules.proofs.pieces.number_at.Goals as goal
 use Rattle.rules.specs.Pieces.{decimal_at}

@@ -1,4 +1,3 @@
-use Prim.Native.Nat.{◌-◌}
 use Rattle.rules.proofs.PieceLaws.{run_ends, run_more, run-stops}
 use Rattle.rules.proofs.pieces.run_end.Goals as goal
 use borrow.Author.Rules.{rules}

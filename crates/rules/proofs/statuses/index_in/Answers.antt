@@ -1,4 +1,3 @@
-use Prim.Native.Nat.{◌-◌}
 use Rattle.rules.proofs.StatusLaws.{hit, miss}
 use Rattle.rules.proofs.statuses.index_in.Goals as goal
 use Rattle.rules.specs.Status.{codes, index_in}

@@ -1,4 +1,3 @@
-use Prim.Native.Nat.{◌-◌}
 use Rattle.rules.proofs.PieceLaws.{memo_ends, memo_more, memo_stops, points-more, points-same}
 use Rattle.rules.proofs.texts.is_memo.Goals as goal
 use mathlib.Core.Path.{refl}

@@ -1,4 +1,3 @@
-use Prim.Native.Nat.{◌-◌}
 use Rattle.showing.proofs.WordLaws.{ends, passes, stops}
 use Rattle.showing.proofs.words.zeros.Goals as goal
 use borrow.Author.Rules.{rules}

@@ -1,4 +1,3 @@
-use Prim.Native.Nat.{◌-◌}
 use Rattle.table.proofs.RoomLaws.{call_id_padded}
 use Rattle.table.proofs.SearchLaws.{all-every, every-stops}
 use Rattle.table.proofs.SoundLaws.{through-both}

@@ -1,4 +1,3 @@
-use Prim.Native.Nat.{◌-◌}
 use Rattle.table.proofs.MarkLaws.{marks-none, marks-more, mark_of_lem}
 use Rattle.table.proofs.SearchLaws.{all-every, every-stops}
 use Rattle.table.proofs.marks.is_distinct.Goals as goal

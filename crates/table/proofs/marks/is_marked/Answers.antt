@@ -1,4 +1,3 @@
-use Prim.Native.Nat.{◌-◌}
 use Rattle.table.proofs.MarkLaws.{marked-none, marked_more}
 use Rattle.table.proofs.marks.is_marked.Goals as goal
 use borrow.Author.Rules.{rules}

@@ -1,4 +1,3 @@
-use Prim.Native.Nat.{◌-◌}
 use Rattle.table.proofs.MarkLaws.{mark_more, mark_ends}
 use Rattle.table.proofs.marks.mark.Goals as goal
 use borrow.Author.Rules.{rules}

@@ -1,4 +1,3 @@
-use Prim.Native.Nat.{◌-◌}
 use Rattle.octets.proofs.NumberLaws.{none_yet, below_one, number_more, span_more}
 use Rattle.table.proofs.SoundLaws.{span_three}
 use Rattle.table.proofs.numbers.word_at.Goals as goal

@@ -1,4 +1,3 @@
-use Prim.Native.Nat.{◌-◌}
 use Rattle.table.proofs.SearchLaws.{at-lowest, none-lowest}
 use Rattle.table.proofs.searching.find.Goals as goal
 use Rattle.table.specs.Image.{record_count, record_at}

@@ -1,4 +1,3 @@
-use Prim.Native.Nat.{◌-◌}
 use Rattle.table.proofs.ImageLaws.{is_free_lem, not_free}
 use Rattle.table.proofs.SearchLaws.{at-lowest, none-lowest}
 use Rattle.table.proofs.searching.free_place.Goals as goal

@@ -1,4 +1,3 @@
-use Prim.Native.Nat.{◌-◌}
 use Rattle.table.proofs.SearchLaws.{all-every, every-stops}
 use Rattle.table.proofs.SoundLaws.{through}
 use Rattle.table.proofs.soundness.are_records_sound.Goals as goal

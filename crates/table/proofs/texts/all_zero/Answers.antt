@@ -1,4 +1,3 @@
-use Prim.Native.Nat.{◌-◌}
 use Rattle.table.proofs.SlotLaws.{zeros-none, zeros-more, zeros-all}
 use Rattle.table.proofs.texts.all_zero.Goals as goal
 use borrow.Author.Rules.{rules}

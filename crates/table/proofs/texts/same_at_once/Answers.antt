@@ -1,4 +1,3 @@
-use Prim.Native.Nat.{◌-◌}
 use Rattle.table.proofs.RoomLaws.{same_none, same_more, same-all}
 use Rattle.table.proofs.texts.same_at_once.Goals as goal
 use borrow.Author.Rules.{rules}

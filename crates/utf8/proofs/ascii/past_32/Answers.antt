@@ -1,4 +1,3 @@
-use Prim.Native.Nat.{◌-◌}
 use Rattle.utf8.proofs.PassedLaws.{then, passed-run}
 use Rattle.utf8.proofs.ascii.past_32.Goals as goal
 use borrow.Author.Tests.{not-false}

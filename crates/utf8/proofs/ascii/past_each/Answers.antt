@@ -1,4 +1,3 @@
-use Prim.Native.Nat.{◌-◌}
 use Rattle.utf8.proofs.PassedLaws.{then, passed-byte}
 use Rattle.utf8.proofs.ascii.past_each.Goals as goal
 use native.Mathlib.Omega.{arith}

@@ -1,5 +1,4 @@
 -- `utf8::sequences::long` meets its contract. One law of `Rows` for each row. Assumes nothing.
-use Prim.Native.Nat.{◌-◌}
 use Rattle.utf8.proofs.Rows.{four, four-F0, four-F4, beyond}
 use Rattle.utf8.proofs.sequences.long.Goals as goal
 use native.Mathlib.Omega.{arith}

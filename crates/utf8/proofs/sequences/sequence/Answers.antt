@@ -1,5 +1,4 @@
 -- `utf8::sequences::sequence` meets its contract. One law of `Rows` for each row. Assumes nothing.
-use Prim.Native.Nat.{◌-◌}
 use Rattle.utf8.proofs.Rows.{one, lone, two, three, three-E0, three-ED, char-here}
 use Rattle.utf8.proofs.sequences.sequence.Goals as goal
 use Rattle.utf8.specs.Rfc3629.{goes_on}

@@ -1,5 +1,5 @@
 -- `utf8::sequences::three` meets its contract. One law of `Rows` for each byte. Assumes nothing.
-use Prim.Native.Nat.{◌+◌, ◌-◌}
+use Prim.Native.Nat.{◌+◌}
 use Rattle.utf8.proofs.Rows.{inside, goes_on_lem, stops, last}
 use Rattle.utf8.proofs.sequences.three.Goals as goal
 use Rattle.utf8.specs.Rfc3629.{tail, counted}

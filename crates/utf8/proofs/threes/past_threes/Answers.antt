@@ -1,4 +1,3 @@
-use Prim.Native.Nat.{◌-◌}
 use Rattle.utf8.proofs.PassedLaws.{then, passed-char}
 use Rattle.utf8.proofs.threes.past_threes.Goals as goal
 use borrow.Author.Tests.{not-false}

@@ -6,7 +6,7 @@ use Rattle.writing.proofs.Bounds.{path-short}
 use Rattle.writing.proofs.PutLaws.{too_long, no_room, done, with_entry, added-long, added-parts, front-short, both_long}
 use Rattle.writing.proofs.edits.put_added.Goals as goal
 use lib.ListN.{length, length-append}
-use mathlib.Core.List.{[], ◌++◌}
+use mathlib.Core.List.{◌++◌}
 use mathlib.Core.Path.{sym}
 use native.Mathlib.Omega.{arith}
 

@@ -1,5 +1,5 @@
 -- `writing::objects::has_ours` meets its contract. The loop keeps that the objects still to come decide. Assumes nothing.
-use Prim.Native.Nat.{◌-◌, ◌≤◌, ◌<◌}
+use Prim.Native.Nat.{◌≤◌, ◌<◌}
 use Rattle.json_text.specs.Places.{bytes, elements, elements_from}
 use Rattle.writing.proofs.objects.has_ours.Given as goal
 use Rattle.writing.specs.Objects.{is_ours, some}

@@ -7,7 +7,7 @@ use Rattle.writing.proofs.PutLaws.{too_long, no_room, done, reply-long, reply-pa
 use Rattle.writing.proofs.replies.put_reply.Goals as goal
 use Rattle.writing.specs.Reply.{reply_text}
 use lib.ListN.{length, length-append}
-use mathlib.Core.List.{[], ◌++◌}
+use mathlib.Core.List.{◌++◌}
 use mathlib.Core.Path.{sym}
 use native.Mathlib.Omega.{arith}
 
