@@ -6,6 +6,7 @@ ghost use Rattle.std.specs.Prelude.{◌≤◌};
 
 use json_text::Visited;
 use octets::Spelt;
+use std::io;
 
 // Puts the text that a line of hex stands for into `text`, and answers its length; a line that is too long stands for none.
 fn decoded(line: &[u8], text: &mut [u8; 1024]) -> usize
@@ -17,22 +18,21 @@ fn decoded(line: &[u8], text: &mut [u8; 1024]) -> usize
     hex_text::decode(text, line)
 }
 
-fn say(start: &[u8], n: usize) {
-    io::write_all(1, start);
-    io::print_decimal(1, n as u64);
-    io::write_all(1, b"\n");
+fn say(rt: &impl Print, start: &[u8], n: usize) -> io::Result<()> {
+    rt.write_all(start)?;
+    println!(rt; "{n}")
 }
 
 // Reads the first n bytes as a text under a ceiling, and writes the answer's line.
-fn answer(text: &[u8; 1024], n: usize, ceiling: usize)
+fn answer(rt: &impl Print, text: &[u8; 1024], n: usize, ceiling: usize) -> io::Result<()>
     requires { n ≤ 1024 }
 {
     let s: &[u8] = text;
     match json_text::read(&s[0..n], ceiling) {
-        Visited::Text(count) => say(b"ok ", count),
-        Visited::Bad(p) => say(b"no 4 ", p),
-        Visited::Deep(p) => say(b"no 5 ", p),
-        Visited::Many(p) => say(b"no 11 ", p),
+        Visited::Text(count) => say(rt, b"ok ", count),
+        Visited::Bad(p) => say(rt, b"no 4 ", p),
+        Visited::Deep(p) => say(rt, b"no 5 ", p),
+        Visited::Many(p) => say(rt, b"no 11 ", p),
     }
 }
 
@@ -45,27 +45,34 @@ fn ceiling_of(word: &[u8]) -> usize {
 }
 
 // A line: its first word, and what stands behind the space.
-fn line(s: &[u8], text: &mut [u8; 1024]) {
+fn line(rt: &impl Print, s: &[u8], text: &mut [u8; 1024]) -> io::Result<()> {
     let gap = octets::find(s, 0, 32);
     if gap < s.len() {
         let from = gap + 1;
         let n = decoded(&s[from..], text);
-        answer(text, n, ceiling_of(&s[0..gap]));
+        return answer(rt, text, n, ceiling_of(&s[0..gap]));
     }
+    Ok(())
 }
 
-fn lines(s: &[u8]) {
+fn lines(rt: &impl Print, s: &[u8]) -> io::Result<()> {
     let mut text = [0u8; 1024];
     let mut from: usize = 0;
     while from < s.len() {
         let e = octets::find(s, from, 10);
-        line(&s[from..e], &mut text);
+        line(rt, &s[from..e], &mut text)?;
         from = e + 1;
     }
+    Ok(())
 }
 
-fn main() {
-    let mut buf = io::large_buffer();
-    let n = io::read_full(0, &mut buf);
-    lines(&buf[..n]);
+fn main(rt: HostRuntime) -> io::Result<()> {
+    let mut buf = [0u8; 65536];
+    let n = streams::fill(
+        &mut rt.stdin(),
+        &mut rt.stderr(),
+        &mut buf,
+        b"json_vectors: standard input",
+    );
+    lines(&rt, &buf[..n])
 }

@@ -31,19 +31,29 @@ struct State {
 }
 
 // Hands the first n bytes of the output buffer to `write`.
-fn hand_on(out: &[u8; 65536], n: usize) -> Sent
+fn hand_on(rt: &HostRuntime, out: &[u8; 65536], n: usize) -> Sent
     requires { n ≤ 65536 }
     ensures { (result.n ≡ n) × (result.n ≡ 0 → result.went ≡ true) }
 {
     let s: &[u8] = out;
-    streams::write(&s[0..n], b"keep: standard output")
+    streams::write(
+        &mut rt.stdout(),
+        &mut rt.stderr(),
+        &s[0..n],
+        b"keep: standard output",
+    )
 }
 
 // The next piece: what a read puts at the buffer's front.
-fn fetch(buf: &mut [u8; 65536], len: usize) -> State
+fn fetch(rt: &HostRuntime, buf: &mut [u8; 65536], len: usize) -> State
     ensures { (result.len ≡ len) × (result.from ≡ 0) × (result.n ≤ 65536) × (result.end ≡ 0) × (result.go ≡ ltb 0 result.n) × (result.ended ≡ true → result.n ≡ 0) }
 {
-    let g = streams::read(buf, b"keep: standard input");
+    let g = streams::read(
+        &mut rt.stdin(),
+        &mut rt.stderr(),
+        buf,
+        b"keep: standard input",
+    );
     State {
         len: len,
         from: 0,
@@ -56,6 +66,7 @@ fn fetch(buf: &mut [u8; 65536], len: usize) -> State
 
 // Lines of the piece's rest, as many as the output buffer takes answers to, and their answers handed on.
 fn piece(
+    rt: &HostRuntime,
     table: &mut [u8; 40816],
     buf: &[u8; 65536],
     line: &mut [u8; 32790],
@@ -76,7 +87,7 @@ fn piece(
 {
     let s: &[u8] = buf;
     let w = work(table, line, len, &s[0..n], from, out);
-    let sent = hand_on(out, w.end);
+    let sent = hand_on(rt, out, w.end);
     State {
         len: w.len,
         from: w.next,
@@ -89,6 +100,7 @@ fn piece(
 
 // One turn: a read where nothing of a piece is left, else lines of it.
 fn turn(
+    rt: &HostRuntime,
     table: &mut [u8; 40816],
     buf: &mut [u8; 65536],
     line: &mut [u8; 32790],
@@ -108,9 +120,9 @@ fn turn(
     let from = s.from;
     let n = s.n;
     if from < n {
-        return piece(table, buf, line, out, len, from, n);
+        return piece(rt, table, buf, line, out, len, from, n);
     }
-    fetch(buf, len)
+    fetch(rt, buf, len)
 }
 
 // Makes a table of 255 blank records.
@@ -123,6 +135,7 @@ fn start(table: &mut [u8; 40816])
 // Turn by turn from a blank table on, until the input ends or a call fails. Nothing says that an input ends, so the turns are counted
 // down from a number that no run uses up.
 fn run(
+    rt: &HostRuntime,
     table: &mut [u8; 40816],
     buf: &mut [u8; 65536],
     line: &mut [u8; 32790],
@@ -144,14 +157,20 @@ fn run(
     };
     let mut turns = u64::MAX;
     while s.go && turns > 0 {
-        s = turn(table, buf, line, out, s);
+        s = turn(rt, table, buf, line, out, s);
         turns -= 1;
     }
     s
 }
 
 // The answer to an open line that is not empty, where the input has ended, handed on; how many bytes it has.
-fn last(table: &mut [u8; 40816], line: &[u8; 32790], out: &mut [u8; 65536], s: State) -> usize
+fn last(
+    rt: &HostRuntime,
+    table: &mut [u8; 40816],
+    line: &[u8; 32790],
+    out: &mut [u8; 65536],
+    s: State,
+) -> usize
     requires { (well_formed table.old ≡ true) × (s.len ≤ 32790) × (s.ended ≡ true) }
     ensures { (take result out.new ≡ log_text line_done table.old (last_line (take s.len line.now)))
         × (table.new ≡ log_held line_done table.old (last_line (take s.len line.now))) }
@@ -161,17 +180,17 @@ fn last(table: &mut [u8; 40816], line: &[u8; 32790], out: &mut [u8; 65536], s: S
         return 0;
     }
     let end = answer_kept(table, line, len, out, 0);
-    let sent = hand_on(out, end);
+    let sent = hand_on(rt, out, end);
     sent.n
 }
 
-fn main() {
+fn main(rt: HostRuntime) {
     let mut table = [0u8; 40816];
     let mut buf = [0u8; 65536];
     let mut line = [0u8; 32790];
     let mut out = [0u8; 65536];
-    let s = run(&mut table, &mut buf, &mut line, &mut out);
+    let s = run(&rt, &mut table, &mut buf, &mut line, &mut out);
     if s.ended {
-        last(&mut table, &line, &mut out, s);
+        last(&rt, &mut table, &line, &mut out, s);
     }
 }

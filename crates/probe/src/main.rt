@@ -42,18 +42,28 @@ struct State {
 }
 
 // Hands the first n bytes of the output buffer to `write`.
-fn hand_on(out: &[u8], n: usize) -> Sent
+fn hand_on(rt: &HostRuntime, out: &[u8], n: usize) -> Sent
     requires { n ≤ length out.now }
     ensures { (result.n ≡ n) × (result.n ≡ 0 → result.went ≡ true) }
 {
-    streams::write(&out[0..n], b"probe: standard output")
+    streams::write(
+        &mut rt.stdout(),
+        &mut rt.stderr(),
+        &out[0..n],
+        b"probe: standard output",
+    )
 }
 
 // The next piece: what a read puts at the buffer's front.
-fn fetch(buf: &mut [u8; 16384], size: usize, ceiling: u32, len: usize) -> State
+fn fetch(rt: &HostRuntime, buf: &mut [u8; 16384], size: usize, ceiling: u32, len: usize) -> State
     ensures { (result.size ≡ size) × (result.ceiling ≡ ceiling) × (result.len ≡ len) × (result.from ≡ 0) × (result.n ≤ 16384) × (result.end ≡ 0) × (result.go ≡ ltb 0 result.n) × (result.ended ≡ true → result.n ≡ 0) }
 {
-    let g = streams::read(buf, b"probe: standard input");
+    let g = streams::read(
+        &mut rt.stdin(),
+        &mut rt.stderr(),
+        buf,
+        b"probe: standard input",
+    );
     State {
         size: size,
         ceiling: ceiling,
@@ -84,11 +94,11 @@ fn answer_kept(
 }
 
 // A line was answered, and the next one begins at a place of the piece: its answer is handed on.
-fn told(out: &[u8], a: Finished, from: usize, n: usize) -> State
+fn told(rt: &HostRuntime, out: &[u8], a: Finished, from: usize, n: usize) -> State
     requires { a.len ≤ length out.now }
     ensures { (result.size ≡ a.size) × (result.ceiling ≡ a.ceiling) × (result.len ≡ 0) × (result.from ≡ from) × (result.n ≡ n) × (result.end ≡ a.len) × (result.ended ≡ false) × (result.end ≡ 0 → result.go ≡ true) }
 {
-    let sent = hand_on(out, a.len);
+    let sent = hand_on(rt, out, a.len);
     State {
         size: a.size,
         ceiling: a.ceiling,
@@ -103,6 +113,7 @@ fn told(out: &[u8], a: Finished, from: usize, n: usize) -> State
 
 // The next line of the piece's rest, and its answer handed on; or what is left of the piece kept, where no line ends in it.
 fn piece(
+    rt: &HostRuntime,
     out: &mut [u8; 160100],
     held: &mut [u8; 65536],
     bytes: &mut [u8; 85000],
@@ -128,11 +139,11 @@ fn piece(
         Next::Here(e) => {
             let next = e + 1;
             let a = answer(out, held, size, bytes, room, &s[from..e], ceiling);
-            told(out, a, next, s.len())
+            told(rt, out, a, next, s.len())
         }
         Next::Buffered(m, next) => {
             let a = answer_kept(out, held, size, bytes, room, line, m, ceiling);
-            told(out, a, next, s.len())
+            told(rt, out, a, next, s.len())
         }
         Next::Pending(m) => State {
             size: size,
@@ -149,6 +160,7 @@ fn piece(
 
 // One turn: a read where nothing of a piece is left, else a line of it.
 fn turn(
+    rt: &HostRuntime,
     out: &mut [u8; 160100],
     held: &mut [u8; 65536],
     bytes: &mut [u8; 85000],
@@ -174,6 +186,7 @@ fn turn(
     if from < n {
         let all: &[u8] = buf;
         return piece(
+            rt,
             out,
             held,
             bytes,
@@ -186,7 +199,7 @@ fn turn(
             from,
         );
     }
-    fetch(buf, size, ceiling, len)
+    fetch(rt, buf, size, ceiling, len)
 }
 
 // Holds a table of 255 blank records, and answers its size.
@@ -200,6 +213,7 @@ fn start(held: &mut [u8; 65536]) -> usize
 // Turn by turn from a blank table on, until the input ends or a call fails. Nothing says that an input ends, so the turns are counted
 // down from a number that no run uses up.
 fn run(
+    rt: &HostRuntime,
     out: &mut [u8; 160100],
     held: &mut [u8; 65536],
     bytes: &mut [u8; 85000],
@@ -224,7 +238,7 @@ fn run(
     };
     let mut turns = u64::MAX;
     while s.go && turns > 0 {
-        s = turn(out, held, bytes, room, line, buf, s);
+        s = turn(rt, out, held, bytes, room, line, buf, s);
         turns -= 1;
     }
     s
@@ -233,6 +247,7 @@ fn run(
 // The answer to an open line that is not empty, where the input has ended, handed on; how many bytes it has, and the size of the held
 // table and the ceiling.
 fn last(
+    rt: &HostRuntime,
     out: &mut [u8; 160100],
     held: &mut [u8; 65536],
     bytes: &mut [u8; 85000],
@@ -255,7 +270,7 @@ fn last(
         };
     }
     let a = answer_kept(out, held, size, bytes, room, line, len, ceiling);
-    let sent = hand_on(out, a.len);
+    let sent = hand_on(rt, out, a.len);
     Finished {
         len: sent.n,
         size: a.size,
@@ -263,7 +278,7 @@ fn last(
     }
 }
 
-fn main() {
+fn main(rt: HostRuntime) {
     let mut out = [0u8; 160100];
     let mut held = [0u8; 65536];
     let mut bytes = [0u8; 85000];
@@ -271,9 +286,9 @@ fn main() {
     let mut line = [0u8; 170001];
     let mut buf = [0u8; 16384];
     let s = run(
-        &mut out, &mut held, &mut bytes, &mut room, &mut line, &mut buf,
+        &rt, &mut out, &mut held, &mut bytes, &mut room, &mut line, &mut buf,
     );
     if s.ended {
-        last(&mut out, &mut held, &mut bytes, &mut room, &line, s);
+        last(&rt, &mut out, &mut held, &mut bytes, &mut room, &line, s);
     }
 }

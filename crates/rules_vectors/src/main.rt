@@ -4,56 +4,44 @@
 
 ghost use Rattle.std.specs.Prelude.{◌≤◌};
 
-use libc::STDOUT_FILENO;
 use octets::{find, same};
+use std::io;
 
-fn write(text: &[u8]) {
-    io::write_all(STDOUT_FILENO, text);
+fn write(rt: &impl Print, text: &[u8]) -> io::Result<()> {
+    rt.write_all(text)
 }
 
-fn number(n: u64) {
-    io::print_decimal(STDOUT_FILENO, n);
+fn number(rt: &impl Print, n: u64) -> io::Result<()> {
+    print!(rt; "{n}")
 }
 
-fn verdict(kept: bool) {
+fn verdict(rt: &impl Print, kept: bool) -> io::Result<()> {
     if kept {
-        write(b"yes");
+        write(rt, b"yes")
     } else {
-        write(b"no");
+        write(rt, b"no")
     }
 }
 
-fn show_sequence(v: &[u8]) {
+fn show_sequence(rt: &impl Print, v: &[u8]) -> io::Result<()> {
     match rules::sequence_of(v) {
-        rules::Sequence::Of(n, m) => {
-            number(n as u64);
-            write(b" ");
-            number(m as u64);
-        }
-        rules::Sequence::Broken => write(b"no"),
+        rules::Sequence::Of(n, m) => print!(rt; "{n} {m}"),
+        rules::Sequence::Broken => write(rt, b"no"),
     }
 }
 
-fn show_address(v: &[u8]) {
+fn show_address(rt: &impl Print, v: &[u8]) -> io::Result<()> {
     match rules::address_of(v) {
-        rules::Address::Caller(user, fire) => {
-            write(b"caller ");
-            number(user as u64);
-            write(b" ");
-            number(fire as u64);
-        }
-        rules::Address::Callee(fire) => {
-            write(b"callee ");
-            number(fire as u64);
-        }
-        rules::Address::Broken => write(b"no"),
+        rules::Address::Caller(user, fire) => print!(rt; "caller {user} {fire}"),
+        rules::Address::Callee(fire) => print!(rt; "callee {fire}"),
+        rules::Address::Broken => write(rt, b"no"),
     }
 }
 
-fn show_status(v: &[u8]) {
+fn show_status(rt: &impl Print, v: &[u8]) -> io::Result<()> {
     match rules::status_of(v) {
-        rules::Status::Code(n) => number(n as u64),
-        rules::Status::Broken => write(b"no"),
+        rules::Status::Code(n) => number(rt, n as u64),
+        rules::Status::Broken => write(rt, b"no"),
     }
 }
 
@@ -63,211 +51,208 @@ fn pair(v: &[u8]) -> u16 {
 }
 
 // The text of a code of two bytes.
-fn show_phrase(v: &[u8]) {
+fn show_phrase(rt: &impl Print, v: &[u8]) -> io::Result<()> {
     let code = pair(v);
     let mut room = [0u8; 64];
     let n = rules::status_length(code);
     if !rules::is_listed(code) {
-        write(b"no");
-        return;
+        return write(rt, b"no");
     }
     let end = rules::put_status(&mut room, 0, code);
     if end == n {
-        write(&room[0..n]);
+        return write(rt, &room[0..n]);
     }
+    Ok(())
 }
 
 // What a tag and a method ask of field n: two bytes, the tag or method and the field.
-fn show_asks(v: &[u8], by_tag: bool) {
+fn show_asks(rt: &impl Print, v: &[u8], by_tag: bool) -> io::Result<()> {
     let r = octets::byte(v, 0) as usize;
     let n = octets::byte(v, 1) as usize;
     if 26 < n {
-        write(b"?");
-        return;
+        return write(rt, b"?");
     }
     if by_tag {
         if r < 5 {
-            number(rules::tag_asks(r, n) as u64);
-            return;
+            return number(rt, rules::tag_asks(r, n) as u64);
         }
     } else {
         if r < 9 {
-            number(rules::method_asks(r, n) as u64);
-            return;
+            return number(rt, rules::method_asks(r, n) as u64);
         }
     }
-    write(b"?");
+    write(rt, b"?")
 }
 
 // The names of the rules that say yes or no: whether the name was one of them.
-fn answer_text(name: &[u8], v: &[u8]) -> bool {
+fn answer_text(rt: &impl Print, name: &[u8], v: &[u8]) -> io::Result<bool> {
     if same(name, b"fire-id") {
-        verdict(rules::is_fire_id(v));
-        return true;
+        verdict(rt, rules::is_fire_id(v))?;
+        return Ok(true);
     }
     if same(name, b"user-id") {
-        verdict(rules::is_user_id(v));
-        return true;
+        verdict(rt, rules::is_user_id(v))?;
+        return Ok(true);
     }
     if same(name, b"call-id") {
-        verdict(rules::is_call_id(v));
-        return true;
+        verdict(rt, rules::is_call_id(v))?;
+        return Ok(true);
     }
     if same(name, b"date") {
-        verdict(rules::is_date(v));
-        return true;
+        verdict(rt, rules::is_date(v))?;
+        return Ok(true);
     }
     if same(name, b"host") {
-        verdict(rules::is_host(v));
-        return true;
+        verdict(rt, rules::is_host(v))?;
+        return Ok(true);
     }
     if same(name, b"destination") {
-        verdict(rules::is_destination(v));
-        return true;
+        verdict(rt, rules::is_destination(v))?;
+        return Ok(true);
     }
     if same(name, b"organization") {
-        verdict(rules::is_organization(v));
-        return true;
+        verdict(rt, rules::is_organization(v))?;
+        return Ok(true);
     }
-    false
+    Ok(false)
 }
 
-fn answer_more(name: &[u8], v: &[u8]) -> bool {
+fn answer_more(rt: &impl Print, name: &[u8], v: &[u8]) -> io::Result<bool> {
     if same(name, b"desk") {
-        verdict(rules::is_desk(v));
-        return true;
+        verdict(rt, rules::is_desk(v))?;
+        return Ok(true);
     }
     if same(name, b"message-id") {
-        verdict(rules::is_message_id(v));
-        return true;
+        verdict(rt, rules::is_message_id(v))?;
+        return Ok(true);
     }
     if same(name, b"message-type") {
-        verdict(0 < rules::message_type(v));
-        return true;
+        verdict(rt, 0 < rules::message_type(v))?;
+        return Ok(true);
     }
     if same(name, b"notify-type") {
-        verdict(0 < rules::notify_type(v));
-        return true;
+        verdict(rt, 0 < rules::notify_type(v))?;
+        return Ok(true);
     }
     if same(name, b"image") {
-        verdict(rules::is_image(v));
-        return true;
+        verdict(rt, rules::is_image(v))?;
+        return Ok(true);
     }
     if same(name, b"memo") {
-        verdict(rules::is_memo(v));
-        return true;
+        verdict(rt, rules::is_memo(v))?;
+        return Ok(true);
     }
     if same(name, b"language") {
-        verdict(rules::is_language(v));
-        return true;
+        verdict(rt, rules::is_language(v))?;
+        return Ok(true);
     }
-    false
+    Ok(false)
 }
 
 // The fields whose text is one of a few words.
-fn answer_word(name: &[u8], v: &[u8]) -> bool {
+fn answer_word(rt: &impl Print, name: &[u8], v: &[u8]) -> io::Result<bool> {
     if same(name, b"availability") {
-        number(rules::availability(v) as u64);
-        return true;
+        number(rt, rules::availability(v) as u64)?;
+        return Ok(true);
     }
     if same(name, b"content-type") {
-        number(rules::content_type(v) as u64);
-        return true;
+        number(rt, rules::content_type(v) as u64)?;
+        return Ok(true);
     }
     if same(name, b"presence") {
-        number(rules::presence(v) as u64);
-        return true;
+        number(rt, rules::presence(v) as u64)?;
+        return Ok(true);
     }
     if same(name, b"call-mode") {
-        number(rules::call_mode(v) as u64);
-        return true;
+        number(rt, rules::call_mode(v) as u64)?;
+        return Ok(true);
     }
     if same(name, b"call-test") {
-        number(rules::call_test(v) as u64);
-        return true;
+        number(rt, rules::call_test(v) as u64)?;
+        return Ok(true);
     }
     if same(name, b"secure-call") {
-        number(rules::secure_call(v) as u64);
-        return true;
+        number(rt, rules::secure_call(v) as u64)?;
+        return Ok(true);
     }
     if same(name, b"rescuee") {
-        number(rules::rescuee(v) as u64);
-        return true;
+        number(rt, rules::rescuee(v) as u64)?;
+        return Ok(true);
     }
-    false
+    Ok(false)
 }
 
 // The fixed byte strings.
-fn answer_name(name: &[u8], v: &[u8]) -> bool {
+fn answer_name(rt: &impl Print, name: &[u8], v: &[u8]) -> io::Result<bool> {
     if same(name, b"service") {
-        number(rules::service(v) as u64);
-        return true;
+        number(rt, rules::service(v) as u64)?;
+        return Ok(true);
     }
     if same(name, b"tag") {
-        number(rules::tag(v) as u64);
-        return true;
+        number(rt, rules::tag(v) as u64)?;
+        return Ok(true);
     }
     if same(name, b"method") {
-        number(rules::method(v) as u64);
-        return true;
+        number(rt, rules::method(v) as u64)?;
+        return Ok(true);
     }
     if same(name, b"field") {
-        number(rules::field(v) as u64);
-        return true;
+        number(rt, rules::field(v) as u64)?;
+        return Ok(true);
     }
     if same(name, b"hop-member") {
-        number(rules::hop_member(v) as u64);
-        return true;
+        number(rt, rules::hop_member(v) as u64)?;
+        return Ok(true);
     }
-    false
+    Ok(false)
 }
 
 // What is taken apart or looked up.
-fn answer_part(name: &[u8], v: &[u8]) -> bool {
+fn answer_part(rt: &impl Print, name: &[u8], v: &[u8]) -> io::Result<bool> {
     if same(name, b"cseq") {
-        show_sequence(v);
-        return true;
+        show_sequence(rt, v)?;
+        return Ok(true);
     }
     if same(name, b"address") {
-        show_address(v);
-        return true;
+        show_address(rt, v)?;
+        return Ok(true);
     }
     if same(name, b"status") {
-        show_status(v);
-        return true;
+        show_status(rt, v)?;
+        return Ok(true);
     }
     if same(name, b"phrase") {
-        show_phrase(v);
-        return true;
+        show_phrase(rt, v)?;
+        return Ok(true);
     }
     if same(name, b"tag-asks") {
-        show_asks(v, true);
-        return true;
+        show_asks(rt, v, true)?;
+        return Ok(true);
     }
     if same(name, b"method-asks") {
-        show_asks(v, false);
-        return true;
+        show_asks(rt, v, false)?;
+        return Ok(true);
     }
-    false
+    Ok(false)
 }
 
-fn answer(name: &[u8], v: &[u8]) {
-    if answer_text(name, v) {
-        return;
+fn answer(rt: &impl Print, name: &[u8], v: &[u8]) -> io::Result<()> {
+    if answer_text(rt, name, v)? {
+        return Ok(());
     }
-    if answer_more(name, v) {
-        return;
+    if answer_more(rt, name, v)? {
+        return Ok(());
     }
-    if answer_word(name, v) {
-        return;
+    if answer_word(rt, name, v)? {
+        return Ok(());
     }
-    if answer_name(name, v) {
-        return;
+    if answer_name(rt, name, v)? {
+        return Ok(());
     }
-    if answer_part(name, v) {
-        return;
+    if answer_part(rt, name, v)? {
+        return Ok(());
     }
-    write(b"?");
+    write(rt, b"?")
 }
 
 // Puts the bytes that a word of hex stands for into the room, and answers how many; 1,025 where it stands for none, or for more.
@@ -284,39 +269,45 @@ fn decode(word: &[u8], room: &mut [u8; 1024]) -> usize
 }
 
 // Answers for the first bytes of the room.
-fn answer_in(name: &[u8], room: &[u8; 1024], end: usize) {
+fn answer_in(rt: &impl Print, name: &[u8], room: &[u8; 1024], end: usize) -> io::Result<()> {
     if end <= 1024 {
         let bytes: &[u8] = room;
-        answer(name, &bytes[0..end]);
+        answer(rt, name, &bytes[0..end])
     } else {
-        write(b"?");
+        write(rt, b"?")
     }
 }
 
-fn tell(line: &[u8]) {
+fn tell(rt: &impl Print, line: &[u8]) -> io::Result<()> {
     let at = find(line, 0, 32);
     let mut room = [0u8; 1024];
     let n = line.len();
     if at < n {
         let end = decode(&line[at + 1..], &mut room);
-        answer_in(&line[0..at], &room, end);
+        answer_in(rt, &line[0..at], &room, end)?;
     } else {
-        write(b"?");
+        write(rt, b"?")?;
     }
-    write(b"\n");
+    write(rt, b"\n")
 }
 
-fn main() {
-    let mut buffer = io::large_buffer();
-    let n = io::read_full(0, &mut buffer);
+fn main(rt: HostRuntime) -> io::Result<()> {
+    let mut buffer = [0u8; 65536];
+    let n = streams::fill(
+        &mut rt.stdin(),
+        &mut rt.stderr(),
+        &mut buffer,
+        b"rules_vectors: standard input",
+    );
     let mut a: usize = 0;
     let mut i: usize = 0;
     while i < n {
         if buffer[i] == b'\n' {
             let t = &buffer[a..i];
-            tell(t);
+            tell(&rt, t)?;
             a = i + 1;
         }
         i = i + 1;
     }
+    Ok(())
 }

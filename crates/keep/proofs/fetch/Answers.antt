@@ -4,4 +4,4 @@ use borrow.Author.Rules.{rules}
 use mathlib.Core.Path.{refl}
 
 pub returns : goal.returns
-returns c = (refl, refl, search rules, refl, search rules, c.read-g.ensures.1)
+returns c = (refl, refl, search rules, refl, search rules, c.read-g.ensures.counts.1)

@@ -69,7 +69,7 @@ told-requires-in-Buffered c =
     let x = c.args in
     let m = c.in-Buffered.m in
     let a = c.answer_kept-a.ensures in
-    answer-fits x.out.now (line_done (holding x.ceiling (take x.size x.held.now)) (take m c.next_line.new.0)).text a.text.0 a.text.1
+    answer-fits x.out.now (line_done (holding x.ceiling (take x.size x.held.now)) (take m c.next_line.new.line)).text a.text.0 a.text.1
 
 pub returns-in-Here : goal.returns-in-Here
 returns-in-Here c =

@@ -19,9 +19,6 @@ turn-s-requires c =
     let i = c.loop-s.invariant in
     (i.1, i.2, i.3, i.4)
 
-pub loop-s-smaller : goal.loop-s-smaller
-loop-s-smaller c = omega (arith, sub-turns c)
-
 pub loop-s-preserved : goal.loop-s-preserved
 loop-s-preserved c =
     let t = c.turn-s.ensures in

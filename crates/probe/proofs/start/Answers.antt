@@ -4,4 +4,4 @@ use Rattle.probe.proofs.start.Goals as goal
 use native.Mathlib.Omega.{arith}
 
 pub returns : goal.returns
-returns c = (held-blank c.args.held.now 40816 255 (omega arith) c.make_blank.new.0 c.make_blank.ensures.1 first_fits, omega arith)
+returns c = (held-blank c.args.held.now 40816 255 (omega arith) c.make_blank.new.held c.make_blank.ensures.1 first_fits, omega arith)

@@ -1,10 +1,10 @@
--- What was read fits the buffer; the measure is the number of tries that are left. Assumes nothing.
+-- The buffer keeps its length, and a failed read takes nothing; the measure is the number of tries that are left. Assumes nothing.
+use Rattle.std.proofs.Common.{◌≡◌, length}
+use Rattle.std.specs.Io.KnownBytes.{Keeps}
 use Rattle.streams.proofs.read.Given as goal
-use lib.ListN.{length}
-use mathlib.Core.Path.{◌≡◌}
 
-abbrev pub invariant-loop-tries : goal.invariant-loop-tries
-invariant-loop-tries l = length l.buf ≡ length l.initial.buf
+abbrev pub invariant-loop-n : goal.invariant-loop-n
+invariant-loop-n g l = (length l.buf ≡ length l.initial.buf) × Keeps (g.R.Read.remaining l.initial.input) (g.R.Read.remaining l.input)
 
-abbrev pub decreases-loop-tries : goal.decreases-loop-tries
-decreases-loop-tries l = l.tries
+abbrev pub decreases-loop-n : goal.decreases-loop-n
+decreases-loop-n g l = l.tries

@@ -1,10 +1,10 @@
--- Each turn writes something or uses up a try; an empty text is written. Assumes nothing.
-use Prim.Native.Nat.{◌+◌, ◌-◌, ◌≤◌}
+-- What was taken so far is the text's front; each turn writes something or uses up a try. Assumes nothing.
+use Rattle.std.proofs.Common.{◌+◌, ◌-◌, ◌≤◌, length, take}
+use Rattle.std.specs.Io.KnownBytes.{Appends}
 use Rattle.streams.proofs.write.Given as goal
-use lib.ListN.{length}
 
 abbrev pub invariant-loop-done : goal.invariant-loop-done
-invariant-loop-done l = l.done ≤ length l.text
+invariant-loop-done g l = (l.done ≤ length l.text) × Appends (g.W.Write.contents l.initial.output) (g.W.Write.contents l.output) (take l.done l.text)
 
 abbrev pub decreases-loop-done : goal.decreases-loop-done
-decreases-loop-done l = length l.text - l.done + l.tries
+decreases-loop-done g l = length l.text - l.done + l.tries

@@ -4,6 +4,9 @@ use Rattle.keep.proofs.answering.answer.Goals as goal
 use mathlib.Core.Path.{sym, ◌∙◌}
 use native.Mathlib.Omega.{arith}
 
+pub slice_bounds-put_answer-end : goal.slice_bounds-put_answer-end
+slice_bounds-put_answer-end c = omega (arith, long-at c.args.l.now c.in-Long.n (sym c.read.ensures ∙ c.in-Long.is))
+
 pub put_answer-requires : goal.put_answer-requires
 put_answer-requires c =
     let p = long-at c.args.l.now c.in-Long.n (sym c.read.ensures ∙ c.in-Long.is) in

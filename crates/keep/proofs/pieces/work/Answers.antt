@@ -1,4 +1,3 @@
-use Prim.Native.Nat.{◌+◌, ◌-◌}
 use Rattle.keep.proofs.WorkLaws.{buffered-goes, here-goes, pending-goes}
 use Rattle.keep.proofs.pieces.work.Goals as goal
 use Rattle.lines.proofs.Cutting.{buffered-says, here-says, pending-says, short}

@@ -11,5 +11,5 @@ pub returns : goal.returns
 returns c =
     let x = c.args in
     let z : x.n - 0 ≡ x.n = omega arith in
-    happened (event_on x.ceiling (take x.size x.held.now) x.tick x.time (take x.n x.bytes.now)) x.out.now x.size c.event.new.0
+    happened (event_on x.ceiling (take x.size x.held.now) x.tick x.time (take x.n x.bytes.now)) x.out.now x.size c.event.new.held
     (rw z at c.event.ensures) c.put_event.ensures c.requires.0

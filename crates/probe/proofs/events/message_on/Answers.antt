@@ -11,6 +11,6 @@ use native.Mathlib.Omega.{arith}
 pub returns : goal.returns
 returns c =
     let x = c.args in
-    let p = c.message.new.0 in
+    let p = c.message.new.t in
     let l : length p ≡ x.size = omega arith in
     came_back (λ (t : List ℕ). on_message x.ceiling t x.time x.s.now) x.held.now x.size p l c.message.ensures

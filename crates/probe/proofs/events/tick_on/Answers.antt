@@ -11,6 +11,6 @@ use native.Mathlib.Omega.{arith}
 pub returns : goal.returns
 returns c =
     let x = c.args in
-    let p = c.tick.new.0 in
+    let p = c.tick.new.t in
     let l : length p ≡ x.size = omega arith in
     came_back (λ (t : List ℕ). on_tick t x.time x.s.now) x.held.now x.size p l c.tick.ensures

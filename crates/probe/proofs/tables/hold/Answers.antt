@@ -39,5 +39,5 @@ returns c =
     let m = c.take_image-n.ensures in
     let g = sym c.is_hex_to.ensures ∙ not-false _ c.if-not-is_hex_to.false-raw in
     let f = front-written x.held.now (hex_bytes w) m.1 m.0 in
-    turns x.out.now c.take_image-n.result c.take_image-n.new.0 (hex_bytes w) (verdict_text (well_formed (hex_bytes w)))
+    turns x.out.now c.take_image-n.result c.take_image-n.new.held (hex_bytes w) (verdict_text (well_formed (hex_bytes w)))
     (image (take x.size x.held.now) w g) (rw f at c.judge.ensures) f (omega (arith, stands-length w, m.0, hex-short 131072 w (omega arith) g))

@@ -26,7 +26,7 @@ returns-then-make_blank c =
     let x = c.args in
     let t = take x.size x.held.now in
     let m = c.make_blank.ensures in
-    let h = c.make_blank.new.0 in
+    let h = c.make_blank.new.held in
     let e = sym m.0 ∙ c.if-make_blank.true in
     turns x.out.now x.length h (blank_of x.count) (verdict_text true)
     (is-blank t x.count x.length c.if-count-gt65535.false c.if-length-gt65536.false e)
@@ -37,7 +37,7 @@ returns c =
     let x = c.args in
     let t = take x.size x.held.now in
     let m = c.make_blank.ensures in
-    let h = c.make_blank.new.0 in
+    let h = c.make_blank.new.held in
     let e = sym m.0 ∙ c.if-make_blank.false in
     turns x.out.now x.size h t (verdict_text false)
     (not-blank t x.count x.length c.if-count-gt65535.false c.if-length-gt65536.false e)

@@ -9,14 +9,14 @@ pub returns-in-Done : goal.returns-in-Done
 returns-in-Done c =
     let x = c.args in
     let b = c.blank.ensures in
-    let l : length c.blank.new.0 ≡ x.n = omega arith in
-    let k = made_held x.held.now x.n x.count (omega arith) c.blank.new.0 l b.1 in
+    let l : length c.blank.new.out ≡ x.n = omega arith in
+    let k = made_held x.held.now x.n x.count (omega arith) c.blank.new.out l b.1 in
     (made-done x.held.now x.n x.count (omega arith) c.in-Done.is b.0, k.0, k.1)
 
 pub returns-in-Refused : goal.returns-in-Refused
 returns-in-Refused c =
     let x = c.args in
     let b = c.blank.ensures in
-    let l : length c.blank.new.0 ≡ x.n = omega arith in
-    let k = made_held x.held.now x.n x.count (omega arith) c.blank.new.0 l b.1 in
+    let l : length c.blank.new.out ≡ x.n = omega arith in
+    let k = made_held x.held.now x.n x.count (omega arith) c.blank.new.out l b.1 in
     (made-refused x.held.now x.n x.count (omega arith) c.in-Refused.is b.0, k.0, k.1)
