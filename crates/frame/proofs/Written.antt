@@ -1,5 +1,5 @@
 -- What is written as an object or an array, with white space anywhere, is a value: the machine goes over it (`object-goes`, `array-goes`), and it is a
--- piece by itself (`object-piece`, `array-piece`). With `Listing` of json: its members or elements are those written. Cited by Compact, Parsed, ArrayEdits.
+-- piece by itself (`object-piece`, `array-piece`). With `Listing` of `json_text`: its members or elements are those written. Cited by Compact, Parsed, ArrayEdits.
 -- Assumes nothing.
 use mathlib.Core.Path.{◌≡◌, refl, sym, ap, subst, ◌∙◌}
 use mathlib.Core.Logic.{inl, inr}

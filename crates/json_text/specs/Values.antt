@@ -9,7 +9,7 @@ use Rattle.json_text.specs.Rfc7159.{member, value, JSON-text}
 abbrev pub Counts : Rule → Type 0
 Counts A = (s : List ℕ) → A s → ℕ
 
--- *( value_separator X )
+-- *( value-separator X )
 abbrev pub count_more : (X : Rule) → Counts X → Counts (Star (value_separator ⨾ X))
 count_more X f s none = 0
 count_more X f s (more {t = u} (both {t = v} c x) r) = f v x + count_more X f u r

@@ -1,7 +1,7 @@
 -- 01 Reading, rows 2 to 10, and 02 §9's row 11, tried in the paper's order: the contract of `read_and_count` cites `reporting`, that of `read` `reading`. Rows 4, 5 and
--- 11 stand here as the answer of `json`'s inner machine, which nobody has to believe: `by_the_grammar` in proofs/Theorems.antt says of any bytes and any
--- ceiling, both ways and in the words of RFC 7159's grammar (`json`'s specs/Verdict.antt), when 4, 5 and 11 are answered and at which place, and when row 6 is
--- reached, with which count; and every text has one such verdict (`one-verdict` in `json`'s proofs/VerdictLaws.antt).
+-- 11 stand here as the answer of `json_text`'s inner machine, which nobody has to believe: `by_the_grammar` in proofs/Theorems.antt says of any bytes and any
+-- ceiling, both ways and in the words of RFC 7159's grammar (`json_text`'s specs/Verdict.antt), when 4, 5 and 11 are answered and at which place, and when row 6 is
+-- reached, with which count; and every text has one such verdict (`one-verdict` in `json_text`'s proofs/VerdictLaws.antt).
 -- How to read it: from `reporting` upwards, since each row names the next, which stands above it: `reporting` (2), `on_utf8` (3), `on_json` (4, 5, 11),
 -- `shaped` (6), `known` (7), `judged` (8 and 9 on the tag's fields), `settled` (8 and 9 on the method's), `agreed` (10). Assumes nothing.
 use Rattle.std.specs.Prelude.{ℕ, eqb, leb, ltb, length, true, false, ◌&&◌, cond, List}

@@ -45,8 +45,9 @@ fn words_end(text: &[u8]) -> usize
 fn tell<E: Write>(errors: &mut E, what: &[u8], error: io::Error) {
     let mut room = Cursor::new([0u8; 128]);
     let _ = write!(room, "{error}");
+    let n = (room.position() as usize).min(128);
     let text = room.into_inner();
-    let end = words_end(&text);
+    let end = words_end(&text[..n]);
     let _ = errors.write_all(what);
     let _ = errors.write_all(b": ");
     let _ = errors.write_all(&text[..end]);

@@ -1,4 +1,4 @@
--- What one letter adds to a measure: `added-first`, `Added-more` and `Added-none` of proofs/MeasureLaws.antt say that all of them together give `measure_of`. Assumes nothing.
+-- What one letter adds to a measure: `added-first`, `added_more` and `added_none` of proofs/MeasureLaws.antt say that all of them together give `measure_of`. Assumes nothing.
 use Rattle.std.specs.Prelude.{ℕ, ◌+◌, length, Bool, not, ◌||◌, List}
 use Rattle.escapes.specs.declared.measuring.Measured.{Measured}
 use Rattle.octets.specs.Class.{all}

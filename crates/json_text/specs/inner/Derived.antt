@@ -5,7 +5,7 @@ use Rattle.octets.specs.Class.{all}
 use Rattle.json_text.specs.Places.{spaces, is_ws}
 use Rattle.json_text.specs.Rfc7159.{Rule, ◌⨾◌, both, absent, present, Star, none, more, value_separator, member, object, array}
 
--- the bytes of the values that *( value_separator value ) derives
+-- the bytes of the values that *( value-separator value ) derives
 abbrev pub values_in : {X : Rule} {s : List ℕ} → Star (value_separator ⨾ X) s → List (List ℕ)
 values_in none = []
 values_in (more (both {t = v} c x) r) = v ∷ values_in r
@@ -19,7 +19,7 @@ elements_in (both b (both (present (both {s = v} x r)) e)) = v ∷ values_in r
 abbrev pub member_in : {X : Rule} {s : List ℕ} → member X s → List ℕ × List ℕ
 member_in (both (both q (both {s = n} cs q')) (both {t = v} c x)) = (n, v)
 
--- of *( value_separator member )
+-- of *( value-separator member )
 abbrev pub pairs_in : {X : Rule} {s : List ℕ} → Star (value_separator ⨾ member X) s → List (List ℕ × List ℕ)
 pairs_in none = []
 pairs_in (more (both c m) r) = member_in m ∷ pairs_in r

@@ -12,16 +12,16 @@ mutual
     empty-array : {a z : List ℕ} → begin-array a → end-array z → Value (a ++ z)
     array : {a v r z : List ℕ} → begin-array a → Value v → Values r → end-array z → Value (a ++ ((v ++ r) ++ z))
 
-  -- member = string name_separator value
+  -- member = string name-separator value
   pub data Member : List ℕ → Type 0 where
     member : {n c v : List ℕ} → string n → name_separator c → Value v → Member (n ++ (c ++ v))
 
-  -- *( value_separator member )
+  -- *( value-separator member )
   pub data Members : List ℕ → Type 0 where
     no_member : Members []
     and-member : {c m r : List ℕ} → value_separator c → Member m → Members r → Members ((c ++ m) ++ r)
 
-  -- *( value_separator value )
+  -- *( value-separator value )
   pub data Values : List ℕ → Type 0 where
     no_value : Values []
     and-value : {c v r : List ℕ} → value_separator c → Value v → Values r → Values ((c ++ v) ++ r)
