@@ -1,6 +1,6 @@
 -- `writing::edits::put_added` meets its contract: five parts in a row (`At`), once the total is known to fit. Assumes nothing.
-use Prim.Native.Nat.{◌+◌, ◌≤◌}
-use Rattle.octets.proofs.Chain.{start, more, room}
+use Prim.Native.Nat.{ℕ, ◌+◌, ◌≤◌}
+use Rattle.octets.proofs.Chain.{start, more}
 use Rattle.octets.specs.Ascii.{ascii}
 use Rattle.writing.proofs.Bounds.{path-short}
 use Rattle.writing.proofs.PutLaws.{too_long, no_room, done, with_entry, added-long, added-parts, front-short, both_long}
@@ -37,44 +37,19 @@ returns-then-out-total c =
     (sym (added-long x.s.now x.end x.host.now x.destination.now x.organization.now)) c.if-total-gt32768.false c.if-out-total.true
 
 pub put_both-p-requires : goal.put_both-p-requires
-put_both-p-requires c =
-    let x = c.args in
-    let fits : length x.s.now + length x.host.now + length x.destination.now + length x.organization.now + 47 ≤ length x.out.now = c.if-out-total.false in
-    room (c.part.result.now ++ ascii ",{\"host\":\"") (start x.out.now) (simp length-append (omega (arith, fits, front-short x.s.now x.end c.part.ensures)))
+put_both-p-requires c = omega (arith, length-append {A = ℕ}, front-short c.args.s.now c.args.end c.part.ensures)
 
 pub put_both-p-requires-2 : goal.put_both-p-requires-2
-put_both-p-requires-2 c =
-    let x = c.args in
-    let fits : length x.s.now + length x.host.now + length x.destination.now + length x.organization.now + 47 ≤ length x.out.now = c.if-out-total.false in
-    let a1 = more (c.part.result.now ++ ascii ",{\"host\":\"") (start x.out.now) c.put_both-p.ensures in
-    room (x.host.now ++ ascii "\",\"destination\":\"") a1 (simp length-append (omega (arith, fits, front-short x.s.now x.end c.part.ensures)))
+put_both-p-requires-2 c = omega (arith, length-append {A = ℕ}, front-short c.args.s.now c.args.end c.part.ensures)
 
 pub put_both-p-requires-3 : goal.put_both-p-requires-3
-put_both-p-requires-3 c =
-    let x = c.args in
-    let fits : length x.s.now + length x.host.now + length x.destination.now + length x.organization.now + 47 ≤ length x.out.now = c.if-out-total.false in
-    let a1 = more (c.part.result.now ++ ascii ",{\"host\":\"") (start x.out.now) c.put_both-p.ensures in
-    let a2 = more (x.host.now ++ ascii "\",\"destination\":\"") a1 c.put_both-p-2.ensures in
-    room (x.destination.now ++ ascii "\",\"organization\":\"") a2 (simp length-append (omega (arith, fits, front-short x.s.now x.end c.part.ensures)))
+put_both-p-requires-3 c = omega (arith, length-append {A = ℕ}, front-short c.args.s.now c.args.end c.part.ensures)
 
 pub put_both-p-requires-4 : goal.put_both-p-requires-4
-put_both-p-requires-4 c =
-    let x = c.args in
-    let fits : length x.s.now + length x.host.now + length x.destination.now + length x.organization.now + 47 ≤ length x.out.now = c.if-out-total.false in
-    let a1 = more (c.part.result.now ++ ascii ",{\"host\":\"") (start x.out.now) c.put_both-p.ensures in
-    let a2 = more (x.host.now ++ ascii "\",\"destination\":\"") a1 c.put_both-p-2.ensures in
-    let a3 = more (x.destination.now ++ ascii "\",\"organization\":\"") a2 c.put_both-p-3.ensures in
-    room (x.organization.now ++ ascii "\"}") a3 (simp length-append (omega (arith, fits, front-short x.s.now x.end c.part.ensures)))
+put_both-p-requires-4 c = omega (arith, length-append {A = ℕ}, front-short c.args.s.now c.args.end c.part.ensures)
 
 pub put-requires : goal.put-requires
-put-requires c =
-    let x = c.args in
-    let fits : length x.s.now + length x.host.now + length x.destination.now + length x.organization.now + 47 ≤ length x.out.now = c.if-out-total.false in
-    let a1 = more (c.part.result.now ++ ascii ",{\"host\":\"") (start x.out.now) c.put_both-p.ensures in
-    let a2 = more (x.host.now ++ ascii "\",\"destination\":\"") a1 c.put_both-p-2.ensures in
-    let a3 = more (x.destination.now ++ ascii "\",\"organization\":\"") a2 c.put_both-p-3.ensures in
-    let a4 = more (x.organization.now ++ ascii "\"}") a3 c.put_both-p-4.ensures in
-    room (c.part-2.result.now) a4 (simp length-append (omega (arith, fits, both_long x.s.now x.end c.part.ensures c.part-2.ensures)))
+put-requires c = omega (arith, length-append {A = ℕ}, both_long c.args.s.now c.args.end c.part.ensures c.part-2.ensures)
 
 pub returns : goal.returns
 returns c =
