@@ -1,21 +1,25 @@
 -- The paper's words and numbers for each case of an answer (01 Events): word and state of an acceptance; number, place and reply of a refusal.
 -- Assumes nothing.
-use Rattle.std.specs.Prelude.{ℕ, Bool, true, false, List}
+use Rattle.std.specs.Prelude.{ℕ, Bool, true, false, List, Option, Result, Some, None, Ok, Err}
 use Rattle.octets.specs.Ascii.{ascii}
-use Rattle.answers.specs.declared.Answer.TheVariants.{Accepted, Refused}
-use Rattle.answers.specs.declared.Answer.{Answer}
-use Rattle.answers.specs.declared.Word.TheVariants.{Pass, Repeat, Bye, Timeout, Idle, Freed, None}
+use Rattle.answers.specs.declared.Accepted.{Accepted}
+use Rattle.answers.specs.declared.Word.TheVariants.{Pass, Repeat, Bye, Timeout, Idle, Freed, None as nothing}
 use Rattle.answers.specs.declared.Word.{Word}
 use Rattle.answers.specs.declared.State.{State}
 use Rattle.answers.specs.declared.State.TheVariants.{Calling, Ringing, Answered, Talking, Ended, Cancelling}
-use Rattle.answers.specs.declared.Shown.{Shown}
-use Rattle.answers.specs.declared.Shown.TheVariants.{In, Free}
 use Rattle.answers.specs.declared.Reason.{Reason}
 use Rattle.answers.specs.declared.Reason.TheVariants.{NoCall, OtherParty, Earlier, WrongNumber, NotNow, NotSecure, TooLate, NoRoom}
 use Rattle.answers.specs.declared.Waiting.{Waiting}
 use Rattle.answers.specs.declared.Waiting.TheVariants.{Nobody, Requester, CallbackRequester}
 use Rattle.answers.specs.declared.Refusal.{Refusal}
 use Rattle.answers.specs.declared.Refusal.TheVariants.{Table, Reading, PingPong, Call}
+
+-- an answer: accepted, or refused
+abbrev pub Answer : Type 0
+Answer = Result Accepted Refusal
+
+abbrev pub accepted : Word → Option State → Answer
+accepted w s = Ok (record { word = w; state = s })
 
 -- 1 Calling, 2 Ringing, 3 Answered, 4 Talking, 5 Ended, 6 Cancelling
 abbrev pub state_number : State → ℕ
@@ -27,9 +31,9 @@ state_number Ended = 5
 state_number Cancelling = 6
 
 -- the state shown: freed shows 0
-abbrev pub shown_of : Shown → ℕ
-shown_of (In s) = state_number s
-shown_of Free = 0
+abbrev pub shown_of : Option State → ℕ
+shown_of (Some s) = state_number s
+shown_of None = 0
 
 -- the words of an acceptance
 abbrev pub spelling : Word → List ℕ
@@ -39,7 +43,7 @@ spelling Bye = ascii "bye"
 spelling Timeout = ascii "timeout"
 spelling Idle = ascii "idle"
 spelling Freed = ascii "freed"
-spelling None = ascii "none"
+spelling nothing = ascii "none"
 
 -- the reason's number
 abbrev pub reason_number : Reason → ℕ
@@ -96,8 +100,8 @@ quiet_word Bye = false
 quiet_word Timeout = false
 quiet_word Idle = false
 quiet_word Freed = false
-quiet_word None = true
+quiet_word nothing = true
 
 abbrev pub is_quiet : Answer → Bool
-is_quiet (Accepted w s) = quiet_word w
-is_quiet (Refused f) = true
+is_quiet (Ok a) = quiet_word a.word
+is_quiet (Err f) = true

@@ -5,26 +5,19 @@
 
 ghost use Rattle.std.specs.Prelude.{◌≡◌, ◌+◌, ◌≤◌, length};
 ghost use Rattle.octets.specs.Splice.{splice};
-ghost use Rattle.answers.specs.Answer.{refusal_number, refusal_place, reason_number, reason_reply, refusal_reply, waiting_reply, shown_of, spelling, state_number};
+ghost use Rattle.answers.specs.Answer.{refusal_number, refusal_place, reason_reply, refusal_reply, waiting_reply, shown_of, spelling};
 
 use octets::put;
 
-// The states of a call (01 Events), 1 to 6 in the paper.
+// The states of a call (01 Events), by their numbers.
 #[derive(Clone, Copy)]
 pub enum State {
-    Calling,
+    Calling = 1,
     Ringing,
     Answered,
     Talking,
     Ended,
     Cancelling,
-}
-
-// The state that an acceptance shows: the call's own, or 0 where its record was freed.
-#[derive(Drop)]
-pub enum Shown {
-    In(State),
-    Free,
 }
 
 // What is to be done with an event that is accepted.
@@ -39,10 +32,10 @@ pub enum Word {
     None,
 }
 
-// Numbers 20 to 27.
+// Why the rule of a call refuses, by its numbers, 20 to 27.
 #[derive(Clone, Copy)]
 pub enum Reason {
-    NoCall,
+    NoCall = 20,
     OtherParty,
     Earlier,
     WrongNumber,
@@ -72,48 +65,22 @@ pub enum Refusal {
     Call(Reason, Waiting),
 }
 
+// An acceptance: what is to be done, and the state that the call is in; None where its record was freed.
 #[derive(Drop)]
-pub enum Answer {
-    Accepted(Word, Shown),
-    Refused(Refusal),
+pub struct Accepted {
+    pub word: Word,
+    pub state: Option<State>,
 }
 
-// The state's number, 1 to 6.
-pub fn state_number(s: State) -> u8
-    ensures { result ≡ state_number s }
-{
-    match s {
-        State::Calling => 1,
-        State::Ringing => 2,
-        State::Answered => 3,
-        State::Talking => 4,
-        State::Ended => 5,
-        State::Cancelling => 6,
-    }
-}
+pub type Answer = Result<Accepted, Refusal>;
 
-// The state shown, 0 to 6.
-pub fn shown_number(s: Shown) -> u8
-    ensures { result ≡ shown_of s }
+// The state shown, 0 where the record was freed.
+pub fn shown_number(state: Option<State>) -> u8
+    ensures { result ≡ shown_of state }
 {
-    match s {
-        Shown::In(t) => state_number(t),
-        Shown::Free => 0,
-    }
-}
-
-fn reason_number(r: Reason) -> u8
-    ensures { result ≡ reason_number r }
-{
-    match r {
-        Reason::NoCall => 20,
-        Reason::OtherParty => 21,
-        Reason::Earlier => 22,
-        Reason::WrongNumber => 23,
-        Reason::NotNow => 24,
-        Reason::NotSecure => 25,
-        Reason::TooLate => 26,
-        Reason::NoRoom => 27,
+    match state {
+        Some(s) => s as u8,
+        None => 0,
     }
 }
 
@@ -123,8 +90,7 @@ fn reason_reply(twenty: u16, r: Reason) -> u16
     match r {
         Reason::NoCall => twenty,
         Reason::OtherParty => 481,
-        Reason::Earlier => 500,
-        Reason::WrongNumber => 500,
+        Reason::Earlier | Reason::WrongNumber => 500,
         Reason::NotNow => 400,
         Reason::NotSecure => 405,
         Reason::TooLate => 404,
@@ -142,39 +108,37 @@ fn waiting_reply(w: Waiting, r: Reason) -> u16
     }
 }
 
-// A refusal's number in the paper.
-pub fn number(f: Refusal) -> u8
-    ensures { result ≡ refusal_number f }
-{
-    match f {
-        Refusal::Table => 1,
-        Refusal::Reading(n, _) => n,
-        Refusal::PingPong => 28,
-        Refusal::Call(r, _) => reason_number(r),
+impl Refusal {
+    // Its number in the paper.
+    pub fn number(self) -> u8
+        ensures { result ≡ refusal_number self }
+    {
+        match self {
+            Refusal::Table => 1,
+            Refusal::Reading(n, _) => n,
+            Refusal::PingPong => 28,
+            Refusal::Call(r, _) => r as u8,
+        }
     }
-}
 
-// A refusal's place: 0 but for 2 to 11.
-pub fn place(f: Refusal) -> usize
-    ensures { result ≡ refusal_place f }
-{
-    match f {
-        Refusal::Table => 0,
-        Refusal::Reading(_, p) => p,
-        Refusal::PingPong => 0,
-        Refusal::Call(_, _) => 0,
+    // Its place: 0 but for 2 to 11.
+    pub fn place(self) -> usize
+        ensures { result ≡ refusal_place self }
+    {
+        match self {
+            Refusal::Reading(_, p) => p,
+            _ => 0,
+        }
     }
-}
 
-// A refusal's reply, or 0.
-pub fn reply(f: Refusal) -> u16
-    ensures { result ≡ refusal_reply f }
-{
-    match f {
-        Refusal::Table => 0,
-        Refusal::Reading(_, _) => 0,
-        Refusal::PingPong => 0,
-        Refusal::Call(r, w) => waiting_reply(w, r),
+    // Its reply, or 0.
+    pub fn reply(self) -> u16
+        ensures { result ≡ refusal_reply self }
+    {
+        match self {
+            Refusal::Call(r, w) => waiting_reply(w, r),
+            _ => 0,
+        }
     }
 }
 

@@ -1,5 +1,6 @@
 -- The rule keeps a record sound: whatever an event does to a sound record, what is set is sound, and so is what an INVITE opens.
 -- By the rows of the rule, each of which sets one of few things. Assumes nothing.
+use Rattle.std.specs.Prelude.{Option, Result, Some, None, Ok, Err}
 use Rattle.octets.proofs.TestLaws.{clash}
 use Prim.Native.Nat.{ℕ, ◌≤◌, ◌<◌}
 use Rattle.answers.specs.Answer.{quiet_word, is_quiet}
@@ -16,7 +17,7 @@ use Rattle.answers.specs.declared.State.TheVariants.{Calling, Ringing, Answered,
 use Rattle.answers.specs.declared.State.{State}
 use Rattle.answers.specs.declared.Waiting.TheVariants.{Nobody, Requester, CallbackRequester}
 use Rattle.answers.specs.declared.Waiting.{Waiting}
-use Rattle.answers.specs.declared.Word.TheVariants.{Pass, Repeat, Bye, Timeout, Idle, None}
+use Rattle.answers.specs.declared.Word.TheVariants.{Pass, Repeat, Bye, Timeout, Idle, None as nothing}
 use Rattle.answers.specs.declared.Word.{Word}
 use Rattle.call.specs.declared.events.Event.TheVariants.{Asks, Replies, Tick}
 use Rattle.call.specs.declared.events.Event.{Event}
@@ -28,11 +29,7 @@ use Rattle.call.specs.declared.events.Side.TheVariants.{Caller, Callee}
 use Rattle.call.specs.declared.events.Side.{Side}
 use Rattle.call.specs.declared.records.After.TheVariants.{Same}
 use Rattle.call.specs.declared.records.Call.{Call}
-use Rattle.call.specs.declared.records.Held.TheVariants.{Nothing, Is}
-use Rattle.call.specs.declared.records.Held.{Held}
 use Rattle.call.specs.declared.records.Outcome.{Outcome}
-use Rattle.call.specs.declared.requests.Admitted.TheVariants.{Stops, Goes}
-use Rattle.call.specs.declared.requests.Admitted.{Admitted}
 use borrow.Author.Tests.{ltb-false, leb-false}
 use lib.Dec.{eqb, leb, ltb}
 use mathlib.Core.Bool.{Bool, true, false, cond, ◌&&◌}
@@ -174,11 +171,11 @@ numbered-last Caller n m c = refl
 numbered-last Callee n m c = refl
 
 -- a sound record that was last heard no later, or an outcome that is fine
-abbrev Onward : ℕ → Admitted → Type 0
-Onward now (Stops o) = Fine o
-Onward now (Goes d) = Sound d × (Timely d.last now)
+abbrev Onward : ℕ → Result Call Outcome → Type 0
+Onward now (Err o) = Fine o
+Onward now (Ok d) = Sound d × (Timely d.last now)
 
-pick_onward : (now : ℕ) (t : Bool) (a b : Admitted) → (t ≡ true → Onward now a) → (t ≡ false → Onward now b) → Onward now (cond t a b)
+pick_onward : (now : ℕ) (t : Bool) (a b : Result Call Outcome) → (t ≡ true → Onward now a) → (t ≡ false → Onward now b) → Onward now (cond t a b)
 pick_onward now true a b p q = p refl
 pick_onward now false a b p q = q refl
 
@@ -196,9 +193,9 @@ module _ (c : Call) (now : ℕ) (s : Sound c) (later : Timely c.last now) where
       ))
       (λ g. refused-fine NotNow Requester)))
 
-onward-fine : (now : ℕ) (a : Admitted) (f : Call → Outcome) → Onward now a → ((d : Call) → Sound d → Timely d.last now → Fine (f d)) → Fine (if_admitted a f)
-onward-fine now (Stops o) f p g = p
-onward-fine now (Goes d) f p g = g d p.0 p.1
+onward-fine : (now : ℕ) (a : Result Call Outcome) (f : Call → Outcome) → Onward now a → ((d : Call) → Sound d → Timely d.last now → Fine (f d)) → Fine (if_admitted a f)
+onward-fine now (Err o) f p g = p
+onward-fine now (Ok d) f p g = g d p.0 p.1
 
 -- the rows of the rule, on a sound record that was last heard no later
 
@@ -320,12 +317,12 @@ module _ (c : Call) (now : ℕ) (s : Sound c) (later : Timely c.last now) where
   response-fine Notify r = to-within-fine r
 
   tick-fine : (x : State) → Fine (tick_in x now c)
-  tick-fine Calling = either (leb 15000 (since now c.entry)) _ _ (go Timeout Ended refl) (unchanged-fine None c)
-  tick-fine Ringing = either (leb 150000 (since now c.entry)) _ _ (go Timeout Ended refl) (unchanged-fine None c)
-  tick-fine Answered = either (leb 1800000 (since now c.chat)) _ _ (go Idle Ended refl) (unchanged-fine None c)
-  tick-fine Talking = either (leb 1800000 (since now c.chat)) _ _ (go Idle Ended refl) (unchanged-fine None c)
-  tick-fine Ended = either (ltb 3600000 (since now c.entry)) _ _ (record { fine = tt; still = λ e. clash e refl }) (unchanged-fine None c)
-  tick-fine Cancelling = either (leb 15000 (since now c.entry)) _ _ (go Timeout Ended refl) (unchanged-fine None c)
+  tick-fine Calling = either (leb 15000 (since now c.entry)) _ _ (go Timeout Ended refl) (unchanged-fine nothing c)
+  tick-fine Ringing = either (leb 150000 (since now c.entry)) _ _ (go Timeout Ended refl) (unchanged-fine nothing c)
+  tick-fine Answered = either (leb 1800000 (since now c.chat)) _ _ (go Idle Ended refl) (unchanged-fine nothing c)
+  tick-fine Talking = either (leb 1800000 (since now c.chat)) _ _ (go Idle Ended refl) (unchanged-fine nothing c)
+  tick-fine Ended = either (ltb 3600000 (since now c.entry)) _ _ (record { fine = tt; still = λ e. clash e refl }) (unchanged-fine nothing c)
+  tick-fine Cancelling = either (leb 15000 (since now c.entry)) _ _ (go Timeout Ended refl) (unchanged-fine nothing c)
 
 -- the checks 21 and 22 before them
 
@@ -374,12 +371,12 @@ decided-unheld-fine (Replies r agrees) now h t = refused-fine NoCall Nobody
 decided-unheld-fine Tick now h t = refused-fine NoCall Nobody
 
 -- THE THEOREM: on a sound record, or on none, an event that carries a number of CSeq and a time of 64 bits sets nothing but a sound record
-pub decided-sound : (h : Held) (e : Event) (now : ℕ) → SoundHeld h → Numbered e → now < 18446744073709551616 → SoundAfter (decided h e now).after
-decided-sound Nothing e now s n t = (decided-unheld-fine e now n t).fine
-decided-sound (Is c) e now s n t = (decided-held-fine e now c s n t).fine
+pub decided-sound : (h : Option Call) (e : Event) (now : ℕ) → SoundHeld h → Numbered e → now < 18446744073709551616 → SoundAfter (decided h e now).after
+decided-sound None e now s n t = (decided-unheld-fine e now n t).fine
+decided-sound (Some c) e now s n t = (decided-held-fine e now c s n t).fine
 
 -- and where its answer says that nothing changes, it leaves the record
-pub decided-still : (h : Held) (e : Event) (now : ℕ) → SoundHeld h → Numbered e → now < 18446744073709551616 → is_quiet (decided h e now).answer ≡ true
+pub decided-still : (h : Option Call) (e : Event) (now : ℕ) → SoundHeld h → Numbered e → now < 18446744073709551616 → is_quiet (decided h e now).answer ≡ true
     → (decided h e now).after ≡ Same
-decided-still Nothing e now s n t = (decided-unheld-fine e now n t).still
-decided-still (Is c) e now s n t = (decided-held-fine e now c s n t).still
+decided-still None e now s n t = (decided-unheld-fine e now n t).still
+decided-still (Some c) e now s n t = (decided-held-fine e now c s n t).still

@@ -1,6 +1,6 @@
 -- Requests (01 Events, 'Requests'), in the paper's order: INVITE, ACK and CANCEL, BYE, MESSAGE, NOTIFY and REFER, CALLBACK; `request` goes by the method.
 -- What each accepts changes the record as Outcomes says. Assumes nothing.
-use Rattle.std.specs.Prelude.{ℕ, Bool, true, false, ◌&&◌, cond, eqb, leb}
+use Rattle.std.specs.Prelude.{ℕ, Bool, true, false, ◌&&◌, cond, eqb, leb, Result, Ok, Err}
 use Rattle.answers.specs.declared.State.{State}
 use Rattle.answers.specs.declared.State.TheVariants.{Calling, Ringing, Answered, Talking, Ended, Cancelling}
 use Rattle.answers.specs.declared.Word.TheVariants.{Pass, Repeat}
@@ -14,8 +14,6 @@ use Rattle.call.specs.declared.events.Side.{Side}
 use Rattle.call.specs.declared.events.Side.TheVariants.{Caller, Callee}
 use Rattle.call.specs.declared.events.Request.{Request}
 use Rattle.call.specs.declared.records.Outcome.{Outcome}
-use Rattle.call.specs.declared.requests.Admitted.{Admitted}
-use Rattle.call.specs.declared.requests.Admitted.TheVariants.{Stops, Goes}
 use Rattle.call.specs.Outcomes.{refused, unchanged, with_times, stays, goes, since}
 
 -- INVITE, no record (which record it takes, and its texts, are the keeper's): state 1, Secure-Call from the message, INVITE number and
@@ -119,15 +117,15 @@ in_talk Cancelling = false
 
 -- BYE, MESSAGE, NOTIFY, REFER: number equal to that side's highest and same method, repeat; else not above it, 23; then state
 -- not 3 or 4, 24; else it goes on with that side's number and method set
-unfoldable pub admitted : Request → Call → Admitted
+unfoldable pub admitted : Request → Call → Result Call Outcome
 admitted r c =
-    cond (eqb r.number (highest_of r.from c).number && eqb (method_code r.method) (highest_of r.from c).method) (Stops (unchanged Repeat c))
-    (cond (leb r.number (highest_of r.from c).number) (Stops (refused WrongNumber Requester))
-    (cond (in_talk c.state) (Goes (numbered r.from r.number (method_code r.method) c)) (Stops (refused NotNow Requester))))
+    cond (eqb r.number (highest_of r.from c).number && eqb (method_code r.method) (highest_of r.from c).method) (Err (unchanged Repeat c))
+    (cond (leb r.number (highest_of r.from c).number) (Err (refused WrongNumber Requester))
+    (cond (in_talk c.state) (Ok (numbered r.from r.number (method_code r.method) c)) (Err (refused NotNow Requester))))
 
-abbrev pub if_admitted : Admitted → (Call → Outcome) → Outcome
-if_admitted (Stops o) f = o
-if_admitted (Goes c) f = f c
+abbrev pub if_admitted : Result Call Outcome → (Call → Outcome) → Outcome
+if_admitted (Err o) f = o
+if_admitted (Ok c) f = f c
 
 -- BYE goes to 5
 unfoldable pub bye : Request → ℕ → Call → Outcome

@@ -12,14 +12,13 @@
 --   27               a new INVITE and no record free          the keeper, where `request_unheld` opens a call (`taken_at`)
 --
 -- Below stand 20, then 21 and 22, then the rule whole. Assumes nothing.
-use Rattle.std.specs.Prelude.{ℕ, Bool, true, cond, ltb}
+use Rattle.answers.specs.Answer.{accepted}
+use Rattle.std.specs.Prelude.{ℕ, Bool, true, cond, ltb, Option, Some, None}
 use Rattle.answers.specs.declared.State.TheVariants.{Calling}
-use Rattle.answers.specs.declared.Shown.TheVariants.{In}
 use Rattle.answers.specs.declared.Word.TheVariants.{Pass}
 use Rattle.answers.specs.declared.Reason.TheVariants.{NoCall, OtherParty, Earlier}
 use Rattle.answers.specs.declared.Waiting.{Waiting}
 use Rattle.answers.specs.declared.Waiting.TheVariants.{Nobody, Requester, CallbackRequester}
-use Rattle.answers.specs.declared.Answer.TheVariants.{Accepted}
 use Rattle.call.specs.declared.records.Call.{Call}
 use Rattle.call.specs.declared.records.After.TheVariants.{Set}
 use Rattle.call.specs.declared.events.Method.{Method}
@@ -28,8 +27,6 @@ use Rattle.call.specs.declared.events.Request.{Request}
 use Rattle.call.specs.declared.events.Event.{Event}
 use Rattle.call.specs.declared.events.Event.TheVariants.{Asks, Replies, Tick}
 use Rattle.call.specs.declared.records.Outcome.{Outcome}
-use Rattle.call.specs.declared.records.Held.{Held}
-use Rattle.call.specs.declared.records.Held.TheVariants.{Nothing, Is}
 use Rattle.call.specs.Outcomes.{refused}
 use Rattle.call.specs.Requests.{new_call, request}
 use Rattle.call.specs.Responses.{response}
@@ -48,7 +45,7 @@ waiting Notify = Requester
 
 -- 20: no such call, an INVITE request aside (where no record is free the keeper answers it by 27 instead)
 abbrev pub request_unheld : Method → Request → ℕ → Outcome
-request_unheld Invite r now = record { answer = Accepted Pass (In Calling); after = Set (new_call r.number r.secure now) }
+request_unheld Invite r now = record { answer = accepted Pass (Some Calling); after = Set (new_call r.number r.secure now) }
 request_unheld Bye r now = refused NoCall Requester
 request_unheld Cancel r now = refused NoCall Requester
 request_unheld Ack r now = refused NoCall Nobody
@@ -72,6 +69,6 @@ decided_held (Replies r agrees) now c = first_checks agrees Nobody now c (respon
 decided_held Tick now c = first_checks true Nobody now c (tick_in c.state now c)
 
 -- what is answered to an event on a call's record, or on none, and what becomes of it
-abbrev pub decided : Held → Event → ℕ → Outcome
-decided Nothing e now = decided_unheld e now
-decided (Is c) e now = decided_held e now c
+abbrev pub decided : Option Call → Event → ℕ → Outcome
+decided None e now = decided_unheld e now
+decided (Some c) e now = decided_held e now c

@@ -1,31 +1,23 @@
 // The rule, checked in the order of the table (01 Events): 20, 21, 22, then by the kind of event.
-ghost use Rattle.std.specs.Prelude.{◌≡◌, true};
-ghost use Rattle.answers.specs.declared.Waiting.TheVariants.{Nobody};
-ghost use Rattle.call.specs.Rule.{first_checks, decided, decided_held, request_unheld, decided_unheld, waiting};
-ghost use Rattle.call.specs.Requests.{new_call, request};
-ghost use Rattle.call.specs.Responses.{response};
-ghost use Rattle.call.specs.Ticks.{tick_in};
+ghost use Rattle.std.specs.Prelude.{◌≡◌};
+ghost use Rattle.call.specs.Rule.{decided, decided_held, request_unheld, decided_unheld, waiting};
+ghost use Rattle.call.specs.Requests.{new_call};
 
-use crate::events::{Event, Method, Request, Response};
-use crate::records::{After, Call, Held, Highest, Outcome, refused};
+use crate::events::{Event, Method, Request};
+use crate::records::{After, Call, Highest, Outcome, accepted, refused};
 use crate::requests::request;
 use crate::responses::response;
-use crate::ticks::tick_in;
-use answers::{Answer, Reason, Shown, State, Waiting, Word};
+use crate::ticks::tick;
+use answers::{Reason, State, Waiting, Word};
 
 // Who waits for the reply to a request.
 fn waiting(m: Method) -> Waiting
     ensures { result ≡ waiting m }
 {
     match m {
-        Method::Invite => Waiting::Requester,
-        Method::Bye => Waiting::Requester,
-        Method::Cancel => Waiting::Requester,
         Method::Ack => Waiting::Nobody,
-        Method::Message => Waiting::Requester,
         Method::Callback => Waiting::CallbackRequester,
-        Method::Refer => Waiting::Requester,
-        Method::Notify => Waiting::Requester,
+        _ => Waiting::Requester,
     }
 }
 
@@ -33,7 +25,10 @@ fn waiting(m: Method) -> Waiting
 fn new_call(number: u32, secure: bool, now: u64) -> Call
     ensures { result ≡ new_call number secure now }
 {
-    let caller = Highest { number, method: 1 };
+    let caller = Highest {
+        number,
+        method: Method::Invite as u8,
+    };
     let callee = Highest {
         number: 0,
         method: 0,
@@ -50,100 +45,59 @@ fn new_call(number: u32, secure: bool, now: u64) -> Call
     }
 }
 
-// A request of method m that names no call: an INVITE opens one, any other is 20.
-fn request_unheld(m: Method, r: Request, now: u64) -> Outcome
-    ensures { result ≡ request_unheld m r now }
+// A request that names no call: an INVITE opens one, any other is 20.
+fn request_unheld(r: Request, now: u64) -> Outcome
+    ensures { result ≡ request_unheld r.method r now }
 {
-    match m {
+    match r.method {
         Method::Invite => Outcome {
-            answer: Answer::Accepted(Word::Pass, Shown::In(State::Calling)),
+            answer: accepted(Word::Pass, Some(State::Calling)),
             after: After::Set(new_call(r.number, r.secure, now)),
         },
-        Method::Bye => refused(Reason::NoCall, Waiting::Requester),
-        Method::Cancel => refused(Reason::NoCall, Waiting::Requester),
-        Method::Ack => refused(Reason::NoCall, Waiting::Nobody),
-        Method::Message => refused(Reason::NoCall, Waiting::Requester),
-        Method::Callback => refused(Reason::NoCall, Waiting::CallbackRequester),
-        Method::Refer => refused(Reason::NoCall, Waiting::Requester),
-        Method::Notify => refused(Reason::NoCall, Waiting::Requester),
+        _ => refused(Reason::NoCall, waiting(r.method)),
     }
 }
 
-// 21 and 22 before what the request's method says.
-fn asked(m: Method, r: Request, agrees: bool, now: u64, c: Call) -> Outcome
-    ensures { result ≡ first_checks agrees (waiting m) now c (request m r now c) }
-{
-    let w = waiting(m);
-    if !agrees {
-        return refused(Reason::OtherParty, w);
-    }
-    if now < c.last {
-        return refused(Reason::Earlier, w);
-    }
-    request(m, r, now, c)
-}
-
-fn replied(m: Method, r: Response, agrees: bool, now: u64, c: Call) -> Outcome
-    ensures { result ≡ first_checks agrees Nobody now c (response m r now c) }
-{
-    if !agrees {
-        return refused(Reason::OtherParty, Waiting::Nobody);
-    }
-    if now < c.last {
-        return refused(Reason::Earlier, Waiting::Nobody);
-    }
-    response(m, r, now, c)
-}
-
-fn ticked(s: State, now: u64, c: Call) -> Outcome
-    ensures { result ≡ first_checks true Nobody now c (tick_in s now c) }
-{
-    if now < c.last {
-        return refused(Reason::Earlier, Waiting::Nobody);
-    }
-    tick_in(s, now, c)
-}
-
-// An event on a call's record.
+// An event on a call's record: 21 and 22, then what its kind says.
+#[tactic(auto, unfolding(crate::specs::Rule::decided_held))]
 fn decide_held(e: Event, now: u64, c: Call) -> Outcome
     ensures { result ≡ decided_held e now c }
 {
+    let (agrees, waits) = match &e {
+        Event::Asks(r, agrees) => (*agrees, waiting(r.method)),
+        Event::Replies(_, agrees) => (*agrees, Waiting::Nobody),
+        Event::Tick => (true, Waiting::Nobody),
+    };
+    if !agrees {
+        return refused(Reason::OtherParty, waits);
+    }
+    if now < c.last {
+        return refused(Reason::Earlier, waits);
+    }
     match e {
-        Event::Asks(r, agrees) => {
-            let m = r.method;
-            asked(m, r, agrees, now, c)
-        }
-        Event::Replies(r, agrees) => {
-            let m = r.method;
-            replied(m, r, agrees, now, c)
-        }
-        Event::Tick => {
-            let s = c.state;
-            ticked(s, now, c)
-        }
+        Event::Asks(r, _) => request(r, now, c),
+        Event::Replies(r, _) => response(r, now, c),
+        Event::Tick => tick(now, c),
     }
 }
 
 // An event that names no call on record.
+#[tactic(auto, unfolding(crate::specs::Rule::decided_unheld))]
 fn decide_unheld(e: Event, now: u64) -> Outcome
     ensures { result ≡ decided_unheld e now }
 {
     match e {
-        Event::Asks(r, _) => {
-            let m = r.method;
-            request_unheld(m, r, now)
-        }
-        Event::Replies(_, _) => refused(Reason::NoCall, Waiting::Nobody),
-        Event::Tick => refused(Reason::NoCall, Waiting::Nobody),
+        Event::Asks(r, _) => request_unheld(r, now),
+        Event::Replies(_, _) | Event::Tick => refused(Reason::NoCall, Waiting::Nobody),
     }
 }
 
 // What is answered to an event on a call's record, or on none, and what becomes of the record.
-pub fn decide(h: Held, e: Event, now: u64) -> Outcome
-    ensures { result ≡ decided h e now }
+pub fn decide(held: Option<Call>, e: Event, now: u64) -> Outcome
+    ensures { result ≡ decided held e now }
 {
-    match h {
-        Held::Nothing => decide_unheld(e, now),
-        Held::Is(c) => decide_held(e, now, c),
+    match held {
+        None => decide_unheld(e, now),
+        Some(c) => decide_held(e, now, c),
     }
 }

@@ -1,9 +1,9 @@
 // An event as facts: what a message says, apart from its texts, or a tick.
 
-// The eight methods.
+// The eight methods, by their codes.
 #[derive(Clone, Copy)]
 pub enum Method {
-    Invite,
+    Invite = 1,
     Bye,
     Cancel,
     Ack,

@@ -12,4 +12,4 @@ mod ticks;
 
 pub use deciding::decide;
 pub use events::{Event, Method, Request, Response, Side};
-pub use records::{After, Call, Held, Highest, Outcome};
+pub use records::{After, Call, Highest, Outcome};

@@ -1,10 +1,12 @@
 // A call as its rule sees it: the numbers of its record (its texts stay with the keeper), and what an event brings.
 ghost use Rattle.std.specs.Prelude.{◌≡◌};
+ghost use Rattle.answers.specs.Answer.{accepted};
 ghost use Rattle.call.specs.Outcomes.{chat_on_entering, entered, freed, goes, heard, refused, since, stays, unchanged};
 
-use answers::{Answer, Reason, Refusal, Shown, State, Waiting, Word};
+use answers::{Accepted, Answer, Reason, Refusal, State, Waiting, Word};
 
-// The highest number of one side, and its method's code (0 and 0: none).
+// The highest number of one side, and its method's code; 0 and 0 where it has sent none, as the image has it. Every number that a
+// request brings is above that, so that no test asks whether there is one: an Option would be taken apart to be compared.
 #[derive(Clone, Copy)]
 pub struct Highest {
     pub number: u32,
@@ -22,13 +24,6 @@ pub struct Call {
     pub last: u64,
     pub entry: u64,
     pub chat: u64,
-}
-
-// The record of the call that an event names.
-#[derive(Drop)]
-pub enum Held {
-    Nothing,
-    Is(Call),
 }
 
 // What becomes of a call's record.
@@ -57,9 +52,7 @@ pub fn since(now: u64, then: u64) -> u64
 pub fn heard(now: u64, c: Call) -> Call
     ensures { result ≡ heard now c }
 {
-    let mut d = c;
-    d.last = now;
-    d
+    Call { last: now, ..c }
 }
 
 // The chat time on entering state s.
@@ -68,11 +61,7 @@ fn chat_on_entering(s: State, now: u64, old: u64) -> u64
 {
     match s {
         State::Answered => now,
-        State::Calling => old,
-        State::Ringing => old,
-        State::Talking => old,
-        State::Ended => old,
-        State::Cancelling => old,
+        _ => old,
     }
 }
 
@@ -80,17 +69,12 @@ fn chat_on_entering(s: State, now: u64, old: u64) -> u64
 pub fn entered(s: State, now: u64, c: Call) -> Call
     ensures { result ≡ entered s now c }
 {
-    let caller = c.caller;
-    let callee = c.callee;
     Call {
         state: s,
-        secure: c.secure,
-        invite: c.invite,
-        caller: caller,
-        callee: callee,
         last: now,
         entry: now,
         chat: chat_on_entering(s, now, c.chat),
+        ..c
     }
 }
 
@@ -99,18 +83,24 @@ pub fn refused(reason: Reason, waiting: Waiting) -> Outcome
     ensures { result ≡ refused reason waiting }
 {
     Outcome {
-        answer: Answer::Refused(Refusal::Call(reason, waiting)),
+        answer: Err(Refusal::Call(reason, waiting)),
         after: After::Same,
     }
+}
+
+// Accepted: what is to be done, and the state that the call is in.
+pub fn accepted(word: Word, state: Option<State>) -> Answer
+    ensures { result ≡ accepted word state }
+{
+    Ok(Accepted { word, state })
 }
 
 // Repeat and none: the record stays.
 pub fn unchanged(word: Word, c: Call) -> Outcome
     ensures { result ≡ unchanged word c }
 {
-    let s = c.state;
     Outcome {
-        answer: Answer::Accepted(word, Shown::In(s)),
+        answer: accepted(word, Some(c.state)),
         after: After::Same,
     }
 }
@@ -119,9 +109,8 @@ pub fn unchanged(word: Word, c: Call) -> Outcome
 pub fn stays(word: Word, now: u64, c: Call) -> Outcome
     ensures { result ≡ stays word now c }
 {
-    let s = c.state;
     Outcome {
-        answer: Answer::Accepted(word, Shown::In(s)),
+        answer: accepted(word, Some(c.state)),
         after: After::Set(heard(now, c)),
     }
 }
@@ -131,7 +120,7 @@ pub fn goes(word: Word, s: State, now: u64, c: Call) -> Outcome
     ensures { result ≡ goes word s now c }
 {
     Outcome {
-        answer: Answer::Accepted(word, Shown::In(s)),
+        answer: accepted(word, Some(s)),
         after: After::Set(entered(s, now, c)),
     }
 }
@@ -141,7 +130,7 @@ pub fn freed() -> Outcome
     ensures { result ≡ freed }
 {
     Outcome {
-        answer: Answer::Accepted(Word::Freed, Shown::Free),
+        answer: accepted(Word::Freed, None),
         after: After::Free,
     }
 }

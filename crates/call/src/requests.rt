@@ -1,32 +1,10 @@
 // Requests on a call that has a record (01 Events).
 ghost use Rattle.std.specs.Prelude.{◌≡◌};
-ghost use Rattle.call.specs.Requests.{ack, ack_in, admitted, bye, callback_in, cancel, cancel_in, chatted, method_code, highest_of, in_talk, invite, message, notify, numbered, refer, request};
+ghost use Rattle.call.specs.Requests.{ack, admitted, bye, callback_in, cancel, chatted, highest_of, in_talk, invite, message, notify, numbered, refer, request};
 
 use crate::events::{Method, Request, Side};
 use crate::records::{Call, Highest, Outcome, goes, refused, since, stays, unchanged};
 use answers::{Reason, State, Waiting, Word};
-
-// Whether a request within a call goes on, with its side's number and method set, or what it stops with.
-#[derive(Drop)]
-pub enum Admitted {
-    Stops(Outcome),
-    Goes(Call),
-}
-
-fn method_code(m: Method) -> u8
-    ensures { result ≡ method_code m }
-{
-    match m {
-        Method::Invite => 1,
-        Method::Bye => 2,
-        Method::Cancel => 3,
-        Method::Ack => 4,
-        Method::Message => 5,
-        Method::Callback => 6,
-        Method::Refer => 7,
-        Method::Notify => 8,
-    }
-}
 
 pub fn highest(side: Side, c: Call) -> Highest
     ensures { result ≡ highest_of side c }
@@ -41,41 +19,26 @@ fn numbered(side: Side, number: u32, method: u8, c: Call) -> Call
     ensures { result ≡ numbered side number method c }
 {
     let h = Highest { number, method };
-    let mut d = c;
     match side {
-        Side::Caller => {
-            d.caller = h;
-            d
-        }
-        Side::Callee => {
-            d.callee = h;
-            d
-        }
+        Side::Caller => Call { caller: h, ..c },
+        Side::Callee => Call { callee: h, ..c },
     }
 }
 
 fn chatted(now: u64, c: Call) -> Call
     ensures { result ≡ chatted now c }
 {
-    let mut d = c;
-    d.chat = now;
-    d
+    Call { chat: now, ..c }
 }
 
 fn in_talk(s: State) -> bool
     ensures { result ≡ in_talk s }
 {
-    match s {
-        State::Answered => true,
-        State::Talking => true,
-        State::Calling => false,
-        State::Ringing => false,
-        State::Ended => false,
-        State::Cancelling => false,
-    }
+    matches!(s, State::Answered | State::Talking)
 }
 
 // INVITE: same number repeat, else 24.
+#[tactic(auto, unfolding(crate::specs::Requests::invite))]
 fn invite(r: Request, c: Call) -> Outcome
     ensures { result ≡ invite r c }
 {
@@ -86,117 +49,95 @@ fn invite(r: Request, c: Call) -> Outcome
     }
 }
 
-fn ack_in(s: State, now: u64, c: Call) -> Outcome
-    ensures { result ≡ ack_in s now c }
-{
-    match s {
-        State::Answered => goes(Word::Pass, State::Talking, now, c),
-        State::Talking => unchanged(Word::Repeat, c),
-        State::Calling => refused(Reason::NotNow, Waiting::Nobody),
-        State::Ringing => refused(Reason::NotNow, Waiting::Nobody),
-        State::Ended => refused(Reason::NotNow, Waiting::Nobody),
-        State::Cancelling => refused(Reason::NotNow, Waiting::Nobody),
-    }
-}
-
 // ACK: number not the INVITE's, 23.
+#[tactic(auto, unfolding(crate::specs::Requests::ack))]
 fn ack(r: Request, now: u64, c: Call) -> Outcome
     ensures { result ≡ ack r now c }
 {
-    let s = c.state;
-    if r.number == c.invite {
-        ack_in(s, now, c)
-    } else {
-        refused(Reason::WrongNumber, Waiting::Nobody)
+    if r.number != c.invite {
+        return refused(Reason::WrongNumber, Waiting::Nobody);
     }
-}
-
-fn cancel_in(s: State, now: u64, c: Call) -> Outcome
-    ensures { result ≡ cancel_in s now c }
-{
-    match s {
-        State::Calling => goes(Word::Pass, State::Cancelling, now, c),
-        State::Ringing => goes(Word::Pass, State::Cancelling, now, c),
-        State::Answered => unchanged(Word::Repeat, c),
+    match c.state {
+        State::Answered => goes(Word::Pass, State::Talking, now, c),
         State::Talking => unchanged(Word::Repeat, c),
-        State::Ended => unchanged(Word::Repeat, c),
-        State::Cancelling => unchanged(Word::Repeat, c),
+        _ => refused(Reason::NotNow, Waiting::Nobody),
     }
 }
 
 // CANCEL: number not the INVITE's, 23.
+#[tactic(auto, unfolding(crate::specs::Requests::cancel))]
 fn cancel(r: Request, now: u64, c: Call) -> Outcome
     ensures { result ≡ cancel r now c }
 {
-    let s = c.state;
-    if r.number == c.invite {
-        cancel_in(s, now, c)
-    } else {
-        refused(Reason::WrongNumber, Waiting::Requester)
+    if r.number != c.invite {
+        return refused(Reason::WrongNumber, Waiting::Requester);
+    }
+    match c.state {
+        State::Calling | State::Ringing => goes(Word::Pass, State::Cancelling, now, c),
+        _ => unchanged(Word::Repeat, c),
     }
 }
 
-// BYE, MESSAGE, NOTIFY, REFER: repeat, 23, 24, or on with it.
-fn admit(r: Request, c: Call) -> Admitted
+// BYE, MESSAGE, NOTIFY, REFER: the call with its side's number and method set, or what the request stops with: repeat, 23, 24.
+#[tactic(auto, unfolding(crate::specs::Requests::admitted))]
+fn admit(r: Request, c: Call) -> Result<Call, Outcome>
     ensures { result ≡ admitted r c }
 {
-    let from = r.from;
-    let h = highest(from, c);
-    let method = r.method;
-    let s = c.state;
-    let m = method_code(method);
-    if r.number == h.number {
-        if m == h.method {
-            return Admitted::Stops(unchanged(Word::Repeat, c));
-        }
-        return Admitted::Stops(refused(Reason::WrongNumber, Waiting::Requester));
+    let h = highest(r.from, c);
+    let m = r.method as u8;
+    if r.number == h.number && m == h.method {
+        return Err(unchanged(Word::Repeat, c));
     }
-    if r.number < h.number {
-        return Admitted::Stops(refused(Reason::WrongNumber, Waiting::Requester));
+    if r.number <= h.number {
+        return Err(refused(Reason::WrongNumber, Waiting::Requester));
     }
-    if in_talk(s) {
-        Admitted::Goes(numbered(from, r.number, m, c))
+    if in_talk(c.state) {
+        Ok(numbered(r.from, r.number, m, c))
     } else {
-        Admitted::Stops(refused(Reason::NotNow, Waiting::Requester))
+        Err(refused(Reason::NotNow, Waiting::Requester))
     }
 }
 
 // BYE goes to 5.
+#[tactic(auto, unfolding(crate::specs::Requests::bye))]
 fn bye(r: Request, now: u64, c: Call) -> Outcome
     ensures { result ≡ bye r now c }
 {
     match admit(r, c) {
-        Admitted::Stops(o) => o,
-        Admitted::Goes(d) => goes(Word::Pass, State::Ended, now, d),
+        Err(o) => o,
+        Ok(d) => goes(Word::Pass, State::Ended, now, d),
     }
 }
 
 // MESSAGE sets the chat time.
+#[tactic(auto, unfolding(crate::specs::Requests::message))]
 fn message(r: Request, now: u64, c: Call) -> Outcome
     ensures { result ≡ message r now c }
 {
     match admit(r, c) {
-        Admitted::Stops(o) => o,
-        Admitted::Goes(d) => stays(Word::Pass, now, chatted(now, d)),
+        Err(o) => o,
+        Ok(d) => stays(Word::Pass, now, chatted(now, d)),
     }
 }
 
+#[tactic(auto, unfolding(crate::specs::Requests::notify))]
 fn notify(r: Request, now: u64, c: Call) -> Outcome
     ensures { result ≡ notify r now c }
 {
     match admit(r, c) {
-        Admitted::Stops(o) => o,
-        Admitted::Goes(d) => stays(Word::Pass, now, d),
+        Err(o) => o,
+        Ok(d) => stays(Word::Pass, now, d),
     }
 }
 
 // REFER where the call is not secure, 25.
+#[tactic(auto, unfolding(crate::specs::Requests::refer))]
 fn refer(r: Request, now: u64, c: Call) -> Outcome
     ensures { result ≡ refer r now c }
 {
     match admit(r, c) {
-        Admitted::Stops(o) => o,
-        Admitted::Goes(d) => {
+        Err(o) => o,
+        Ok(d) => {
             if d.secure {
                 stays(Word::Pass, now, d)
             } else {
@@ -207,10 +148,10 @@ fn refer(r: Request, now: u64, c: Call) -> Outcome
 }
 
 // CALLBACK within the hour after the end; later 26; else 24.
-fn callback_in(s: State, now: u64, c: Call) -> Outcome
-    ensures { result ≡ callback_in s now c }
+fn callback(now: u64, c: Call) -> Outcome
+    ensures { result ≡ callback_in c.state now c }
 {
-    match s {
+    match c.state {
         State::Ended => {
             if since(now, c.entry) <= 3600000 {
                 stays(Word::Pass, now, c)
@@ -218,26 +159,22 @@ fn callback_in(s: State, now: u64, c: Call) -> Outcome
                 refused(Reason::TooLate, Waiting::CallbackRequester)
             }
         }
-        State::Calling => refused(Reason::NotNow, Waiting::CallbackRequester),
-        State::Ringing => refused(Reason::NotNow, Waiting::CallbackRequester),
-        State::Answered => refused(Reason::NotNow, Waiting::CallbackRequester),
-        State::Talking => refused(Reason::NotNow, Waiting::CallbackRequester),
-        State::Cancelling => refused(Reason::NotNow, Waiting::CallbackRequester),
+        _ => refused(Reason::NotNow, Waiting::CallbackRequester),
     }
 }
 
-// A request of method m.
-pub fn request(m: Method, r: Request, now: u64, c: Call) -> Outcome
-    ensures { result ≡ request m r now c }
+// By the request's method.
+#[tactic(auto, unfolding(crate::specs::Requests::request))]
+pub fn request(r: Request, now: u64, c: Call) -> Outcome
+    ensures { result ≡ request r.method r now c }
 {
-    let s = c.state;
-    match m {
+    match r.method {
         Method::Invite => invite(r, c),
         Method::Bye => bye(r, now, c),
         Method::Cancel => cancel(r, now, c),
         Method::Ack => ack(r, now, c),
         Method::Message => message(r, now, c),
-        Method::Callback => callback_in(s, now, c),
+        Method::Callback => callback(now, c),
         Method::Refer => refer(r, now, c),
         Method::Notify => notify(r, now, c),
     }

@@ -19,15 +19,14 @@ fn expires(word: Word, limit: u64, then: u64, now: u64, c: Call) -> Outcome
     }
 }
 
-// A tick for a call in state s.
-pub fn tick_in(s: State, now: u64, c: Call) -> Outcome
-    ensures { result ≡ tick_in s now c }
+// A tick on a call.
+pub fn tick(now: u64, c: Call) -> Outcome
+    ensures { result ≡ tick_in c.state now c }
 {
-    match s {
-        State::Calling => expires(Word::Timeout, 15000, c.entry, now, c),
+    match c.state {
+        State::Calling | State::Cancelling => expires(Word::Timeout, 15000, c.entry, now, c),
         State::Ringing => expires(Word::Timeout, 150000, c.entry, now, c),
-        State::Answered => expires(Word::Idle, 1800000, c.chat, now, c),
-        State::Talking => expires(Word::Idle, 1800000, c.chat, now, c),
+        State::Answered | State::Talking => expires(Word::Idle, 1800000, c.chat, now, c),
         State::Ended => {
             if 3600000 < since(now, c.entry) {
                 freed()
@@ -35,6 +34,5 @@ pub fn tick_in(s: State, now: u64, c: Call) -> Outcome
                 unchanged(Word::None, c)
             }
         }
-        State::Cancelling => expires(Word::Timeout, 15000, c.entry, now, c),
     }
 }

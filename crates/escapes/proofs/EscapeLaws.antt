@@ -2,7 +2,7 @@
 use Prim.Native.Nat.{ℕ, ◌+◌, ◌-◌, ◌*◌, ◌≤◌, ◌<◌}
 use Rattle.escapes.specs.Rfc7159.{none, nibble, quad, unit, short, is_high, is_low, pair, esc, joined, escape_of}
 use Rattle.escapes.specs.declared.reading.Escape.{Escape}
-use Rattle.octets.proofs.ClassLaws.{among_in, in_among, among-low, among-high}
+use Rattle.octets.proofs.ClassLaws.{among_in, among-high}
 use Rattle.octets.proofs.TestLaws.{Either, and_parts, either, picked}
 use Rattle.octets.specs.Class.{is_digit, among}
 use borrow.Author.Tests.{lt-ltb, le-ltb, ltb-true, eq-eqb, ne_eqb}
@@ -16,26 +16,7 @@ use mathlib.Core.Path.{◌≡◌, refl, sym}
 use native.Mathlib.Decide.{dec_lt}
 use native.Mathlib.Omega.{arith}
 
--- A hex digit.
-
-module _ (b : ℕ) where
-  pub nib_digit : is_digit b ≡ true → b - 48 ≡ nibble b
-  unfolding nibble
-  nib_digit e = simp e
-
-  pub nib_upper : is_digit b ≡ false → among 65 70 b ≡ true → b - 65 + 10 ≡ nibble b
-  unfolding nibble
-  nib_upper e f = simp (e, f)
-
-  pub nib_lower : is_digit b ≡ false → among 65 70 b ≡ false → among 97 102 b ≡ true → b - 97 + 10 ≡ nibble b
-  unfolding nibble
-  nib_lower e f g = simp (e, f, g)
-
-  pub nib_none : is_digit b ≡ false → among 65 70 b ≡ false → among 97 102 b ≡ false → 16 ≡ nibble b
-  unfolding nibble
-  nib_none e f g = simp (e, f, g)
-
--- Four of them.
+-- Four hex digits.
 
 module _ (a b c d : ℕ) where
   pub quad-a : 16 ≤ a → none ≡ quad a b c d
@@ -60,26 +41,31 @@ module _ (a b c d : ℕ) where
 
 -- A unit and the next.
 
+pub high_in : (u : ℕ) → is_high u ≡ true → (0xD800 ≤ u) × (u ≤ 0xDBFF)
+unfolding is_high
+high_in u e = among_in 0xD800 0xDBFF u e
+
+pub low_in : (v : ℕ) → is_low v ≡ true → (0xDC00 ≤ v) × (v ≤ 0xDFFF)
+unfolding is_low
+low_in v e = among_in 0xDC00 0xDFFF v e
+
 module _ (u v : ℕ) where
-  pub joined-below : u < 0xD800 → esc u 6 ≡ joined u v
-  unfolding joined is_high
-  joined-below h = simp (among-low 0xD800 0xDBFF u h)
+  pub joined-pair : is_high u ≡ true → is_low v ≡ true → esc (pair u v) 12 ≡ joined u v
+  unfolding joined
+  joined-pair e f = rw (e, f)
 
-  pub joined-above : 0xD800 ≤ u → 0xDBFF < u → esc u 6 ≡ joined u v
-  unfolding joined is_high
-  joined-above h k = simp (among-high 0xD800 0xDBFF u h k)
+  pub joined-first : is_high u ≡ false → esc u 6 ≡ joined u v
+  unfolding joined
+  joined-first e = rw e
 
-  pub joined-alone : 0xD800 ≤ u → u ≤ 0xDBFF → v < 0xDC00 → esc u 6 ≡ joined u v
-  unfolding joined is_high is_low
-  joined-alone h k l = simp (in_among 0xD800 0xDBFF u h k, among-low 0xDC00 0xDFFF v l)
+  pub joined-second : is_low v ≡ false → esc u 6 ≡ joined u v
+  unfolding joined
+  joined-second e = rw (e, and-false (is_high u))
 
-  pub joined-apart : 0xD800 ≤ u → u ≤ 0xDBFF → 0xDC00 ≤ v → 0xDFFF < v → esc u 6 ≡ joined u v
-  unfolding joined is_high is_low
-  joined-apart h k l m = simp (in_among 0xD800 0xDBFF u h k, among-high 0xDC00 0xDFFF v l m)
-
-  pub joined-pair : 0xD800 ≤ u → u ≤ 0xDBFF → 0xDC00 ≤ v → v ≤ 0xDFFF → esc (0x10000 + (u - 0xD800) * 1024 + (v - 0xDC00)) 12 ≡ joined u v
-  unfolding joined is_high is_low pair
-  joined-pair h k l m = simp (in_among 0xD800 0xDBFF u h k, in_among 0xDC00 0xDFFF v l m)
+  -- no unit is no half
+  pub joined-none : none ≤ v → esc u 6 ≡ joined u v
+  unfolding is_low
+  joined-none h = joined-second (among-high 0xDC00 0xDFFF v (omega arith) (omega arith))
 
   -- what is so of a unit by itself, and of a pair, is so of a unit and the next
   pub joined_by : (P : Escape → Type 0) → P (esc u 6) → (0xD800 ≤ u → u ≤ 0xDBFF → 0xDC00 ≤ v → v ≤ 0xDFFF → P (esc (pair u v) 12)) → P (joined u v)
@@ -135,6 +121,11 @@ module _ (s : List ℕ) (i : ℕ) where
       quad (nibble (get_or s (i + 2) 0)) (nibble (get_or s (i + 3) 0)) (nibble (get_or s (i + 4) 0)) (nibble (get_or s (i + 5) 0)) ≡ unit (drop i s)
   unfolding unit
   unit-is-at e f = let z : i + 0 ≡ i = omega arith in simp (get_or-drop, z, eq-eqb (get_or s i 0) 92 e, eq-eqb (get_or s (i + 1) 0) 117 f)
+
+  -- of its four digits one is none
+  pub unit-broken : get_or s i 0 ≡ 92 → get_or s (i + 1) 0 ≡ 117 →
+      none ≡ quad (nibble (get_or s (i + 2) 0)) (nibble (get_or s (i + 3) 0)) (nibble (get_or s (i + 4) 0)) (nibble (get_or s (i + 5) 0)) → none ≤ unit (drop i s)
+  unit-broken e f g = let h = unit-is-at e f in omega arith
 
 -- An escape at the front.
 

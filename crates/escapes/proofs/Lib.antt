@@ -5,7 +5,7 @@ pub mod LetterLaws
 pub mod PlainLaws
 pub mod LengthLaws
 pub mod DecodeLaws
-pub mod FindLaws
+pub mod KeptLaws
 pub mod SpellLaws
 pub mod PointLaws
 pub mod MeasureLaws

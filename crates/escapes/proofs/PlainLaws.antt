@@ -1,16 +1,15 @@
 -- Strings without a backslash: such a string is its own text. Plain bytes have none, as those of a text that keeps a rule are (`rules`' PlainLaws). And the
 -- search for a backslash. Assumes nothing.
-use Prim.Native.Nat.{ℕ, suc, ◌+◌, ◌≤◌, ◌<◌}
+use Prim.Native.Nat.{ℕ, suc}
 use Rattle.escapes.specs.Rfc7159.{letter_of, took, letters_from, spelt, lone, text, is_broken, spells}
 use Rattle.escapes.specs.Text.{escaped}
 use Rattle.octets.proofs.TestLaws.{and_parts, or-none}
 use Rattle.octets.specs.Class.{all}
 use Rattle.octets.specs.Text.{before, here, same}
 use Rattle.rules.proofs.PlainLaws.{is_plain, plain_byte}
-use borrow.Author.Tests.{lt-ltb, le-ltb, le-leb, ne_eqb, ltb-true, ltb-false}
+use borrow.Author.Tests.{lt-ltb, le-leb}
 use lib.Dec.{eqb, leb, ltb, leb-suc-suc}
-use lib.ListN.{length, drop, get_or, length-drop}
-use lib.Seq.{drop-cons}
+use lib.ListN.{length}
 use mathlib.Core.Bool.{Bool, true, false, ◌||◌}
 use mathlib.Core.List.{List, [], ◌∷◌, ◌++◌, append-nil}
 use mathlib.Core.Path.{◌≡◌, refl, sym, ap, ◌∙◌}
@@ -62,14 +61,7 @@ plain-ascii (b ∷ s) e =
 
 -- The search.
 
--- no backslash at a place
-pub escaped-more : (s : List ℕ) (at k : ℕ) → at + k < length s → (get_or s (at + k) 0 ≡ 92 → ⊥) → escaped (drop (at + k) s) ≡ escaped (drop (at + (k + 1)) s)
-unfolding escaped
-escaped-more s at k h ne =
-    let z : at + (k + 1) ≡ suc (at + k) = omega arith in
-    rw (z, drop-cons s (at + k) 0 h, ne_eqb (get_or s (at + k) 0) 92 ne)
-
-found : (s : List ℕ) → ltb (before 92 s) (length s) ≡ escaped s
+pub found : (s : List ℕ) → ltb (before 92 s) (length s) ≡ escaped s
 unfolding before escaped
 found [] = refl
 found (b ∷ s) = go (eqb b 92) (leb-suc-suc (suc (before 92 s)) (length s) ∙ found s)
@@ -77,11 +69,3 @@ found (b ∷ s) = go (eqb b 92) (leb-suc-suc (suc (before 92 s)) (length s) ∙ 
     go : (t : Bool) → ltb (suc (before 92 s)) (suc (length s)) ≡ escaped s → ltb (here t (before 92 s)) (suc (length s)) ≡ (t || escaped s)
     go true e = lt-ltb 0 (suc (length s)) (omega arith)
     go false e = e
-
--- what the search from a place on found
-pub found_at : (s : List ℕ) (i r : ℕ) → i ≤ length s → r ≡ i + before 92 (drop i s) → ltb r (length s) ≡ escaped (drop i s)
-found_at s i r h e = go (ltb (before 92 (drop i s)) (length (drop i s))) refl ∙ found (drop i s)
-  where
-    go : (t : Bool) → ltb (before 92 (drop i s)) (length (drop i s)) ≡ t → ltb r (length s) ≡ ltb (before 92 (drop i s)) (length (drop i s))
-    go true f = let k = ltb-true (before 92 (drop i s)) (length (drop i s)) f in lt-ltb r (length s) (omega (arith, length-drop i s)) ∙ sym f
-    go false f = let k = ltb-false (before 92 (drop i s)) (length (drop i s)) f in le-ltb r (length s) (omega (arith, length-drop i s)) ∙ sym f

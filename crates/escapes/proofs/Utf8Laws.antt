@@ -1,4 +1,5 @@
 -- Good UTF-8 stays good: the text of a string that is UTF-8 and not broken is UTF-8. Assumes nothing.
+use Rattle.std.proofs.Common.{Ok}
 use Prim.Native.Nat.{ℕ, zero, suc, ◌+◌, ◌-◌, ◌/◌, ◌≤◌, ◌<◌}
 use Rattle.escapes.proofs.AsciiLaws.{Low, letter-ascii}
 use Rattle.escapes.proofs.EncodingLaws.{Row, row, row_one, row-two, row-three, row-four, one, two, three, four}
@@ -11,7 +12,6 @@ use Rattle.octets.specs.Class.{among}
 use Rattle.utf8.proofs.Join.{join, cut, anywhere}
 use Rattle.utf8.proofs.Rows as rows
 use Rattle.utf8.specs.Rfc3629.{◌to◌, tail, char, begins, goes_on, char_at, octets, verdict}
-use Rattle.utf8.specs.declared.Verdict.TheVariants.{Good}
 use borrow.Author.Tests.{eqb-true}
 use lib.Dec.{eqb}
 use mathlib.Core.Bool.{Bool, true, false}
@@ -21,7 +21,7 @@ use native.Mathlib.Decide.{dec_lt}
 use native.Mathlib.Omega.{arith}
 
 abbrev Fine : List ℕ → Type 0
-Fine s = verdict s ≡ Good
+Fine s = verdict s ≡ Ok tt
 
 -- The octets of a number.
 
@@ -85,7 +85,7 @@ module _ (c : ℕ) where
       go (no a) = clash (in_among 0xD800 0xDFFF c h (omega arith)) e
 
   -- the octets of a number that is no surrogate are UTF-8
-  encoded-good : c < 0x110000 → is_surrogate c ≡ false → verdict (encoded c) ≡ Good
+  encoded-good : c < 0x110000 → is_surrogate c ≡ false → verdict (encoded c) ≡ Ok tt
   encoded-good l e = go (row c)
     where
       go : Row c → Fine (encoded c)
@@ -145,6 +145,6 @@ good-from zero p (b ∷ s) l v n =
     rw f at r)
     v n
 
-pub text-good : (s : List ℕ) → verdict s ≡ Good → is_broken s ≡ false → verdict (text s) ≡ Good
+pub text-good : (s : List ℕ) → verdict s ≡ Ok tt → is_broken s ≡ false → verdict (text s) ≡ Ok tt
 unfolding text is_broken
 text-good s v n = good-from 0 [] s (λ j h. absurd (omega arith)) v n

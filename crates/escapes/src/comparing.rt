@@ -1,5 +1,5 @@
 // Whether a string is spelled with escapes, and whether it spells a given text: without a buffer.
-ghost use Rattle.std.specs.Prelude.{cond, false, ◌≡◌, ◌+◌, ◌<◌, ◌≤◌, drop, length};
+ghost use Rattle.std.specs.Prelude.{cond, false, ◌≡◌, ◌+◌, ◌<◌, ◌≤◌, length};
 ghost use Rattle.escapes.specs.Encoding.{encoded};
 ghost use Rattle.escapes.specs.Rfc7159.{spells};
 ghost use Rattle.escapes.specs.Text.{escaped};
@@ -9,38 +9,11 @@ use crate::reading::{escape_at, is_surrogate};
 use crate::storing::put_code;
 use octets::{same, stands_at};
 
-// 1 once a backslash was met.
-fn mark(met: u8, b: u8) -> u8
-    ensures { result ≡ 0 → (met ≡ 0) × (b ≡ 92 → ⊥) }
-{
-    if b == b'\\' { 1 } else { met }
-}
-
-// Whether a backslash is among the 32 bytes from `at` on. No early exit, so that it is made of a few instructions on whole
-// registers.
-fn escape_in_32(s: &[u8], at: usize) -> bool
-    requires { at + 32 ≤ length s.now }
-    ensures { result ≡ false → escaped (drop at s.now) ≡ escaped (drop (at + 32) s.now) }
-{
-    let mut met: u8 = 0;
-    for k in 0..32 {
-        met = mark(met, s[at + k]);
-    }
-    met != 0
-}
-
 // Whether a backslash is among the bytes.
 pub fn is_escaped(s: &[u8]) -> bool
     ensures { result ≡ escaped s.now }
 {
-    let mut i: usize = 0;
-    while 32 <= s.len() - i {
-        if escape_in_32(s, i) {
-            return octets::find(s, i, b'\\') < s.len();
-        }
-        i += 32;
-    }
-    octets::find(s, i, b'\\') < s.len()
+    octets::find(s, 0, b'\\') < s.len()
 }
 
 // How many bytes the UTF-8 of a number is, where it stands at a place; else 0.

@@ -7,14 +7,12 @@
 
 mod comparing;
 mod decoding;
-mod finding;
 mod measuring;
 mod placing;
 mod reading;
 mod storing;
 
 pub use comparing::{is_escaped, spells};
-pub use decoding::decode;
-pub use finding::{Found, find_text, text_part};
+pub use decoding::{Decoded, decode};
 pub use measuring::{Measured, measure};
 pub use placing::place_of;

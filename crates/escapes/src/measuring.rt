@@ -1,5 +1,5 @@
 // A text measured without a buffer: how many bytes and code points it has, and whether it is broken or has a line break.
-ghost use Rattle.std.specs.Prelude.{false, [], ◌∷◌, ◌≡◌, ◌+◌, ◌<◌, length};
+ghost use Rattle.std.specs.Prelude.{eqb, false, [], ◌∷◌, ◌≡◌, ◌+◌, ◌<◌, ◌||◌, length};
 ghost use Rattle.escapes.specs.Encoding.{encoded};
 ghost use Rattle.escapes.specs.Rfc7159.{is_surrogate};
 ghost use Rattle.escapes.specs.Text.{measure_of};
@@ -7,10 +7,10 @@ ghost use Rattle.escapes.specs.inner.Measuring.{added};
 ghost use Rattle.rules.specs.Texts.{points};
 
 use crate::reading::{escape_at, is_surrogate};
-use octets::{among, or};
+use octets::among;
 
 // Bytes and code points of a text; whether a lone surrogate is in it; whether a line break, U+000A or U+000D, is.
-#[derive(Drop)]
+#[derive(Default, Drop)]
 pub struct Measured {
     pub length: usize,
     pub points: usize,
@@ -41,6 +41,13 @@ fn begun(b: u8) -> usize
     if among(128, 191, b) { 0 } else { 1 }
 }
 
+// Whether a character is a line break, U+000A or U+000D.
+fn is_break(c: u32) -> bool
+    ensures { result ≡ (eqb c 10 || eqb c 13) }
+{
+    c == 10 || c == 13
+}
+
 // The measure m with a byte that stands for itself.
 fn with_byte(m: Measured, b: u8) -> Measured
     requires { (m.length + 1 < 0x10000000000000000) × (m.points + 1 < 0x10000000000000000) }
@@ -49,8 +56,8 @@ fn with_byte(m: Measured, b: u8) -> Measured
     Measured {
         length: m.length + 1,
         points: m.points + begun(b),
-        broken: m.broken,
-        breaks: or(m.breaks, or(b == b'\n', b == b'\r')),
+        breaks: m.breaks || is_break(b as u32),
+        ..m
     }
 }
 
@@ -62,8 +69,8 @@ fn with_code(m: Measured, c: u32) -> Measured
     Measured {
         length: m.length + width(c),
         points: m.points + 1,
-        broken: or(m.broken, is_surrogate(c)),
-        breaks: or(m.breaks, or(c == 10, c == 13)),
+        broken: m.broken || is_surrogate(c),
+        breaks: m.breaks || is_break(c),
     }
 }
 
@@ -71,12 +78,7 @@ fn with_code(m: Measured, c: u32) -> Measured
 pub fn measure(raw: &[u8]) -> Measured
     ensures { result ≡ measure_of raw.now }
 {
-    let mut m = Measured {
-        length: 0,
-        points: 0,
-        broken: false,
-        breaks: false,
-    };
+    let mut m = Measured::default();
     let mut i: usize = 0;
     while i < raw.len() {
         let b = raw[i];

@@ -1,8 +1,7 @@
 // One escape (RFC 7159, section 7): the number that it spells, and how many bytes it is.
-ghost use Rattle.std.specs.Prelude.{◌≡◌, ◌<◌, ◌≤◌, drop, length};
-ghost use Rattle.escapes.specs.Rfc7159.{escape_of, is_surrogate, joined, nibble, quad, short, unit};
-
-use octets::{among, and, is_digit};
+ghost use Rattle.std.specs.Prelude.{ℕ, ◌≡◌, ◌<◌, ◌≤◌, drop, length};
+ghost use Rattle.escapes.specs.Rfc7159.{escape_of, is_high, is_low, is_surrogate, joined, nibble, none, short, unit};
+ghost use Rattle.escapes.specs.inner.Reading.{Below};
 
 // What an escape spells, and how many bytes it is.
 #[derive(Drop)]
@@ -11,120 +10,94 @@ pub struct Escape {
     pub took: usize,
 }
 
-// What the byte behind a backslash spells; 0x10000 where nothing.
-fn short(b: u8) -> u32
-    ensures { result ≡ short b }
+// What the byte behind a backslash spells, if anything.
+#[tactic(auto, unfolding(crate::specs::Rfc7159::short))]
+fn short(b: u8) -> Option<u32>
+    ensures { Below none result (short b) }
 {
-    if b == b'"' {
-        return 0x22;
+    match b {
+        b'"' => Some(0x22),
+        b'\\' => Some(0x5C),
+        b'/' => Some(0x2F),
+        b'b' => Some(0x08),
+        b'f' => Some(0x0C),
+        b'n' => Some(0x0A),
+        b'r' => Some(0x0D),
+        b't' => Some(0x09),
+        _ => None,
     }
-    if b == b'\\' {
-        return 0x5C;
-    }
-    if b == b'/' {
-        return 0x2F;
-    }
-    if b == b'b' {
-        return 0x08;
-    }
-    if b == b'f' {
-        return 0x0C;
-    }
-    if b == b'n' {
-        return 0x0A;
-    }
-    if b == b'r' {
-        return 0x0D;
-    }
-    if b == b't' {
-        return 0x09;
-    }
-    0x10000
 }
 
-// The value of a hex digit; 16 for any other byte.
-fn nibble(b: u8) -> u32
-    ensures { result ≡ nibble b }
+// The value of a hex digit.
+#[tactic(auto, unfolding(crate::specs::Rfc7159::nibble, octets::specs::Class::is_digit, octets::specs::Class::among))]
+fn nibble(b: u8) -> Option<u32>
+    ensures { Below 16 result (nibble b) }
 {
-    if is_digit(b) {
-        return (b - b'0') as u32;
+    match b {
+        b'0'..=b'9' => Some((b - b'0') as u32),
+        b'A'..=b'F' => Some((b - b'A' + 10) as u32),
+        b'a'..=b'f' => Some((b - b'a' + 10) as u32),
+        _ => None,
     }
-    if among(b'A', b'F', b) {
-        return (b - b'A' + 10) as u32;
-    }
-    if among(b'a', b'f', b) {
-        return (b - b'a' + 10) as u32;
-    }
-    16
 }
 
-// Four hex digits as a number; 0x10000 where one is none.
-fn quad(a: u32, b: u32, c: u32, d: u32) -> u32
-    ensures { result ≡ quad a b c d }
-{
-    if 16 <= a {
-        return 0x10000;
-    }
-    if 16 <= b {
-        return 0x10000;
-    }
-    if 16 <= c {
-        return 0x10000;
-    }
-    if 16 <= d {
-        return 0x10000;
-    }
-    a * 4096 + b * 256 + c * 16 + d
-}
-
-// The code unit that \uXXXX at a place spells; 0x10000 where none stands there.
-fn unit_at(s: &[u8], at: usize) -> u32
+// The code unit that \uXXXX at a place spells, if it stands there.
+fn unit_at(s: &[u8], at: usize) -> Option<u32>
     requires { at ≤ length s.now }
-    ensures { result ≡ unit (drop at s.now) }
+    ensures { Below none result (unit (drop at s.now)) }
 {
     if s.len() - at < 6 {
-        return 0x10000;
+        return None;
     }
     if s[at] != b'\\' {
-        return 0x10000;
+        return None;
     }
     if s[at + 1] != b'u' {
-        return 0x10000;
+        return None;
     }
-    quad(
-        nibble(s[at + 2]),
-        nibble(s[at + 3]),
-        nibble(s[at + 4]),
-        nibble(s[at + 5]),
-    )
+    let a = nibble(s[at + 2])?;
+    let b = nibble(s[at + 3])?;
+    let c = nibble(s[at + 4])?;
+    let d = nibble(s[at + 5])?;
+    Some(a * 4096 + b * 256 + c * 16 + d)
 }
 
+// The halves of a pair, the first and the second, and either.
+
+#[tactic(auto, unfolding(crate::specs::Rfc7159::is_high, octets::specs::Class::among))]
+fn is_high(u: u32) -> bool
+    ensures { result ≡ is_high u }
+{
+    matches!(u, 0xD800..=0xDBFF)
+}
+
+#[tactic(auto, unfolding(crate::specs::Rfc7159::is_low, octets::specs::Class::among))]
+fn is_low(u: u32) -> bool
+    ensures { result ≡ is_low u }
+{
+    matches!(u, 0xDC00..=0xDFFF)
+}
+
+#[tactic(auto, unfolding(crate::specs::Rfc7159::is_surrogate, octets::specs::Class::among))]
 pub fn is_surrogate(u: u32) -> bool
     ensures { result ≡ is_surrogate u }
 {
-    and(0xD800 <= u, u <= 0xDFFF)
+    matches!(u, 0xD800..=0xDFFF)
 }
 
-// Two halves are one number.
-fn joined(u: u32, v: u32) -> Escape
-    ensures { result ≡ joined u v }
+// The unit u with the one behind it, if any: two halves are one number.
+fn joined(u: u32, v: Option<u32>) -> Escape
+    ensures { (n : ℕ) → Below none v n → result ≡ joined u n }
 {
-    if u < 0xD800 {
-        return Escape { code: u, took: 6 };
+    if let Some(v) = v {
+        if is_high(u) && is_low(v) {
+            return Escape {
+                code: 0x10000 + (u - 0xD800) * 1024 + (v - 0xDC00),
+                took: 12,
+            };
+        }
     }
-    if 0xDBFF < u {
-        return Escape { code: u, took: 6 };
-    }
-    if v < 0xDC00 {
-        return Escape { code: u, took: 6 };
-    }
-    if 0xDFFF < v {
-        return Escape { code: u, took: 6 };
-    }
-    Escape {
-        code: 0x10000 + (u - 0xD800) * 1024 + (v - 0xDC00),
-        took: 12,
-    }
+    Escape { code: u, took: 6 }
 }
 
 // The escape whose backslash stands at a place.
@@ -138,12 +111,10 @@ pub fn escape_at(s: &[u8], at: usize) -> Escape
             took: 1,
         };
     }
-    let c = short(s[at + 1]);
-    if c < 0x10000 {
-        return Escape { code: c, took: 2 };
+    if let Some(code) = short(s[at + 1]) {
+        return Escape { code, took: 2 };
     }
-    let u = unit_at(s, at);
-    if u < 0x10000 {
+    if let Some(u) = unit_at(s, at) {
         return joined(u, unit_at(s, at + 6));
     }
     Escape {

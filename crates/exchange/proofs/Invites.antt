@@ -20,7 +20,7 @@ use Rattle.fields.specs.Spans.{spelling_at, spelling_span, text_at}
 use Rattle.fields.specs.Value.{is_string, is_array, is_object, spelling_of, text_of, freely, ruled, word_spelled}
 use Rattle.fields.specs.Via.{hop_places, hop_rule, hop_keeps, is_hop, via_rule}
 use Rattle.message.specs.declared.facts.Message.{Message}
-use Rattle.message.specs.declared.reading.Reading.TheVariants.{Read}
+use Rattle.std.specs.Prelude.{Ok}
 use Rattle.octets.specs.Ascii.{ascii}
 use Rattle.octets.specs.Class.{among, is_digit, is_lower, is_upper, is_letter, is_alnum, all}
 use Rattle.octets.specs.Text.{same, stands_at}
@@ -74,7 +74,7 @@ invite =
 
 -- what is read of the two under a ceiling of c values
 abbrev pub BothRead : ℕ → Type 0
-BothRead c = (reading c (invite_of (ascii "A1.nx")) ≡ Read invite) × (reading c (invite_of (ascii "B2.nx")) ≡ Read invite)
+BothRead c = (reading c (invite_of (ascii "A1.nx")) ≡ Ok invite) × (reading c (invite_of (ascii "B2.nx")) ≡ Ok invite)
 
 -- n more than c, one by one, so that it computes
 abbrev and-more : ℕ → ℕ → ℕ

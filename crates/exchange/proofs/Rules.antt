@@ -1,4 +1,5 @@
 -- `lifting` asks some laws of the keeper's table and rule: here they are. Assumes nothing.
+use Rattle.std.specs.Prelude.{Some, None, Ok, Err}
 use Prim.Native.Nat.{ℕ, zero, suc, ◌+◌, ◌≤◌, ◌<◌}
 use Rattle.call.proofs.Soundness.{decided-sound}
 use Rattle.call.specs.Rule.{decided}
@@ -7,7 +8,6 @@ use Rattle.call.specs.declared.events.Event.TheVariants.{Tick}
 use Rattle.call.specs.declared.records.After.TheVariants.{Same, Set, Free}
 use Rattle.call.specs.declared.records.After.{After}
 use Rattle.call.specs.declared.records.Call.{Call}
-use Rattle.call.specs.declared.records.Held.TheVariants.{Nothing as Unheld, Is}
 use Rattle.exchange.proofs.Parts.{Fit, opened, altered, rule, is_at, ours}
 use Rattle.exchange.specs.Sequence.{Event, message, tick, name_read, name_of}
 use Rattle.keeper.proofs.FactLaws.{sound-call, sound-fields, fit-fields, numbered}
@@ -22,8 +22,7 @@ use Rattle.lifting.specs.inner.Keeper as lifted
 use Rattle.message.specs.Parties.{call_id_of, user_of, caller_fire_of, callee_fire_of}
 use Rattle.message.specs.Reading.{reading}
 use Rattle.message.specs.declared.facts.Message.{Message}
-use Rattle.message.specs.declared.reading.Reading.TheVariants as readings
-use Rattle.message.specs.declared.reading.Reading.{Reading}
+use Rattle.message.specs.Refusal.{Reading}
 use Rattle.octets.proofs.TextLaws.{same-eq, same_self}
 use Rattle.octets.proofs.TestLaws.{and_parts, clash}
 use Rattle.octets.specs.Number.{onto}
@@ -47,7 +46,6 @@ use lib.Dec.{ltb}
 use lib.ListN.{length, replicate, length-replicate}
 use mathlib.Core.Bool.{Bool, true, false, cond}
 use mathlib.Core.List.{List}
-use mathlib.Core.Option.{none, some}
 use mathlib.Core.Path.{◌≡◌, refl, sym, ap, ◌∙◌}
 use native.Mathlib.Decide.{ℕ_discrete, dec_lt}
 use native.Mathlib.Omega.{arith}
@@ -106,10 +104,10 @@ blank-fit =
 
 -- What the rule gives.
 
-some_is : {x y : List ℕ} → some x ≡ some y → x ≡ y
+some_is : {x y : List ℕ} → Some x ≡ Some y → x ≡ y
 some_is e = cc
 
-none-some : {A : Type 0} {x : List ℕ} → none ≡ some x → A
+none-some : {A : Type 0} {x : List ℕ} → None ≡ Some x → A
 none-some e = absurd (let z : ◌≡◌ {A = ℕ} 0 1 = cc in omega arith)
 
 -- a new record is the message's own
@@ -133,7 +131,7 @@ module _ (s : List ℕ) (m : Message) (n : Named s m) where
         named-own i (new_record i u a b f) (used-not-free (new_record i u a b f) g) (call_id_new i u a b f l1 l2 l3 l4),
       )
 
-  opened-own : (after : After) → SoundAfter after → (x : List ℕ) → opened s m after ≡ some x → Fit x × (is_named (call_id_of s m) x ≡ true)
+  opened-own : (after : After) → SoundAfter after → (x : List ℕ) → opened s m after ≡ Some x → Fit x × (is_named (call_id_of s m) x ≡ true)
   opened-own Same sound x e = none-some e
   opened-own (Set c) sound x e = rw (sym (some_is e)) (new-fit c sound)
   opened-own Free sound x e = none-some e
@@ -155,7 +153,7 @@ module _ (i r : List ℕ) (fit : Fit r) (own : is_named i r ≡ true) where
         named-own i (with_fields r f) (used-not-free (with_fields r f) g) (call_id_kept r f fit.long ∙ named-is i r own),
       )
 
-  altered-own : (after : After) → SoundAfter after → (x : List ℕ) → altered r after ≡ some x → Fit x × (is_named i x ≡ true)
+  altered-own : (after : After) → SoundAfter after → (x : List ℕ) → altered r after ≡ Some x → Fit x × (is_named i x ≡ true)
   altered-own Same sound x e = rw (sym (some_is e)) (fit, own)
   altered-own (Set c) sound x e = rw (sym (some_is e)) (set-fit c sound)
   altered-own Free sound x e = none-some e
@@ -163,44 +161,44 @@ module _ (i r : List ℕ) (fit : Fit r) (own : is_named i r ≡ true) where
 -- a message that names a call
 pub record Says (c : ℕ) (s i : List ℕ) : Type 0 where
   pub said : Message
-  pub read : reading c s ≡ readings.Read said
+  pub read : reading c s ≡ Ok said
   pub low : said.tag ≤ 2
   pub is : call_id_of s said ≡ i
 
-pub says : (c : ℕ) (s i : List ℕ) → name_read s (reading c s) ≡ some i → Says c s i
+pub says : (c : ℕ) (s i : List ℕ) → name_read s (reading c s) ≡ Some i → Says c s i
 says c s i = go (reading c s) refl
   where
-    go : (r : Reading) → reading c s ≡ r → name_read s r ≡ some i → Says c s i
-    go (readings.Refused n p) e w = none-some w
-    go (readings.Read m) e w = by (ltb 2 m.tag) refl w
+    go : (r : Reading) → reading c s ≡ r → name_read s r ≡ Some i → Says c s i
+    go (Err r) e w = none-some w
+    go (Ok m) e w = by (ltb 2 m.tag) refl w
       where
-        by : (b : Bool) → ltb 2 m.tag ≡ b → cond b none (some (call_id_of s m)) ≡ some i → Says c s i
+        by : (b : Bool) → ltb 2 m.tag ≡ b → cond b None (Some (call_id_of s m)) ≡ Some i → Says c s i
         by true q v = none-some v
         by false q v = record { said = m; read = e; low = ltb-false _ _ q; is = some_is v }
 
-new-own : (c : ℕ) (e : Event) (i x : List ℕ) → name_of c e ≡ some i → (rule c e none).1 ≡ some x → Fit x × (is_named i x ≡ true)
+new-own : (c : ℕ) (e : Event) (i x : List ℕ) → name_of c e ≡ Some i → (rule c e None).1 ≡ Some x → Fit x × (is_named i x ≡ true)
 unfolding name_of
 new-own c (message now s) i x w r =
     let y = says c s i w in
     let m = y.said in
     let n = read_named c s m y.read y.low in
-    rw (sym y.is) (opened-own s m n (decided Unheld (event_of m false) now.milliseconds).after
-    (decided-sound Unheld (event_of m false) now.milliseconds tt (numbered m false n.number-low n.number-high) now.fits) x (rw y.read at r))
+    rw (sym y.is) (opened-own s m n (decided None (event_of m false) now.milliseconds).after
+    (decided-sound None (event_of m false) now.milliseconds tt (numbered m false n.number-low n.number-high) now.fits) x (rw y.read at r))
 new-own c (tick now id) i x w r = none-some r
 
-keep-own : (c : ℕ) (e : Event) (i r x : List ℕ) → name_of c e ≡ some i → Fit r → is_named i r ≡ true → (rule c e (some r)).1 ≡ some x → Fit x × (is_named i x ≡ true)
+keep-own : (c : ℕ) (e : Event) (i r x : List ℕ) → name_of c e ≡ Some i → Fit r → is_named i r ≡ true → (rule c e (Some r)).1 ≡ Some x → Fit x × (is_named i x ≡ true)
 unfolding name_of
 keep-own c (message now s) i r x w fit own q =
     let y = says c s i w in
     let m = y.said in
     let n = read_named c s m y.read y.low in
     let b = same_parties (user_of s m) (caller_fire_of s m) (callee_fire_of s m) r in
-    altered-own i r fit own (decided (Is (call_of (record_fields r))) (event_of m b) now.milliseconds).after
-    (decided-sound (Is (call_of (record_fields r))) (event_of m b) now.milliseconds (old-sound i r fit own) (numbered m b n.number-low n.number-high) now.fits) x
+    altered-own i r fit own (decided (Some (call_of (record_fields r))) (event_of m b) now.milliseconds).after
+    (decided-sound (Some (call_of (record_fields r))) (event_of m b) now.milliseconds (old-sound i r fit own) (numbered m b n.number-low n.number-high) now.fits) x
     (rw y.read at q)
 keep-own c (tick now id) i r x w fit own q =
-    altered-own i r fit own (decided (Is (call_of (record_fields r))) Tick now.milliseconds).after
-    (decided-sound (Is (call_of (record_fields r))) Tick now.milliseconds (old-sound i r fit own) tt now.fits) x q
+    altered-own i r fit own (decided (Some (call_of (record_fields r))) Tick now.milliseconds).after
+    (decided-sound (Some (call_of (record_fields r))) Tick now.milliseconds (old-sound i r fit own) tt now.fits) x q
 
 -- The two searches, `lowest_found` of the table and `first` of `lifting`, find the same.
 

@@ -1,6 +1,7 @@
 -- Demand 3 and its kin, over the keeper's public contracts: an event leaves a well-formed table well-formed, every other call's record as it
 -- was and where it was, and the header; two neighbours that do not name the same Call-ID may change places. For every ceiling c of
 -- JSON values, the same for every event of a run (02 §9). By `lifting`. Assumes nothing.
+use Rattle.std.specs.Prelude.{Some}
 use Rattle.octets.proofs.TestLaws.{and_both, and_parts, clash}
 use Prim.Native.Nat.{ℕ, ◌+◌, ◌-◌, ◌*◌, ◌≤◌, ◌<◌}
 use Rattle.answers.specs.Answer.{is_quiet}
@@ -32,7 +33,6 @@ use lib.ListN.{length, take, drop, length-drop}
 use lib.Seq.{length-take-le, get_or-take, get_or-drop}
 use mathlib.Core.Bool.{Bool, true, false, not, ◌&&◌, ◌||◌}
 use mathlib.Core.List.{List, [], ◌∷◌, ◌++◌}
-use mathlib.Core.Option.{some}
 use mathlib.Core.Path.{◌≡◌, refl, sym, ap, ◌∙◌}
 use native.Mathlib.Omega.{arith}
 
@@ -149,11 +149,11 @@ run-well_formed c t es b w = good-well c (after_all c t es) (run-good c t es (we
 
 -- In a sequence no event alters a byte of another call's record, which stays in its place.
 untouched-by : (c : ℕ) (t : List ℕ) (e : Event) → lifted.Good (ours c) t → (k : ℕ) → k < record_count t → (id : List ℕ) → is_named id (record_at t k) ≡ true
-    → (name_of c e ≡ some id → ⊥) → record_at (event_table c t e) k ≡ record_at t k
+    → (name_of c e ≡ Some id → ⊥) → record_at (event_table c t e) k ≡ record_at t k
 untouched-by c t e g k h id n ne = rw (sym (agrees c t e (good-well c t g)).tables) ((steps.step (ours c) (laws c) t e g).bytes k h id ne n)
 
 pub untouched : (c : ℕ) (t : List ℕ) (xs : List Event) (e : Event) → AllBytes t → well_formed t ≡ true → (k : ℕ) → k < record_count (after_all c t xs) → (id : List ℕ)
-    → is_named id (record_at (after_all c t xs) k) ≡ true → (name_of c e ≡ some id → ⊥) → record_at (event_table c (after_all c t xs) e) k ≡ record_at (after_all c t xs) k
+    → is_named id (record_at (after_all c t xs) k) ≡ true → (name_of c e ≡ Some id → ⊥) → record_at (event_table c (after_all c t xs) e) k ≡ record_at (after_all c t xs) k
 untouched c t xs e b w k h id n ne = untouched-by c (after_all c t xs) e (run-good c t xs (well-good c t b w)) k h id n ne
 
 header_of_lem : (t : List ℕ) → frame_sound t ≡ true → (take header_size t ≡ header_of (record_count t)) × (length t ≡ header_size + record_size * record_count t)

@@ -3,11 +3,10 @@
 -- passed and takes the first, one of another Call-ID is passed and takes the second, and a message of no bytes is refused. The second is shut
 -- out under every ceiling of JSON values (02 §9), the others under every ceiling with room for the INVITE's 23, so at the program's 16,384 (a
 -- ceiling of 0 refuses every message). Assumes nothing.
+use Rattle.answers.specs.Answer.{Answer, accepted}
+use Rattle.std.specs.Prelude.{Some, None, Ok}
 use Prim.Native.Nat.{ℕ, ◌≤◌, ◌<◌}
 use Rattle.call.specs.Rule.{decided_unheld}
-use Rattle.answers.specs.declared.Answer.TheVariants.{Accepted}
-use Rattle.answers.specs.declared.Answer.{Answer}
-use Rattle.answers.specs.declared.Shown.TheVariants.{In}
 use Rattle.answers.specs.declared.State.TheVariants.{Calling}
 use Rattle.answers.specs.declared.Word.TheVariants.{Pass}
 use Rattle.exchange.proofs.Invites.{invite_of, invite, invites_read}
@@ -23,7 +22,6 @@ use Rattle.fields.specs.Spans.{cut}
 use Rattle.escapes.specs.Rfc7159.{letter_of, letters_from, spelt, text, took}
 use Rattle.message.specs.Parties.{call_id_of, caller_address_of, callee_address_of, user_of, caller_fire_of, callee_fire_of}
 use Rattle.message.specs.Reading.{reading, reporting}
-use Rattle.message.specs.declared.reading.Reading.TheVariants.{Read}
 use Rattle.octets.specs.Ascii.{ascii}
 use Rattle.octets.specs.Class.{all}
 use Rattle.octets.specs.Number.{bytes_of}
@@ -41,7 +39,6 @@ use Rattle.table.specs.Record.{counts_of, record_fields, is_named, new_record, r
 use Rattle.table.specs.Search.{lowest_found, place_named, free_place}
 use Rattle.table.specs.WellFormed.{well_formed}
 use Rattle.table.specs.declared.numbers.Fields.{Fields}
-use Rattle.table.specs.declared.searching.Found.TheVariants.{At, Nothing}
 use borrow.Author.Tests.{eqb-true}
 use mathlib.Core.Bool.{true}
 use mathlib.Core.List.{List, []}
@@ -53,8 +50,8 @@ use native.Mathlib.Omega.{arith}
 abbrev state : List ℕ → ℕ → ℕ
 state t k = (record_fields (record_at t k)).state
 
-module _ (c : ℕ) (t s : List ℕ) (k : ℕ) (w : well_formed t ≡ true) (read : reading c s ≡ Read invite) (nobody : place_named (call_id_of s invite) t ≡ Nothing)
-    (free : free_place t ≡ At k) where
+module _ (c : ℕ) (t s : List ℕ) (k : ℕ) (w : well_formed t ≡ true) (read : reading c s ≡ Ok invite) (nobody : place_named (call_id_of s invite) t ≡ None)
+    (free : free_place t ≡ Some k) where
   abbrev r : List ℕ
   r = record_for s invite calling
 
@@ -66,7 +63,7 @@ module _ (c : ℕ) (t s : List ℕ) (k : ℕ) (w : well_formed t ≡ true) (read
   inside : k < record_count t
   inside = (free-found t k free).inside
 
-  passed : on_message c t 1000 s ≡ record { answer = Accepted Pass (In Calling); table = with_record t k r }
+  passed : on_message c t 1000 s ≡ record { answer = accepted Pass (Some Calling); table = with_record t k r }
   unfolding on_message event_of method_of_code decided_unheld
   passed = rw (w, read, nobody, free)
 
@@ -118,7 +115,7 @@ w0 : well_formed t0 ≡ true
 w0 = blank-sound 2 (omega arith) (omega arith)
 
 -- neither Call-ID stands where its INVITE comes, and which record is free then
-searched : ((place_named (call_id_of s1 invite) t0 ≡ Nothing) × (free_place t0 ≡ At 0)) × ((place_named (call_id_of s2 invite) t1 ≡ Nothing) × (free_place t1 ≡ At 1))
+searched : ((place_named (call_id_of s1 invite) t0 ≡ None) × (free_place t0 ≡ Some 0)) × ((place_named (call_id_of s2 invite) t1 ≡ None) × (free_place t1 ≡ Some 1))
 unfolding place_named free_place lowest_found is_named same blank_of header_of bytes_of splice record_for new_record record_of fields_from room_text slot_of counts_of times_of
     call_id_of caller_address_of callee_address_of user_of caller_fire_of callee_fire_of cut part text spelt letters_from letter_of took
 searched = ((refl, refl), (refl, refl))
@@ -138,10 +135,10 @@ handed = (
   ),
 )
 
-first : (c : ℕ) → 23 ≤ c → on_message c t0 1000 s1 ≡ record { answer = Accepted Pass (In Calling); table = t1 }
+first : (c : ℕ) → 23 ≤ c → on_message c t0 1000 s1 ≡ record { answer = accepted Pass (Some Calling); table = t1 }
 first c room = passed c t0 s1 0 w0 (invites_read c room).0 searched.0.0 searched.0.1
 
-second : (c : ℕ) → 23 ≤ c → on_message c t1 1000 s2 ≡ record { answer = Accepted Pass (In Calling); table = t2 }
+second : (c : ℕ) → 23 ≤ c → on_message c t1 1000 s2 ≡ record { answer = accepted Pass (Some Calling); table = t2 }
 second c room = passed c t1 s2 1 w1 (invites_read c room).1 searched.1.0 searched.1.1
 
 -- a message of no bytes is answered 2

@@ -1,18 +1,16 @@
 -- Keepers that the contract of `tick` shuts out (01 What contracts say): one that refuses everything, one that always answers pass, one that
 -- never alters the table, and one that acts on the first event and only answers later. Shown on a table of one call. Assumes nothing.
+use Rattle.answers.specs.Answer.{Answer, accepted}
+use Rattle.std.specs.Prelude.{Some, None}
 use Prim.Native.Nat.{ℕ, ◌≤◌, ◌<◌}
 use Rattle.call.proofs.Soundness.{entered-sound, new-call-sound}
 use Rattle.call.specs.Rule.{decided, decided_held}
 use Rattle.call.specs.Outcomes.{entered as enters}
 use Rattle.call.specs.inner.Sound.{Sound}
-use Rattle.answers.specs.declared.Answer.TheVariants.{Accepted}
-use Rattle.answers.specs.declared.Answer.{Answer}
-use Rattle.answers.specs.declared.Shown.TheVariants.{In, Free}
 use Rattle.answers.specs.declared.State.TheVariants.{Calling, Ended}
 use Rattle.answers.specs.declared.Word.TheVariants.{Timeout, Freed}
 use Rattle.call.specs.declared.events.Event.TheVariants.{Tick}
 use Rattle.call.specs.declared.records.Call.{Call}
-use Rattle.call.specs.declared.records.Held.TheVariants.{Is}
 use Rattle.exchange.proofs.WrongKeepers.{Handed, Keeper, Meets, is_refused, is_pass, RefusesAll, PassesAll, AltersNone, each-byte}
 use Rattle.exchange.specs.Marks.{call_in}
 use Rattle.exchange.specs.Paper.{paper_of}
@@ -39,7 +37,6 @@ use Rattle.table.specs.Record.{counts_of, record_fields, is_named, new_record, r
 use Rattle.table.specs.Search.{lowest_found, place_named}
 use Rattle.table.specs.WellFormed.{used_sound, well_formed}
 use Rattle.table.specs.declared.numbers.Fields.{Fields}
-use Rattle.table.specs.declared.searching.Found.TheVariants.{At, Nothing}
 use lib.ListN.{length, length-replicate}
 use mathlib.Core.Bool.{true, false}
 use mathlib.Core.List.{List}
@@ -116,7 +113,7 @@ one : record_count (blank_of 1) ≡ 1
 unfolding blank_of header_of bytes_of
 one = refl
 
-nobody : place_named i (blank_of 1) ≡ Nothing
+nobody : place_named i (blank_of 1) ≡ None
 unfolding place_named lowest_found is_named blank_of header_of bytes_of
 nobody = refl
 
@@ -124,7 +121,7 @@ nobody = refl
 record Stands (t r : List ℕ) (c : Call) : Type 0 where
   well : well_formed t ≡ true
   inside : 0 < record_count t
-  place : place_named i t ≡ At 0
+  place : place_named i t ≡ Some 0
   record_is : record_at t 0 ≡ r
   fields : record_fields r ≡ fields_from c
 
@@ -170,17 +167,17 @@ stands1 =
     }
 
 -- a tick there
-ticked : (t r : List ℕ) (c : Call) (now : ℕ) → Stands t r c → call_of (fields_from c) ≡ c → on_tick t now i ≡ step_of t 0 (decided (Is c) Tick now)
+ticked : (t r : List ℕ) (c : Call) (now : ℕ) → Stands t r c → call_of (fields_from c) ≡ c → on_tick t now i ≡ step_of t 0 (decided (Some c) Tick now)
 unfolding on_tick
 ticked t r c now s back =
     let e : call_at t 0 ≡ c = ap (λ (x : List ℕ). call_of (record_fields x)) s.record_is ∙ ap call_of s.fields ∙ back in
     rw (s.well, ruled.call_id, s.place, e)
 
-times_out : on_tick t0 16000 i ≡ record { answer = Accepted Timeout (In Ended); table = with_record t0 0 (with_fields (record_at t0 0) f1) }
+times_out : on_tick t0 16000 i ≡ record { answer = accepted Timeout (Some Ended); table = with_record t0 0 (with_fields (record_at t0 0) f1) }
 unfolding decided_held call_of fields_from state_of
 times_out = ticked t0 r0 calling 16000 stands0 refl
 
-frees : on_tick t1 3616001 i ≡ record { answer = Accepted Freed Free; table = with_record t1 0 free_record }
+frees : on_tick t1 3616001 i ≡ record { answer = accepted Freed None; table = with_record t1 0 free_record }
 unfolding decided_held call_of fields_from state_of
 frees = ticked t1 r1 ended 3616001 stands1 refl
 
@@ -213,7 +210,7 @@ handed = (
 )
 
 module _ (f : Keeper) (meets : Meets on_tick f) where
-  answers : (f t0 16000 i).answer ≡ Accepted Timeout (In Ended)
+  answers : (f t0 16000 i).answer ≡ accepted Timeout (Some Ended)
   answers = (meets t0 16000 i handed.0).0 ∙ ap (λ (s : Step). s.answer) times_out
 
   leaves : (f t0 16000 i).table ≡ t1

@@ -1,8 +1,8 @@
 -- 'Both sides of the mark' (01), as one list over the definitions that the public contracts cite: those of the rules, of the reading and of
 -- the rule of one call. Assumes nothing.
-use Rattle.std.specs.Prelude.{ℕ, Bool, true, false, List, [], ◌∷◌, ◌≡◌}
+use Rattle.answers.specs.Answer.{Answer}
+use Rattle.std.specs.Prelude.{ℕ, Bool, true, false, List, [], ◌∷◌, ◌≡◌, Some, Ok, Err}
 use Rattle.call.specs.Rule.{decided}
-use Rattle.answers.specs.declared.Answer.{Answer}
 use Rattle.answers.specs.declared.State.TheVariants.{Calling, Ended}
 use Rattle.answers.specs.declared.State.{State}
 use Rattle.call.specs.declared.events.Event.TheVariants.{Asks, Tick}
@@ -10,11 +10,9 @@ use Rattle.call.specs.declared.events.Event.{Event}
 use Rattle.call.specs.declared.events.Method.TheVariants.{Callback}
 use Rattle.call.specs.declared.events.Side.TheVariants.{Callee}
 use Rattle.call.specs.declared.records.Call.{Call}
-use Rattle.call.specs.declared.records.Held.TheVariants.{Is}
 use Rattle.exchange.specs.Paper.{Paper, accepted, refused, paper_of}
 use Rattle.message.specs.Reading.{ample, reading}
-use Rattle.message.specs.declared.reading.Reading.TheVariants as readings
-use Rattle.message.specs.declared.reading.Reading.{Reading}
+use Rattle.message.specs.Refusal.{Reading, number, place}
 use Rattle.octets.specs.Ascii.{ascii}
 use Rattle.rules.specs.Date.{date_rule}
 use Rattle.rules.specs.Sequence.{sequence_rule}
@@ -26,9 +24,14 @@ pub data Mark : Type 0 where
   reads : Reading → (number : ℕ) → (place : ℕ) → Mark
   answers-to : Answer → Paper → Mark
 
+-- a reading is refused with this number and place
+abbrev pub Says : Reading → ℕ → ℕ → Type 0
+Says (Err e) n p = (number e ≡ n) × (place e ≡ p)
+Says (Ok m) n p = ⊥
+
 abbrev pub Holds : Mark → Type 0
 Holds (judges a b) = a ≡ b
-Holds (reads a n p) = a ≡ readings.Refused n p
+Holds (reads a n p) = Says a n p
 Holds (answers-to a b) = paper_of a ≡ b
 
 unfoldable pub Every : List Mark → Type 0
@@ -64,8 +67,8 @@ marks =
     ∷ judges (date_rule (ascii "2000-02-29T12:00:00+0900")) true
     ∷ judges (date_rule (ascii "1900-02-29T12:00:00+0900")) false
     ∷ reads (reading ample (ascii "[01]")) 4 2
-    ∷ answers-to (decided (Is (call_in Calling 1000)) Tick 15999).answer (accepted (ascii "none") 1)
-    ∷ answers-to (decided (Is (call_in Calling 1000)) Tick 16000).answer (accepted (ascii "timeout") 5)
-    ∷ answers-to (decided (Is (call_in Ended 0)) callback 3600000).answer (accepted (ascii "pass") 5)
-    ∷ answers-to (decided (Is (call_in Ended 0)) callback 3600001).answer (refused 26 0 404)
+    ∷ answers-to (decided (Some (call_in Calling 1000)) Tick 15999).answer (accepted (ascii "none") 1)
+    ∷ answers-to (decided (Some (call_in Calling 1000)) Tick 16000).answer (accepted (ascii "timeout") 5)
+    ∷ answers-to (decided (Some (call_in Ended 0)) callback 3600000).answer (accepted (ascii "pass") 5)
+    ∷ answers-to (decided (Some (call_in Ended 0)) callback 3600001).answer (refused 26 0 404)
     ∷ []

@@ -1,20 +1,14 @@
 -- Sequences of events on a lent table, and what demand 3 says of them, in the words of the keeper's public contracts. A run has
 -- one ceiling of JSON values, c, the same for every event of it (02 §9). Assumes nothing.
-use Rattle.std.specs.Prelude.{ℕ, ◌<◌, eqb, ltb, length, get_or, Bool, false, cond, List, [], ◌∷◌, ◌++◌, ◌≡◌}
-use Rattle.answers.specs.Answer.{refusal_number}
-use Rattle.answers.specs.declared.Answer.TheVariants.{Accepted, Refused}
-use Rattle.answers.specs.declared.Answer.{Answer}
+use Rattle.std.specs.Prelude.{ℕ, ◌<◌, eqb, ltb, length, get_or, Bool, false, cond, List, [], ◌∷◌, ◌++◌, ◌≡◌, Option, Some, None, Ok, Err}
+use Rattle.answers.specs.Answer.{Answer, refusal_number}
 use Rattle.keeper.specs.Keeping.{Step, on_message, on_tick}
 use Rattle.message.specs.Parties.{call_id_of}
 use Rattle.message.specs.Reading.{reading}
-use Rattle.message.specs.declared.reading.Reading.TheVariants as readings
-use Rattle.message.specs.declared.reading.Reading.{Reading}
+use Rattle.message.specs.Refusal.{Reading}
 use Rattle.rules.specs.Texts.{call_id_rule}
 use Rattle.table.specs.Image.{record_at}
 use Rattle.table.specs.Search.{place_named}
-use Rattle.table.specs.declared.searching.Found.TheVariants.{At, Nothing}
-use Rattle.table.specs.declared.searching.Found.{Found}
-use Rattle.std.proofs.Math.Option.{Option, none, some}
 
 -- a time: any 64-bit number of milliseconds
 pub record Time : Type 0 where
@@ -48,29 +42,29 @@ answers c t (e ∷ es) = event_answer c t e ∷ answers c (event_table c t e) es
 
 -- the Call-ID that an event names: that of a request or a response that is read, or a tick's, where it keeps the Call-ID rule; else none
 abbrev pub name_read : List ℕ → Reading → Option (List ℕ)
-name_read s (readings.Refused n p) = none
-name_read s (readings.Read m) = cond (ltb 2 m.tag) none (some (call_id_of s m))
+name_read s (Err e) = None
+name_read s (Ok m) = cond (ltb 2 m.tag) None (Some (call_id_of s m))
 
 unfoldable pub name_of : ℕ → Event → Option (List ℕ)
 name_of c (message now s) = name_read s (reading c s)
-name_of c (tick now id) = cond (call_id_rule id) (some id) none
+name_of c (tick now id) = cond (call_id_rule id) (Some id) None
 
 -- two events do not name the same Call-ID
 abbrev pub Apart : ℕ → Event → Event → Type 0
-Apart c a b = (id : List ℕ) → name_of c a ≡ some id → name_of c b ≡ some id → ⊥
+Apart c a b = (id : List ℕ) → name_of c a ≡ Some id → name_of c b ≡ Some id → ⊥
 
 -- a call's record, as bytes, looked up by its Call-ID
-abbrev pub record_in : List ℕ → Found → Option (List ℕ)
-record_in t (At k) = some (record_at t k)
-record_in t Nothing = none
+abbrev pub record_in : List ℕ → Option ℕ → Option (List ℕ)
+record_in t (Some k) = Some (record_at t k)
+record_in t None = None
 
 unfoldable pub record_named : List ℕ → List ℕ → Option (List ℕ)
 record_named id t = record_in t (place_named id t)
 
 -- an answer that is 'no room', number 27
 abbrev pub is_no_room : Answer → Bool
-is_no_room (Accepted w s) = false
-is_no_room (Refused f) = eqb (refusal_number f) 27
+is_no_room (Ok a) = false
+is_no_room (Err f) = eqb (refusal_number f) 27
 
 -- neither order answers 'no room' to either of the two
 pub record Roomy (c : ℕ) (t : List ℕ) (a b : Event) : Type 0 where

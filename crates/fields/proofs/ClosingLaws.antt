@@ -7,11 +7,12 @@ use Rattle.fields.specs.inner.Gathering.{Open, plain}
 use Rattle.json_text.specs.Places.{Inside, outside, quoted, escaped, turn, depth, left, size, spaces, past, next, behind, value_of, follows, is_ws, is_open, is_shut}
 use Rattle.json_text.specs.inner.Landing.{Row}
 use Rattle.octets.proofs.TestLaws.{and_parts, or_split}
+use Rattle.std.specs.Prelude.{MatchOption, None, Option, Some}
 use borrow.Author.Tests.{eqb-true, lt-ltb}
 use lib.Dec.{eqb}
 use lib.ListN.{length, get_or, drop}
 use lib.Seq.{drop-cons, drop-drop}
-use mathlib.Core.Bool.{Bool, true, false, ◌&&◌, ◌||◌, cond}
+use mathlib.Core.Bool.{Bool, true, false, ◌||◌, cond}
 use mathlib.Core.List.{List, [], ◌∷◌}
 use mathlib.Core.Logic.{◌⊎◌, inl, inr}
 use mathlib.Core.Path.{◌≡◌, refl, sym, ap, ◌∙◌}
@@ -167,9 +168,13 @@ module _ (v : List ℕ) (o : ℕ) where
       two (inr h) = three (or_split (eqb (get_or v value 0) 91) (eqb (get_or v value 0) 123) h)
 
   -- one member on, as the code goes
-  pub known_on : {p q name value end then : ℕ} {k k' t : Bool} → (k ≡ true → Open v o p) → q ≡ past v p → get_or v q 0 ≡ 34 → Row v q name value end then
-      → t ≡ plain v name value → k' ≡ (k && t) → k' ≡ true → Open v o then
-  known_on {p} {q} {name} {value} {end} {then} {k} {k'} {t} f e quote row g h i =
-      let a = and_parts k t (sym h ∙ i) in
-      let b = plain-parts name value (sym g ∙ a.1) in
-      open_member e quote row b.0 b.1 (f a.0)
+  pub known_on : {p q name value end then : ℕ} {k k' : Bool} → (k ≡ true → Open v o p) → q ≡ past v p → get_or v q 0 ≡ 34 → Row v q name value end then
+      → (k' ≡ true → (k ≡ true) × (plain v name value ≡ true)) → k' ≡ true → Open v o then
+  known_on {p} {q} {name} {value} {end} {then} {k} {k'} f e quote row g h =
+      let b = plain-parts name value (g h).1 in
+      open_member e quote row b.0 b.1 (f (g h).0)
+
+-- what is known of an end, where there is one
+pub of_end : {P Q : ℕ → Type 0} (r : Option ℕ) → MatchOption r (Unit {0}) P → ((e : ℕ) → P e → Q e) → MatchOption r (Unit {0}) Q
+of_end None h f = tt
+of_end (Some e) h f = f e h

@@ -9,6 +9,7 @@ use Rattle.fields.specs.Value.{freely, is_string, ruled, spelling_of, text_of, w
 use Rattle.octets.proofs.TestLaws.{clash, fails}
 use Rattle.rules.proofs.PlainLaws.{Front, Plain, are_plain, word-plain}
 use Rattle.rules.specs.Pieces.{word_number}
+use Rattle.std.specs.Prelude.{Err, IsErrAnd, MatchOption, None, Ok, Option, Result, Some}
 use borrow.Author.Tests.{lt-ltb, ltb-false}
 use lib.Dec.{ltb}
 use lib.ListN.{drop, length, take, take-append-drop}
@@ -116,3 +117,12 @@ module _ (ws : List (List ℕ)) (p : are_plain ws ≡ true) (w : List ℕ) where
 
   pub word_none : {k : ℕ} → k ≡ word_number ws w → k ≡ 0 → escaped w ≡ false → 0 ≡ word_spelled ws w
   word_none e z f = sym z ∙ e ∙ ap (word_number ws) (sym (plain-text w f)) ∙ sym spelled_is
+
+-- what is told of a value, or where there is none
+pub or_told : {A : Type 0} (r : Option A) {P G : Type 0} {Q : A → Type 0} → MatchOption r P Q → (r ≡ None → P → G) → ((x : A) → r ≡ Some x → Q x → G) → G
+or_told None m f g = f refl m
+or_told (Some x) m f g = g x refl m
+
+pub err_told : {A E : Type 0} (r : Result A E) {G : Type 0} {P : E → Type 0} → IsErrAnd r P → ((p : E) → r ≡ Err p → P p → G) → G
+err_told (Ok x) m f = absurd m
+err_told (Err p) m f = f p refl m

@@ -119,9 +119,9 @@ pub record Walking (v : List ℕ) (r : Trail) (h : Span) (n p : ℕ) : Type 0 wh
 abbrev Kept : List ℕ → Trail → Type 0
 Kept v r = (true ≡ via_rule v) × (r ≡ trail_in v)
 
-pub walk-starts : (v : List ℕ) {q : ℕ} {r : Trail} → is_array v ≡ true → q ≡ past v 1 → (get_or v q 0 ≡ 93 → ⊥) → r ≡ no_trail
-    → Walking v r (record { start = 0; end = 0 }) (length v) 1
-walk-starts v e f g i = rw i (record {
+pub walk-starts : (v : List ℕ) {q : ℕ} {r : Trail} {n : ℕ} → n ≡ length v → is_array v ≡ true → q ≡ past v 1 → (get_or v q 0 ≡ 93 → ⊥) → r ≡ no_trail
+    → Walking v r (record { start = 0; end = 0 }) n 1
+walk-starts v z e f g i = rw (i, z) (record {
   rule = from_first v e f g;
   trail = begun v (elements_from (length v) v 1) refl (some-elements v 0 f g);
   few = omega arith;
@@ -152,10 +152,10 @@ module _ {v : List ℕ} {r : Trail} {h : Span} {n p : ℕ} (f : Walking v r h n 
       )
 
       -- a comma follows, or none
-      pub walk-again : get_or v t 0 ≡ 44 → Walking v m k (n - 1) (t + 1)
-      walk-again b =
+      pub walk-again : {n' : ℕ} → n' ≡ n - 1 → get_or v t 0 ≡ 44 → Walking v m k n' (t + 1)
+      walk-again z b =
           let w = walk-on (elements_from (n - 1) v (t + 1)) (comma v (elements_from (n - 1) v) q cell.goes.is b) in
-          record { rule = w.0; trail = w.1; few = omega (arith, on.0, f.few); counted = omega (arith, on.0, f.counted) }
+          record { rule = rw z w.0; trail = rw z w.1; few = omega (arith, on.0, f.few); counted = omega (arith, z, some, on.0, f.counted) }
 
       pub walk-shut : (get_or v t 0 ≡ 44 → ⊥) → Kept v m
       walk-shut b =

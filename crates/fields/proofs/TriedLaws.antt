@@ -5,16 +5,14 @@ use Rattle.fields.specs.Field.{names_image, one_of}
 use Rattle.fields.specs.Via.{hop_rule}
 use Rattle.fields.specs.declared.judging.Setting.{Setting}
 use Rattle.fields.specs.inner.Chain.{later_rule, on_body, on_status, on_text, on_type, plain_rule}
-use Rattle.octets.proofs.TestLaws.{or-none}
 use Rattle.octets.specs.Class.{all}
 use Rattle.rules.proofs.PlainLaws.{Plain, are_plain, call_id_plain, date-plain, desk_plain, destination_plain, fire-plain, host-plain}
 use Rattle.rules.proofs.PlainLaws.{image-front, is_plain, language_plain, message_id_plain, organization_plain, status-front, word-plain}
-use Rattle.rules.specs.Address.{address_of, address_rule, callee_rule, caller_rule}
+use Rattle.rules.specs.Address.{address_of, address_rule}
 use Rattle.rules.specs.Names.{fields, hop_members, tags}
 use Rattle.rules.specs.Numbers.{content_presence, content_text, method_message, tag_pong}
 use Rattle.rules.specs.Sequence.{sequence_of, sequence_rule}
-use Rattle.rules.specs.declared.addresses.Address.TheVariants as addresses
-use Rattle.rules.specs.declared.sequences.Sequence.TheVariants as sequences
+use Rattle.std.specs.Prelude.{None}
 use Rattle.rules.specs.Words.{availabilities, call_modes, content_types, message_types, notify_types, presences, rescuees, services}
 use lib.Dec.{eqb, ltb}
 use mathlib.Core.Bool.{Bool, true, false, cond}
@@ -75,13 +73,13 @@ unfolding are_plain all is_plain
 service-plain = one_of_plain services refl
 
 -- what breaks the rule tells nothing
-pub broken-sequence : (t : List ℕ) → sequence_rule t ≡ false → sequence_of t ≡ sequences.Broken
+pub broken-sequence : (t : List ℕ) → sequence_rule t ≡ false → sequence_of t ≡ None
 unfolding sequence_of
 broken-sequence t e = rw e
 
-pub broken_address : (t : List ℕ) → address_rule t ≡ false → address_of t ≡ addresses.Broken
-unfolding address_of address_rule
-broken_address t e = let p = or-none (caller_rule t) (callee_rule t) e in rw (p.0, p.1)
+pub broken_address : (t : List ℕ) → address_rule t ≡ false → address_of t ≡ None
+unfolding address_of
+broken_address t e = rw e
 
 -- either of two, by a test that the text has no part in
 pub plain_by : (b : Bool) {f g : List ℕ → Bool} → Plain f → Plain g → Plain (λ t. cond b (f t) (g t))

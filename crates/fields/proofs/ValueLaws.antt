@@ -39,14 +39,18 @@ unfolding freely
 string-text rule v e f g h = h ∙ rw (e, g, text-is v f)
 
 -- Refer-Memo by its measure
-pub is_memo : (v : List ℕ) {w : List ℕ} {m : Measured} {a b r : Bool} → w ≡ spelling_of v → m ≡ measure_of w → a ≡ (not m.breaks && leb m.points 128)
-    → b ≡ (not m.broken && a) → r ≡ (is_string v && b) → r ≡ ruled memo_rule v
-unfolding ruled memo_rule measure_of text_of
-is_memo v e f g h i = i ∙ rw (h, g, f, e, not-not (all no_break (text (spelling_of v))))
+pub no-memo : (v : List ℕ) → is_string v ≡ false → false ≡ ruled memo_rule v
+unfolding ruled
+no-memo v e = rw e
 
-pub is_plain_memo : (v : List ℕ) {w : List ℕ} {k r : Bool} → w ≡ spelling_of v → escaped w ≡ false → k ≡ memo_rule w → r ≡ (is_string v && k) → r ≡ ruled memo_rule v
-unfolding ruled text_of
-is_plain_memo v {w} e f g h = h ∙ rw (← e, plain-whole w f, plain-text w f, g)
+module _ (v : List ℕ) (e : is_string v ≡ true) {w : List ℕ} (is : w ≡ spelling_of v) where
+  pub measured-memo : {m : Measured} → m ≡ measure_of w → ruled memo_rule v ≡ (not m.broken && (not m.breaks && leb m.points 128))
+  unfolding ruled memo_rule measure_of text_of
+  measured-memo f = rw (f, is, e, not-not (all no_break (text (spelling_of v))))
+
+  pub plain-memo : escaped w ≡ false → memo_rule w ≡ ruled memo_rule v
+  unfolding ruled text_of
+  plain-memo f = rw (e, ← is, plain-whole w f, plain-text w f)
 
 -- an array has a byte
 pub array-there : (v : List ℕ) → is_array v ≡ true → 0 < length v

@@ -2,10 +2,11 @@
 use Rattle.json_text.proofs.TurnLaws.{no-elements, some-elements}
 use Rattle.fields.specs.inner.Gathering.{Gathered}
 use Prim.Native.Nat.{ℕ, suc, ◌+◌, ◌≤◌}
-use Rattle.json_text.specs.Places.{past, bytes, elements, elements_from}
+use Rattle.json_text.specs.Places.{past, bytes, members, elements, elements_from}
 use Rattle.fields.specs.Trail.{host_span}
 use Rattle.fields.specs.Spans.{spelling_span}
 use Rattle.fields.specs.Value.{is_array, ruled}
+use Rattle.fields.specs.Known.{empty, repeated}
 use Rattle.fields.specs.Via.{hop_places, hop_rule, hop_keeps, is_hop, via_rule}
 use Rattle.octets.proofs.ClassLaws.{in_among, among-high}
 use Rattle.octets.specs.Class.{among, all}
@@ -14,28 +15,29 @@ use borrow.Author.Tests.{eq-eqb, ne_eqb, lt-ltb, le-ltb}
 use lib.ListN.{length, get_or}
 use mathlib.Core.Bool.{Bool, true, false, ◌&&◌, and-false}
 use mathlib.Core.List.{List, [], ◌∷◌}
-use mathlib.Core.Path.{◌≡◌, ap, ◌∙◌}
+use mathlib.Core.Path.{◌≡◌, ap, refl, sym, ◌∙◌}
 use native.Mathlib.Omega.{arith}
 
 -- An object of Via.
 
 module _ (v : List ℕ) (o : ℕ) where
-  pub not-object : (get_or v o 0 ≡ 123 → ⊥) → false ≡ is_hop v o
+  pub not-object : (get_or v o 0 ≡ 123 → ⊥) → is_hop v o ≡ false
   unfolding is_hop
   not-object ne = rw (ne_eqb _ _ ne)
 
-  module _ (e : get_or v o 0 ≡ 123) {twice : ℕ} {at : List ℕ} (g : Gathered hop_members v o twice at) where
-    pub twice_one : (twice ≡ 0 → ⊥) → false ≡ is_hop v o
+  module _ (e : get_or v o 0 ≡ 123) where
+    pub twice_one : (repeated hop_members v empty (members v o) ≡ 0 → ⊥) → is_hop v o ≡ false
     unfolding is_hop
-    twice_one ne = rw (eq-eqb _ _ e, ← g.first, ne_eqb _ _ ne)
+    twice_one ne = rw (eq-eqb _ _ e, ne_eqb _ _ ne)
 
-    pub once-each : twice ≡ 0 → (hop_keeps v (get_or at 1 0) 1 && (hop_keeps v (get_or at 2 0) 2 && hop_keeps v (get_or at 3 0) 3)) ≡ is_hop v o
-    unfolding is_hop hop_places
-    once-each z = rw (eq-eqb _ _ e, ← g.first, eq-eqb _ _ z, ← (g.all z))
+    module _ {at : List ℕ} (g : Gathered hop_members v o 0 at) where
+      pub once-each : is_hop v o ≡ (hop_keeps v (get_or at 1 0) 1 && (hop_keeps v (get_or at 2 0) 2 && hop_keeps v (get_or at 3 0) 3))
+      unfolding is_hop hop_places
+      once-each = rw (eq-eqb _ _ e, ← g.first, ← (g.all refl))
 
-    pub host-found : twice ≡ 0 → spelling_span v (get_or at 1 0) ≡ host_span v o
-    unfolding host_span hop_places
-    host-found z = rw (← (g.all z))
+      pub host-found : spelling_span v (get_or at 1 0) ≡ host_span v o
+      unfolding host_span hop_places
+      host-found = rw (← (g.all refl))
 
 -- a value that is not there, and one that is
 pub not_there : (v : List ℕ) (p n : ℕ) → p ≡ 0 → false ≡ hop_keeps v p n
@@ -45,6 +47,19 @@ not_there v p n e = rw (le-ltb 0 p (omega arith))
 pub is-there : (v : List ℕ) (p n : ℕ) {x : List ℕ} {r : Bool} → (p ≡ 0 → ⊥) → x ≡ bytes v p → r ≡ ruled (hop_rule n) x → r ≡ hop_keeps v p n
 unfolding hop_keeps
 is-there v p n ne e f = f ∙ rw (lt-ltb 0 p (omega arith), e)
+
+-- an object that lacks one of the three members
+module _ (v : List ℕ) (o : ℕ) (e : get_or v o 0 ≡ 123) {at : List ℕ} (g : Gathered hop_members v o 0 at) where
+  pub no_host : get_or at 1 0 ≡ 0 → is_hop v o ≡ false
+  no_host z = once-each v o e g ∙ rw (sym (not_there v (get_or at 1 0) 1 z)) refl
+
+  pub no_destination : get_or at 2 0 ≡ 0 → is_hop v o ≡ false
+  no_destination z = once-each v o e g ∙ rw (sym (not_there v (get_or at 2 0) 2 z)) (and-false (hop_keeps v (get_or at 1 0) 1))
+
+  pub no_organization : get_or at 3 0 ≡ 0 → is_hop v o ≡ false
+  no_organization z =
+      once-each v o e g
+      ∙ rw (sym (not_there v (get_or at 3 0) 3 z), and-false (hop_keeps v (get_or at 2 0) 2)) (and-false (hop_keeps v (get_or at 1 0) 1))
 
 -- The objects from the k-th on.
 

@@ -13,11 +13,9 @@ mod values;
 mod vias;
 
 pub use hops::{Hop, hop_of};
-pub use judging::{
-    CSeq, Judged, Party, Setting, Status, judge, judge_cseq, judge_party, judge_status,
-};
+pub use judging::{Setting, judge, judge_cseq, judge_party, judge_status};
 pub use spans::{Span, part_at, spelling_span};
 pub use spelled::{content_type, field, tag};
 pub use trails::{Trail, no_trail};
 pub use values::{spelling_at, spelling_of, value_at};
-pub use vias::{Via, judge_via};
+pub use vias::judge_via;

@@ -8,6 +8,8 @@ ghost use Rattle.fields.specs.Value.{is_array, is_object, is_string, spelling_of
 use json_text::{name_part, part, value_part};
 use octets::byte;
 
+// A value's first byte says its kind. (One function that is given the byte would be no plainer than these names.)
+
 // Whether a value is a string.
 pub fn is_string(v: &[u8]) -> bool
     ensures { result ≡ is_string v.now }

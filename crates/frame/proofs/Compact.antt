@@ -10,10 +10,10 @@ use native.Mathlib.Omega.{arith}
 use lib.ListN.{length, drop}
 use Rattle.json_text.specs.inner.Machine.{text, answer, value, after}
 use Rattle.json_text.specs.Places.{members, spell}
-use Rattle.json_text.specs.declared.Walked.TheVariants.{End}
 use Rattle.json_text.proofs.Listing.{Field, entry, body, Fine, Fines, Item, item, items, Goods, read_all, object-read}
 use Rattle.frame.proofs.Standing.{Reach, Val, Piece, piece-val}
 use Rattle.frame.proofs.Written.{Named, plainly, plain-name, in_quotes, text-piece, body-append, object-piece, array-goes, whole}
+use Rattle.std.specs.Prelude.{Ok}
 
 -- a name and a value
 pub record Pair : Type 0 where
@@ -104,6 +104,6 @@ module _ (tag : List ℕ) (p : Pair) (ps : List Pair) (ht : plainly tag ≡ true
   )
 
   -- it is accepted
-  pub tagged-accepted : answer (tagged tag p ps) ≡ End (length (tagged tag p ps))
+  pub tagged-accepted : answer (tagged tag p ps) ≡ Ok (length (tagged tag p ps))
   tagged-accepted = whole (tagged tag p ps)
       (subst (λ (s : List ℕ). Reach s value (text 8) [] after (text 8)) (sym tagged-items) (array-goes 7 tag_item (object_item ∷ []) [] (text 8) both-good (omega arith)))

@@ -13,7 +13,6 @@ use lib.ListN.{length, get_or, take, drop, length-map}
 use lib.Seq.{drop-append_seam, take-append_seam}
 use Rattle.json_text.specs.inner.Machine.{answer}
 use Rattle.json_text.specs.Places.{past, behind, bytes, follows, value_of, members, elements_from, elements, spell}
-use Rattle.json_text.specs.declared.Walked.TheVariants.{End}
 use Rattle.json_text.proofs.Listing.{Field, ahead_of, Fines, Item, items, Goods, read, read_all, values, starts_at, at_next, at-skip, at_byte, behind-is, bytes-is}
 use Rattle.json_text.proofs.Listing.{ws_44, ws_93, more-on, item-read, array-read, array-starts, array_long, elements-at, members-none}
 use Rattle.json_text.proofs.ScanLaws.{Opener, Opened}
@@ -27,11 +26,12 @@ use Rattle.frame.proofs.MessageShape.{Fronts, beyond-front, swap₁, swaps, valu
 use Rattle.frame.proofs.MessageShape.{AroundFine, message, head, tail, up_to, message-split, message-swapped, message-accepted, message-members}
 use Rattle.frame.proofs.MessageShape.{value_there, message-start, message-elements, message-tag, Shape, accepted, shape-place, seen, starts_with}
 use Rattle.frame.proofs.MessageShape.{not-empty}
+use Rattle.std.specs.Prelude.{Ok}
 
 -- s is an accepted array of two, at x and y; at y stands an object, and its member n has its value at o
 pub record MemberAt (s : List ℕ) (x y n o : ℕ) : Type 0 where
   pub end : ℕ
-  pub ends : answer s ≡ End end
+  pub ends : answer s ≡ Ok end
   pub array : get_or s (past s 0) 0 ≡ 91
   pub two : elements s (past s 0) ≡ x ∷ (y ∷ [])
   pub object : get_or s y 0 ≡ 123
@@ -40,7 +40,7 @@ pub record MemberAt (s : List ℕ) (x y n o : ℕ) : Type 0 where
 
 -- s' is s with v for the value of member n
 pub record Changed (s s' : List ℕ) (x y n o : ℕ) (v : List ℕ) : Type 0 where
-  pub whole : answer s' ≡ End (length s')
+  pub whole : answer s' ≡ Ok (length s')
   pub again : MemberAt s' x y n o
   pub tag : bytes s' x ≡ bytes s x
   pub outside : s' ≡ take o s ++ (v ++ drop (behind s o) s)
@@ -204,7 +204,7 @@ module _ (s : List ℕ) (x y n o : ℕ) (a : MemberAt s x y n o) where
         ∙ sym (ap (bytes s) tag_is ∙ ap (λ (r : List ℕ). bytes r (length shape.m.w + 1 + length shape.m.i.w)) shape.eq
         ∙ message-tag shape.m shape.fine shape.f shape.fs shape.good)
 
-    anew-whole : answer anew ≡ End (length anew)
+    anew-whole : answer anew ≡ Ok (length anew)
     unfolding anew
     anew-whole = message-accepted shape.m shape.fine (swap₁ n v shape.f) (swaps n v shape.fs) swapped-good
 
@@ -217,7 +217,7 @@ module _ (s : List ℕ) (x y n o : ℕ) (a : MemberAt s x y n o) where
         let d : drop o (take o s ++ (v ++ drop (behind s o) s)) ≡ v ++ rest = ap (λ (k : ℕ). drop k (take o s ++ (v ++ drop (behind s o) s))) place_is ∙ ap (drop (length ahead)) e
         ∙ drop-append_seam ahead (v ++ rest) in
         record {
-          whole = subst (λ (r : List ℕ). answer r ≡ End (length r)) q anew-whole;
+          whole = subst (λ (r : List ℕ). answer r ≡ Ok (length r)) q anew-whole;
           again = subst (λ (r : List ℕ). MemberAt r x y n o) q anew-at;
           tag = subst (λ (r : List ℕ). bytes r x ≡ bytes s x) q anew-tag;
           outside = refl;

@@ -13,7 +13,6 @@ use lib.Dec.{eqb}
 use borrow.Author.Tests.{eqb-true, eqb-false}
 use Rattle.json_text.specs.inner.Machine.{text, value, after, answer}
 use Rattle.json_text.specs.Places.{spaces, past, follows, value_of, members_from, members, elements_from, elements, bytes, spell, is_ws}
-use Rattle.json_text.specs.declared.Walked.TheVariants.{End}
 use Rattle.json_text.proofs.Listing.{Ink, Blank, Starts, Field, entry, ahead_of, body, Fine, Fines, Item, item, items, Good, Goods, read, read_all, starts_at, at-skip}
 use Rattle.json_text.proofs.Listing.{at_next, at_byte, past_is, past-at, ws_44, ws_93, ws_125, more-on, member_is, entry_read, item-read, array-read, array-starts}
 use Rattle.json_text.proofs.Listing.{array_long, elements-at, object-read, body-long, ws_91}
@@ -22,6 +21,7 @@ use Rattle.json_text.proofs.ScanLaws.{Opened}
 use Rattle.frame.proofs.Standing.{Reach, trans, Val, Piece, val-piece, piece-val}
 use Rattle.frame.proofs.Written.{over-blank, Named, body-append, object-piece, array-goes, whole}
 use Rattle.frame.proofs.Parsed.{spaced, top_of, piece-object}
+use Rattle.std.specs.Prelude.{Ok}
 
 -- The value of member n, counted from 0, changed to v.
 abbrev pub swap₁ : ℕ → List ℕ → Field → Field
@@ -191,7 +191,7 @@ module _ (m : Around) where
     goods = (a.hi, record { before = a.hj; val = λ t. piece-val 7 (123 ∷ body f fs []) (m.ju ++ (93 ∷ t)) (object-piece 6 f fs h); behind = a.hu })
 
     -- it is accepted
-    pub message-accepted : answer (message f fs) ≡ End (length (message f fs))
+    pub message-accepted : answer (message f fs) ≡ Ok (length (message f fs))
     unfolding message
     message-accepted =
         let r = array-goes 7 m.i (object f fs ∷ []) m.t (text 8) goods (omega arith) in
@@ -367,7 +367,7 @@ full s r q y e n t g =
     n (seen s p.w (t ++ q) (y + 1) 125 p.ws (inr ws_125) d)
 
 -- THE CONVERSE, in the reader's words: an accepted text that is an array of two, the second an object with members, has the form of a message
-pub accepted : (s : List ℕ) (e x y : ℕ) → answer s ≡ End e → get_or s (past s 0) 0 ≡ 91 → elements s (past s 0) ≡ x ∷ (y ∷ []) → get_or s y 0 ≡ 123
+pub accepted : (s : List ℕ) (e x y : ℕ) → answer s ≡ Ok e → get_or s (past s 0) 0 ≡ 91 → elements s (past s 0) ≡ x ∷ (y ∷ []) → get_or s y 0 ≡ 123
     → (get_or s (past s (y + 1)) 0 ≡ 125 → ⊥) → Shape s
 accepted s e x y h b el g n =
     let r = ahead-is s s 0 91 refl b (omega arith) in

@@ -14,7 +14,6 @@ use Rattle.octets.specs.Class.{is_digit, among}
 use Rattle.json_text.specs.inner.Machine.{Stack, alone, text, arr, obj, levels, label, Mode, value, first, name, name₁, colon, after, str, esc, hex, hexes}
 use Rattle.json_text.specs.inner.Machine.{is_hex_digit, is_esc, Next, live, dead, deep, done, begin, opens, ends, step, over, stops, takes, walk, from, answer}
 use Rattle.json_text.specs.Places.{is_shut, is_mark, Inside, quoted, escaped, left, is_ws}
-use Rattle.json_text.specs.declared.Walked.TheVariants.{End}
 use Rattle.json_text.proofs.PlaceLaws.{left-none}
 use Rattle.json_text.proofs.Listing.{Ink, Blank, Starts, starts-ink, Field, entry, body, Fine, Fines, Item, item, items, Goods}
 use Rattle.json_text.proofs.OwnBytes.{then, run, onto, In, Lifts, on, no, sunk, late, lift-step, run-around}
@@ -25,12 +24,13 @@ use Rattle.frame.proofs.Written.{over-blank, Named, object-goes, array-goes, fir
 use Rattle.json_text.proofs.MoveLaws.{trail}
 use Rattle.json_text.proofs.StepLaws.{ws-colon, ws-value, ws-name, ws-name₁, ws-text, ws-obj, ws-arr, ws-first, arr-comma, arr_close, obj-comma, obj_close}
 use Rattle.json_text.proofs.StepLaws.{value-arr, value-obj, str-quote, colon-hit, name-quote}
+use Rattle.std.specs.Prelude.{Ok}
 
 -- the machine goes on to the end
 pub record Acc (bs : List ℕ) (m : Mode) (k : Stack) : Type 0 where
   pub at : ℕ
   pub e : ℕ
-  pub ok : walk bs m k at ≡ End e
+  pub ok : walk bs m k at ≡ Ok e
 
 pub acc-on : {bs t : List ℕ} {m m' : Mode} {k k' : Stack} → Reach bs m k t m' k' → Acc bs m k → Acc t m' k'
 acc-on {bs} {t} r a = record { at = a.at + (length bs - length t); e = a.e; ok = sym (r.same a.at) ∙ a.ok }
@@ -50,7 +50,7 @@ no_stop m (text d) o a = o
 no_stop m (arr k) o a = let q = a.ok in let z : ◌≡◌ {A = ℕ} 0 1 = cc in omega arith
 no_stop m (obj k) o a = let q = a.ok in let z : ◌≡◌ {A = ℕ} 0 1 = cc in omega arith
 
-stops-onto : (m : Mode) (k s : Stack) (i e : ℕ) → Within k → stops m (onto k s) i ≡ End e → ⊥
+stops-onto : (m : Mode) (k s : Stack) (i e : ℕ) → Within k → stops m (onto k s) i ≡ Ok e → ⊥
 unfolding onto stops
 stops-onto m (alone d) (alone c) i e h q = h
 stops-onto m (alone d) (text c) i e h q = h
@@ -92,7 +92,7 @@ like_at d b m s a y g k l = ap (λ (x : Stack). step m (onto k x) b) (sym y) ∙
 
 module _ (d : ℕ) (k : Stack) (l : levels k ≡ d) (o : Within k) where
   lead-next : (b : ℕ) (bs : List ℕ) (m : Mode) (s : Stack) (i e : ℕ) (n n' : Next) → In d m s → step m s b ≡ n → Lifts d k m s b n n'
-      → ((m' : Mode) (s' : Stack) → In d m' s' → walk bs m' (onto k s') (i + 1) ≡ End e → Lead d bs m' s') → takes n' (walk bs) i ≡ End e → Lead d (b ∷ bs) m s
+      → ((m' : Mode) (s' : Stack) → In d m' s' → walk bs m' (onto k s') (i + 1) ≡ Ok e → Lead d bs m' s') → takes n' (walk bs) i ≡ Ok e → Lead d (b ∷ bs) m s
   unfolding run
   lead-next b bs m s i e (live m' s') n' a g (on x h) ih q =
       let r = ih m' s' h (ap (λ (n : Next). takes n (walk bs) i) (sym x) ∙ q) in
@@ -111,7 +111,7 @@ module _ (d : ℕ) (k : Stack) (l : levels k ≡ d) (o : Within k) where
   lead-next b bs m s i e done n' a g (late x y w) ih q = record
       { v = []; b = b; q = bs; m' = m; is = refl; runs = ap (live m) y; fin = x; like = λ k' l'. like_at d b m s a y g k' l' }
 
-  lead : (bs : List ℕ) (m : Mode) (s : Stack) (i e : ℕ) → In d m s → walk bs m (onto k s) i ≡ End e → Lead d bs m s
+  lead : (bs : List ℕ) (m : Mode) (s : Stack) (i e : ℕ) → In d m s → walk bs m (onto k s) i ≡ Ok e → Lead d bs m s
   unfolding walk
   lead [] m s i e h q = absurd (stops-onto m k s i e o q)
   lead (b ∷ bs) m s i e h q = lead-next b bs m s i e (step m s b) (step m (onto k s) b) h refl (lift-step d k (omega arith) m s h b) (λ m₁ s₁ h₁ q₁. lead bs m₁ s₁ (i + 1) e h₁ q₁)
@@ -167,7 +167,7 @@ lead-val d bs r o m t =
 
 acc-dead : (b : ℕ) (t : List ℕ) (m : Mode) (k : Stack) → step m k b ≡ dead → Acc (b ∷ t) m k → ⊥
 unfolding walk
-acc-dead b t m k h a = let q : takes dead (walk t) a.at ≡ End a.e = ap (λ (n : Next). takes n (walk t) a.at) (sym h) ∙ a.ok in let z : ◌≡◌ {A = ℕ} 0 1 = cc in omega arith
+acc-dead b t m k h a = let q : takes dead (walk t) a.at ≡ Ok a.e = ap (λ (n : Next). takes n (walk t) a.at) (sym h) ∙ a.ok in let z : ◌≡◌ {A = ℕ} 0 1 = cc in omega arith
 
 arr-dead : (k : Stack) (b : ℕ) → is_ws b ≡ false → eqb b 44 ≡ false → eqb b 93 ≡ false → step after (arr k) b ≡ dead
 unfolding step ends
@@ -557,25 +557,25 @@ no_more : (t : List ℕ) → length t ≡ 0 → t ≡ []
 no_more [] h = refl
 no_more (b ∷ t) h = absurd (omega arith)
 
-piece-acc : (d : ℕ) (v : List ℕ) → Piece d v → walk v value (alone d) 0 ≡ End (length v)
+piece-acc : (d : ℕ) (v : List ℕ) → Piece d v → walk v value (alone d) 0 ≡ Ok (length v)
 piece-acc d v p =
     let r = ran v [] value (alone d) p.runs in
     let z : 0 + (length (v ++ []) - 0) ≡ length v = omega (arith, length-append v []) in
-    ap (λ (l : List ℕ). walk l value (alone d) 0) (sym (append-nil v)) ∙ r.same 0 ∙ walk-over [] d _ ∙ ap End z
+    ap (λ (l : List ℕ). walk l value (alone d) 0) (sym (append-nil v)) ∙ r.same 0 ∙ walk-over [] d _ ∙ ap Ok z
 
-shallow : (e : ℕ) (r : List ℕ) (i : ℕ) → walk (91 ∷ r) value (alone 0) i ≡ End e → ⊥
+shallow : (e : ℕ) (r : List ℕ) (i : ℕ) → walk (91 ∷ r) value (alone 0) i ≡ Ok e → ⊥
 unfolding walk step begin opens is_ws
 shallow e r i h = let z : ◌≡◌ {A = ℕ} 0 1 = cc in omega arith
 
-roomy : (d e : ℕ) (r : List ℕ) (i : ℕ) → walk (91 ∷ r) value (alone d) i ≡ End e → 0 < d
+roomy : (d e : ℕ) (r : List ℕ) (i : ℕ) → walk (91 ∷ r) value (alone d) i ≡ Ok e → 0 < d
 roomy zero e r i h = absurd (shallow e r i h)
 roomy (suc d) e r i h = omega arith
 
-shallow-obj : (e : ℕ) (r : List ℕ) (i : ℕ) → walk (123 ∷ r) value (alone 0) i ≡ End e → ⊥
+shallow-obj : (e : ℕ) (r : List ℕ) (i : ℕ) → walk (123 ∷ r) value (alone 0) i ≡ Ok e → ⊥
 unfolding walk step begin opens is_ws
 shallow-obj e r i h = let z : ◌≡◌ {A = ℕ} 0 1 = cc in omega arith
 
-roomy-obj : (d e : ℕ) (r : List ℕ) (i : ℕ) → walk (123 ∷ r) value (alone d) i ≡ End e → 0 < d
+roomy-obj : (d e : ℕ) (r : List ℕ) (i : ℕ) → walk (123 ∷ r) value (alone d) i ≡ Ok e → 0 < d
 roomy-obj zero e r i h = absurd (shallow-obj e r i h)
 roomy-obj (suc d) e r i h = omega arith
 
@@ -586,11 +586,11 @@ pub record ArrayText (d : ℕ) (r : List ℕ) : Type 0 where
   pub good : Goods (Val d) i is
 
 array_whole : (d : ℕ) (r : List ℕ) (i : Item) (is : List Item) (t : List ℕ) → 0 < d → r ≡ items i is t → Goods (Val (d - 1)) i is
-    → walk (91 ∷ r) value (alone d) 0 ≡ End (length (91 ∷ r)) → ArrayText (d - 1) r
+    → walk (91 ∷ r) value (alone d) 0 ≡ Ok (length (91 ∷ r)) → ArrayText (d - 1) r
 array_whole d r i is t o e g h =
     let q = array-goes (d - 1) i is t (alone d) g (omega arith) in
-    let y : End (0 + (length (91 ∷ items i is t) - length t)) ≡ End (length (91 ∷ items i is t)) = sym (q.same 0 ∙ walk-over t d _)
-    ∙ subst (λ (x : List ℕ). walk (91 ∷ x) value (alone d) 0 ≡ End (length (91 ∷ x))) e h in
+    let y : Ok (0 + (length (91 ∷ items i is t) - length t)) ≡ Ok (length (91 ∷ items i is t)) = sym (q.same 0 ∙ walk-over t d _)
+    ∙ subst (λ (x : List ℕ). walk (91 ∷ x) value (alone d) 0 ≡ Ok (length (91 ∷ x))) e h in
     let z : 0 + (length (91 ∷ items i is t) - length t) ≡ length (91 ∷ items i is t) = cc in
     let n : t ≡ [] = no_more t (omega (arith, q.less)) in
     record { i = i; is = is; eq = e ∙ ap (items i is) n; good = g }
@@ -611,11 +611,11 @@ pub record ObjectText (d : ℕ) (r : List ℕ) : Type 0 where
   pub good : Fines (Val d) Named f fs
 
 object-whole : (d : ℕ) (r : List ℕ) (f : Field) (fs : List Field) (t : List ℕ) → 0 < d → r ≡ body f fs t → Fines (Val (d - 1)) Named f fs
-    → walk (123 ∷ r) value (alone d) 0 ≡ End (length (123 ∷ r)) → ObjectText (d - 1) r
+    → walk (123 ∷ r) value (alone d) 0 ≡ Ok (length (123 ∷ r)) → ObjectText (d - 1) r
 object-whole d r f fs t o e g h =
     let q = object-goes (d - 1) f fs t (alone d) g (omega arith) in
-    let y : End (0 + (length (123 ∷ body f fs t) - length t)) ≡ End (length (123 ∷ body f fs t)) = sym (q.same 0 ∙ walk-over t d _)
-    ∙ subst (λ (x : List ℕ). walk (123 ∷ x) value (alone d) 0 ≡ End (length (123 ∷ x))) e h in
+    let y : Ok (0 + (length (123 ∷ body f fs t) - length t)) ≡ Ok (length (123 ∷ body f fs t)) = sym (q.same 0 ∙ walk-over t d _)
+    ∙ subst (λ (x : List ℕ). walk (123 ∷ x) value (alone d) 0 ≡ Ok (length (123 ∷ x))) e h in
     let z : 0 + (length (123 ∷ body f fs t) - length t) ≡ length (123 ∷ body f fs t) = cc in
     let n : t ≡ [] = no_more t (omega (arith, q.less)) in
     record { f = f; fs = fs; eq = e ∙ ap (body f fs) n; good = g }
@@ -649,7 +649,7 @@ pub record Top (s : List ℕ) : Type 0 where
   pub behind : Blank t
 
 -- THE CONVERSE: an accepted text that begins with '[' and not '[]' is such a text
-pub top_of : (s : List ℕ) (e : ℕ) → answer s ≡ End e → (r : List ℕ) → (spaced s).t ≡ 91 ∷ r → ((t' : List ℕ) → (spaced r).t ≡ 93 ∷ t' → ⊥) → Top s
+pub top_of : (s : List ℕ) (e : ℕ) → answer s ≡ Ok e → (r : List ℕ) → (spaced s).t ≡ 91 ∷ r → ((t' : List ℕ) → (spaced r).t ≡ 93 ∷ t' → ⊥) → Top s
 unfolding from
 top_of s e h r g n =
     let p = spaced s in

@@ -13,11 +13,11 @@ use lib.Seq.{take-append_seam}
 use lib.Dec.{eqb}
 use Rattle.json_text.specs.inner.Machine.{Stack, alone, levels, Mode, value, after, Next, live, step, over, takes, walk, from, one}
 use Rattle.json_text.specs.Places.{behind, bytes, is_ws}
-use Rattle.json_text.specs.declared.Walked.TheVariants.{End}
 use Rattle.json_text.proofs.Listing.{Sized, Starts, behind-is, bytes-is}
 use Rattle.json_text.proofs.OwnBytes.{run, walk-on, run-around, split}
 use Rattle.json_text.proofs.ScanLaws.{Opener, Opened, opened-whole}
 use Rattle.json_text.proofs.EndLaws.{walk-over, opened-at}
+use Rattle.std.specs.Prelude.{Ok}
 
 -- From the front of bs the machine comes to the front of t.
 pub record Reach (bs : List ℕ) (m : Mode) (k : Stack) (t : List ℕ) (m' : Mode) (k' : Stack) : Type 0 where
@@ -90,7 +90,7 @@ unfolding run
 opened-front d b bs [] q m' e r f o = let g : value ≡ m' = cc in let y : over value ≡ true = ap over g ∙ f in let z : ◌≡◌ {A = ℕ} 0 1 = cc in absurd (omega arith)
 opened-front d b bs (x ∷ v) q m' e r f o = let g : b ≡ x = cc in subst Opener g o
 
-pub cut : (d b : ℕ) (bs : List ℕ) (i e : ℕ) → Opener b → walk (b ∷ bs) value (alone d) i ≡ End e → Cut d (b ∷ bs) i e
+pub cut : (d b : ℕ) (bs : List ℕ) (i e : ℕ) → Opener b → walk (b ∷ bs) value (alone d) i ≡ Ok e → Cut d (b ∷ bs) i e
 cut d b bs i e o h =
     let r = split d (b ∷ bs) i e h in
     let p = opened-front d b bs r.v r.q r.m' r.is r.runs r.fin o in
@@ -105,7 +105,7 @@ pub piece-by : (d : ℕ) (v t : List ℕ) → Opened v → Reach (v ++ t) value 
 piece-by d [] t o r = absurd o
 piece-by d (b ∷ v) t o r =
     let z : 0 + (length ((b ∷ v) ++ t) - length t) ≡ length (b ∷ v) = omega (arith, length-append (b ∷ v) t) in
-    let c = cut d b (v ++ t) 0 (length (b ∷ v)) o (r.same 0 ∙ walk-over t d _ ∙ ap End z) in
+    let c = cut d b (v ++ t) 0 (length (b ∷ v)) o (r.same 0 ∙ walk-over t d _ ∙ ap Ok z) in
     let y : length (b ∷ v) ≡ length c.v = c.far ∙ omega arith in
     subst (Piece d) (sym (same-front (b ∷ v) c.v t c.q c.is y)) c.piece
 
@@ -117,13 +117,13 @@ pub record PieceAt (d : ℕ) (s : List ℕ) (a e : ℕ) : Type 0 where
   pub piece : Piece d (bytes s a)
   pub ends : behind s a ≡ e
 
-piece_as : (d : ℕ) (s bs : List ℕ) (a e : ℕ) → drop a s ≡ bs → Opened bs → walk bs value (alone d) a ≡ End e → PieceAt d s a e
+piece_as : (d : ℕ) (s bs : List ℕ) (a e : ℕ) → drop a s ≡ bs → Opened bs → walk bs value (alone d) a ≡ Ok e → PieceAt d s a e
 piece_as d s [] a e h o w = absurd o
 piece_as d s (b ∷ bs) a e h o w =
     let c = cut d b bs a e o w in
     let g : drop a s ≡ c.v ++ c.q = h ∙ c.is in
     record { piece = subst (Piece d) (sym (piece_bytes d c.v c.q s a c.piece g)) c.piece; ends = piece-behind d c.v c.q s a c.piece g ∙ sym c.far }
 
-pub piece_of : (d : ℕ) (s : List ℕ) (a e : ℕ) → a < length s → Opener (get_or s a 0) → one d s a ≡ End e → PieceAt d s a e
+pub piece_of : (d : ℕ) (s : List ℕ) (a e : ℕ) → a < length s → Opener (get_or s a 0) → one d s a ≡ Ok e → PieceAt d s a e
 unfolding from
 piece_of d s a e l o h = piece_as d s (drop a s) a e refl (opened-at s (drop a s) a refl l o) h

@@ -12,13 +12,13 @@ use lib.Dec.{eqb, ltb}
 use Rattle.json_text.specs.inner.Machine.{Stack, alone, text, arr, obj, levels, Role, label, plain, Mode, value, first, name, name₁, colon, after, str, live, step}
 use Rattle.json_text.specs.inner.Machine.{stops, walk, from, answer}
 use Rattle.json_text.specs.Places.{left, quoted, is_ws}
-use Rattle.json_text.specs.declared.Walked.TheVariants.{End}
 use Rattle.json_text.proofs.PlaceLaws.{left-none}
 use Rattle.json_text.proofs.Listing.{Blank, Starts, Label, Field, entry, body, Fine, Fines, Item, item, items, Good, Goods, ws_34}
 use Rattle.json_text.proofs.ScanLaws.{left-closes, left-char}
 use Rattle.frame.proofs.Standing.{Reach, here, trans, hop, Val, Piece, piece-by}
 use Rattle.json_text.proofs.StepLaws.{ws-colon, ws-value, ws-name, ws-name₁, ws-obj, ws-arr, ws-first, arr-comma, arr_close, obj-comma, obj_close, value-arr}
 use Rattle.json_text.proofs.StepLaws.{value-obj, value-quote, str-quote, colon-hit, name-quote, name₁-name}
+use Rattle.std.specs.Prelude.{Ok}
 
 pub over-blank : (w t : List ℕ) (m : Mode) (k : Stack) → Blank w → ((b : ℕ) → is_ws b ≡ true → step m k b ≡ live m k) → Reach (w ++ t) m k t m k
 over-blank [] t m k h f = here t m k
@@ -154,11 +154,11 @@ array-piece d i is h =
     (subst (λ (r : List ℕ). Reach (91 ∷ r) value (alone (d + 1)) [] after (alone (d + 1))) (sym (items-append i is [])) (array-goes d i is [] (alone (d + 1)) h (omega arith)))
 
 -- A whole text.
-walk-text : (i : ℕ) → walk [] after (text 8) i ≡ End i
+walk-text : (i : ℕ) → walk [] after (text 8) i ≡ Ok i
 unfolding walk stops
 walk-text i = refl
 
 -- what takes the machine from the start to the end is accepted
-pub whole : (s : List ℕ) → Reach s value (text 8) [] after (text 8) → answer s ≡ End (length s)
+pub whole : (s : List ℕ) → Reach s value (text 8) [] after (text 8) → answer s ≡ Ok (length s)
 unfolding from
-whole s r = let z : 0 + (length s - 0) ≡ length s = omega arith in r.same 0 ∙ walk-text (0 + (length s - 0)) ∙ ap End z
+whole s r = let z : 0 + (length s - 0) ≡ length s = omega arith in r.same 0 ∙ walk-text (0 + (length s - 0)) ∙ ap Ok z

@@ -7,28 +7,24 @@ ghost use Rattle.std.specs.Prelude.{◌≡◌, ◌*◌, ◌/◌, ◌<◌, ◌≤
 ghost use Rattle.hex_text.specs.Digits.{decoded, digit_of, encoded, is_hex, is_lower_hex, worth_of};
 ghost use Rattle.octets.specs.Splice.{written};
 
-use octets::{among, or};
-
 // The digit a is ten.
 const TEN_BELOW_A: u8 = b'a' - 10;
 
 fn is_hex_digit(b: u8) -> bool
     ensures { result ≡ is_lower_hex b }
 {
-    or(among(b'0', b'9', b), among(b'a', b'f', b))
+    matches!(b, b'0'..=b'9' | b'a'..=b'f')
 }
 
 // What a digit stands for, and 0 for any other byte.
 fn worth(b: u8) -> u8
     ensures { (result ≡ worth_of b) × (result < 16) }
 {
-    if among(b'0', b'9', b) {
-        return b - b'0';
+    match b {
+        b'0'..=b'9' => b - b'0',
+        b'a'..=b'f' => b - TEN_BELOW_A,
+        _ => 0,
     }
-    if among(b'a', b'f', b) {
-        return b - TEN_BELOW_A;
-    }
-    0
 }
 
 // The digit of a number.
@@ -43,17 +39,7 @@ fn digit(n: u8) -> u8
 pub fn is_hex(s: &[u8]) -> bool
     ensures { result ≡ is_hex s.now }
 {
-    if s.len() % 2 != 0 {
-        return false;
-    }
-    let mut i: usize = 0;
-    while i < s.len() {
-        if !is_hex_digit(s[i]) {
-            return false;
-        }
-        i += 1;
-    }
-    true
+    s.len() % 2 == 0 && s.iter().all(|b| is_hex_digit(*b))
 }
 
 // Puts the bytes that a text of digits stands for at the front of `out`, and answers how many.
@@ -61,12 +47,11 @@ pub fn decode(out: &mut [u8], s: &[u8]) -> usize
     requires { length s.now / 2 ≤ length out.old }
     ensures { (result ≡ length s.now / 2) × (out.new ≡ written out.old (decoded s.now)) }
 {
-    let mut i: usize = 0;
-    while i < s.len() / 2 {
+    let n = s.len() / 2;
+    for i in 0..n {
         out[i] = worth(s[2 * i]) * 16 + worth(s[2 * i + 1]);
-        i += 1;
     }
-    i
+    n
 }
 
 // Puts the digits of s at the front of `out`, and answers how many.
@@ -74,12 +59,9 @@ pub fn encode(out: &mut [u8], s: &[u8]) -> usize
     requires { 2 * length s.now ≤ length out.old }
     ensures { (result ≡ 2 * length s.now) × (out.new ≡ written out.old (encoded s.now)) }
 {
-    let mut i: usize = 0;
-    while i < s.len() {
-        let b = s[i];
-        out[2 * i] = digit(b / 16);
-        out[2 * i + 1] = digit(b % 16);
-        i += 1;
+    for i in 0..s.len() {
+        out[2 * i] = digit(s[i] / 16);
+        out[2 * i + 1] = digit(s[i] % 16);
     }
-    2 * i
+    2 * s.len()
 }

@@ -9,15 +9,14 @@ use Rattle.json_text.specs.inner.Begun.{begins_value, only, begins_at, begins, b
 use Rattle.json_text.specs.inner.Machine.{Stack, alone, text, arr, obj, levels, Mode, value, first, name, name₁, colon, after, str, esc, hex, word}
 use Rattle.json_text.specs.inner.Machine.{minus, nought, int, dot, frac, exp, sign, power, Next, live, step, over}
 use Rattle.json_text.specs.inner.Machine.{ended, stops, takes, walk, from, one, onward, place}
-use Rattle.json_text.specs.inner.Tour.{cap, tour, resume, lone}
-use Rattle.json_text.specs.declared.Toured.TheVariants as counts
-use Rattle.json_text.specs.declared.Walked.{Walked}
-use Rattle.json_text.specs.declared.Walked.TheVariants.{End, Bad, Deep}
+use Rattle.json_text.specs.inner.Tour.{cap, tour, resume, lone, spot, room_in}
+use Rattle.json_text.specs.inner.Machine.{Walked}
 use lib.ListN.{length, drop, length-append, length-drop}
 use mathlib.Core.Bool.{Bool, true, false}
 use mathlib.Core.List.{List, [], ◌∷◌, ◌++◌, append_assoc}
 use mathlib.Core.Path.{◌≡◌, refl, sym, ap, ◌∙◌}
 use native.Mathlib.Omega.{arith}
+use Rattle.std.specs.Prelude.{Ok, Err}
 
 -- a value that may be over begins none
 over-quiet : (m : Mode) (b : ℕ) → over m ≡ true → begins_value m b ≡ false
@@ -78,15 +77,13 @@ module _ (t : List ℕ) (d : ℕ) (k : Stack) (l : levels k ≡ d) where
 
   -- The values that it begins: those by itself, and those behind its end.
   abbrev behind : Walked → List ℕ
-  behind (End e) = begun t e after k
-  behind (Bad p) = []
-  behind (Deep p) = []
+  behind (Ok e) = begun t e after k
+  behind (Err f) = []
 
   none-behind : (i : ℕ) (r : Walked) → place r ≡ i → drop i t ≡ [] → behind r ≡ []
   unfolding begun begins
-  none-behind i (End e) p h = rw (p, h)
-  none-behind i (Bad e) p h = refl
-  none-behind i (Deep e) p h = refl
+  none-behind i (Ok e) p h = rw (p, h)
+  none-behind i (Err f) p h = refl
 
   abbrev BeginsAround : List ℕ → ℕ → Type 0
   BeginsAround bs i = (m : Mode) (s : Stack) → In d m s → begins bs m (onto k s) i ≡ begins bs m s i ++ behind (walk bs m s i)
@@ -115,9 +112,8 @@ module _ (t : List ℕ) (d : ℕ) (k : Stack) (l : levels k ≡ d) where
   -- with room for n
   cap-on : (n : ℕ) (r : Walked) (l : List ℕ) → cap n (onward t after k r) (l ++ behind r) ≡ resume t after k (cap n r l)
   unfolding tour
-  cap-on n (End e) [] = refl
-  cap-on n (Bad p) [] = refl
-  cap-on n (Deep p) [] = refl
+  cap-on n (Ok e) [] = refl
+  cap-on n (Err f) [] = refl
   cap-on zero r (p ∷ l) = refl
   cap-on (suc n) r (p ∷ l) = cap-on n r l
 
@@ -133,7 +129,7 @@ unfolding run
 some_bytes d [] m o e = let p : value ≡ m = cc in let z : false ≡ true = ap over p ∙ o in let y : ◌≡◌ {A = ℕ} 0 1 = cc in absurd (omega arith)
 some_bytes d (b ∷ v) m o e = omega arith
 
-pub one-ends : (d : ℕ) (s : List ℕ) (a e : ℕ) → a ≤ length s → one d s a ≡ End e → (a < e) × (e ≤ length s)
+pub one-ends : (d : ℕ) (s : List ℕ) (a e : ℕ) → a ≤ length s → one d s a ≡ Ok e → (a < e) × (e ≤ length s)
 unfolding from
 one-ends d s a e l h =
     let r = split d (drop a s) a e h in
@@ -142,13 +138,12 @@ one-ends d s a e l h =
     (omega (arith, r.far), omega (arith, r.far, length-drop a s))
 
 -- what ends with room for values ends without a ceiling, and takes room for as many as begin
-pub cap-end : (n : ℕ) (r : Walked) (l : List ℕ) (e n' : ℕ) → cap n r l ≡ counts.End e n' → (r ≡ End e) × (n ≡ n' + length l)
-cap-end n (End w) [] e n' h = let z : w ≡ e = cc in let y : n ≡ n' = cc in (ap End z, omega arith)
-cap-end n (Bad w) [] e n' h = let z : ◌≡◌ {A = ℕ} 0 1 = cc in absurd (omega arith)
-cap-end n (Deep w) [] e n' h = let z : ◌≡◌ {A = ℕ} 0 1 = cc in absurd (omega arith)
+pub cap-end : (n : ℕ) (r : Walked) (l : List ℕ) (e n' : ℕ) → cap n r l ≡ Ok (e, n') → (r ≡ Ok e) × (n ≡ n' + length l)
+cap-end n (Ok w) [] e n' h = let y : n ≡ n' = ap room_in h in (ap Ok (ap spot h), omega arith)
+cap-end n (Err f) [] e n' h = let z : ◌≡◌ {A = ℕ} 0 1 = cc in absurd (omega arith)
 cap-end zero r (p ∷ l) e n' h = let z : ◌≡◌ {A = ℕ} 0 1 = cc in absurd (omega arith)
 cap-end (suc n) r (p ∷ l) e n' h = let z = cap-end n r l e n' h in (z.0, omega (arith, z.1))
 
-pub lone-ends : (d n : ℕ) (s : List ℕ) (a e n' : ℕ) → lone d n s a ≡ counts.End e n' → one d s a ≡ End e
+pub lone-ends : (d n : ℕ) (s : List ℕ) (a e n' : ℕ) → lone d n s a ≡ Ok (e, n') → one d s a ≡ Ok e
 unfolding tour
 lone-ends d n s a e n' h = (cap-end n (one d s a) (begun s a value (alone d)) e n' h).0

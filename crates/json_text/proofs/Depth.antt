@@ -9,14 +9,15 @@ use lib.Seq.{take_at}
 use Rattle.json_text.specs.inner.Machine.{Stack, alone, text, arr, obj, Mode, value, Next, live, deep, step, over, ended, stops, takes, walk, answer}
 use Rattle.json_text.specs.Rfc7159.{JSON-text as JsonText}
 use Rattle.json_text.specs.Verdict.{TooDeep}
-use Rattle.json_text.specs.declared.Walked.{Walked}
-use Rattle.json_text.specs.declared.Walked.TheVariants.{End, Bad, Deep}
+use Rattle.json_text.specs.inner.Machine.{Walked}
 use Rattle.json_text.proofs.Refusal.{Ends, rest, goes_on, on}
 use Rattle.json_text.proofs.Complete.{complete}
 use Rattle.json_text.proofs.Sound.{sound}
 use Rattle.json_text.proofs.Raise.{raise, IsLive, is_live, up-live, up-deep, raise-text}
 use Rattle.json_text.proofs.Opened.{Fits, fits-text, Keeps, keeps, refuses, sinks, keep}
 use Rattle.json_text.proofs.Agreement.{answers, answer-is, take-one}
+use Rattle.json_text.specs.declared.Fault.TheVariants.{Bad, Deep}
+use Rattle.std.specs.Prelude.{Ok, Err}
 
 record At (bs : List ℕ) (m : Mode) (k : Stack) (i p : ℕ) : Type 0 where
   before : List ℕ
@@ -26,21 +27,21 @@ record At (bs : List ℕ) (m : Mode) (k : Stack) (i p : ℕ) : Type 0 where
   far : p ≡ i + length before
   more : List ℕ
   can : Ends (walk (before ++ more) m k i)
-  cannot : (u : List ℕ) → walk (before ++ (it ∷ u)) m k i ≡ Deep p
+  cannot : (u : List ℕ) → walk (before ++ (it ∷ u)) m k i ≡ Err (Deep p)
   deeper : List ℕ
   could : Ends (walk (before ++ (it ∷ deeper)) m (raise 1 k) i)
 
-differ : {A : Type 0} {i p : ℕ} → ◌≡◌ {A = Walked} (Bad i) (Deep p) → A
+differ : {A : Type 0} {i p : ℕ} → ◌≡◌ {A = Walked} (Err (Bad i)) (Err (Deep p)) → A
 differ e = let z : ◌≡◌ {A = ℕ} 0 1 = cc in absurd (omega arith)
 
-differ-end : {A : Type 0} {i p : ℕ} → ◌≡◌ {A = Walked} (End i) (Deep p) → A
+differ-end : {A : Type 0} {i p : ℕ} → ◌≡◌ {A = Walked} (Ok i) (Err (Deep p)) → A
 differ-end e = let z : ◌≡◌ {A = ℕ} 0 1 = cc in absurd (omega arith)
 
-ended-not : {A : Type 0} {p : ℕ} (t : Bool) (i : ℕ) → ended t i ≡ Deep p → A
+ended-not : {A : Type 0} {p : ℕ} (t : Bool) (i : ℕ) → ended t i ≡ Err (Deep p) → A
 ended-not true i e = differ-end e
 ended-not false i e = differ e
 
-stops-not : {A : Type 0} {p : ℕ} (m : Mode) (k : Stack) (i : ℕ) → stops m k i ≡ Deep p → A
+stops-not : {A : Type 0} {p : ℕ} (m : Mode) (k : Stack) (i : ℕ) → stops m k i ≡ Err (Deep p) → A
 unfolding stops
 stops-not m (alone d) i e = ended-not (over m) i e
 stops-not m (text d) i e = ended-not (over m) i e
@@ -69,7 +70,7 @@ module _ (b : ℕ) (bs : List ℕ) (m : Mode) (k : Stack) (i p : ℕ) (f : Fits 
         more = rest m k;
         can = goes_on m k i;
         cannot = λ u. on b u m k i deep e
-            ∙ ap Deep (sym q);
+            ∙ ap (λ (p : ℕ). Err (Deep p)) (sym q);
         deeper = g.tail;
         could = g.fine;
       }
@@ -89,18 +90,19 @@ module _ (b : ℕ) (bs : List ℕ) (m : Mode) (k : Stack) (i p : ℕ) (f : Fits 
         could = subst Ends (sym (on b (r.before ++ (r.it ∷ r.deeper)) m (raise 1 k) i (live m' (raise 1 k')) (up-live 1 m m' k k' b e))) r.could;
       }
 
-  next : (n : Next) → step m k b ≡ n → Keeps n → takes n (walk bs) i ≡ Deep p → ((m' : Mode) (k' : Stack) → Fits k' → walk bs m' k' (i + 1) ≡ Deep p → At bs m' k' (i + 1) p)
+  next : (n : Next) → step m k b ≡ n → Keeps n → takes n (walk bs) i ≡ Err (Deep p)
+      → ((m' : Mode) (k' : Stack) → Fits k' → walk bs m' k' (i + 1) ≡ Err (Deep p) → At bs m' k' (i + 1) p)
       → At (b ∷ bs) m k i p
   next n e (keeps {m = m'} {k = k'} g) q ih = later m' k' e (ih m' k' g q)
   next n e refuses q ih = differ q
   next n e sinks q ih = here e (cc)
 
-finds : (bs : List ℕ) (m : Mode) (k : Stack) (i p : ℕ) → Fits k → walk bs m k i ≡ Deep p → At bs m k i p
+finds : (bs : List ℕ) (m : Mode) (k : Stack) (i p : ℕ) → Fits k → walk bs m k i ≡ Err (Deep p) → At bs m k i p
 unfolding walk
 finds [] m k i p f e = stops-not m k i e
 finds (b ∷ bs) m k i p f e = next b bs m k i p f (step m k b) refl (keep k b f m) e (λ m' k' g q. finds bs m' k' (i + 1) p g q)
 
-module _ (d : ℕ) (s : List ℕ) (p : ℕ) (h : answers d s ≡ Deep p) where
+module _ (d : ℕ) (s : List ℕ) (p : ℕ) (h : answers d s ≡ Err (Deep p)) where
   at : At s value (text d) 0 p
   at = finds s value (text d) 0 p fits-text h
 
@@ -128,5 +130,5 @@ module _ (d : ℕ) (s : List ℕ) (p : ℕ) (h : answers d s ≡ Deep p) where
       }
 
 -- The answer on s is Deep p only where the ninth bracket in one another opens at p.
-pub rfc-deep : (s : List ℕ) (p : ℕ) → answer s ≡ Deep p → TooDeep 8 s p
+pub rfc-deep : (s : List ℕ) (p : ℕ) → answer s ≡ Err (Deep p) → TooDeep 8 s p
 rfc-deep s p h = too_deep 8 s p (sym (answer-is s) ∙ h)

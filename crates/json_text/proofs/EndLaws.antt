@@ -15,10 +15,10 @@ use Rattle.octets.proofs.TestLaws.{or_split}
 use Rattle.json_text.specs.inner.Machine.{alone, done, Mode, value, first, name, name₁, colon, after, str, esc, hex, word, minus, nought, int, dot, frac, exp}
 use Rattle.json_text.specs.inner.Machine.{sign, power, Next, live, dead, deep, is_sign, due, begin, ends, step, over, stops, walk, from, expo, point, one}
 use Rattle.json_text.specs.Places.{is_open, is_shut, is_mark, unmarked, size, behind, is_ws}
-use Rattle.json_text.specs.declared.Walked.TheVariants.{End}
 use Rattle.json_text.proofs.Listing.{Ink, at_byte, at-inside, at-skip}
 use Rattle.json_text.proofs.OwnBytes.{then, run, split}
 use Rattle.json_text.proofs.ScanLaws.{sign-is, Opener, Opened, opened-whole}
+use Rattle.std.specs.Prelude.{Ok}
 
 -- Numbers and literals: no byte of theirs is a mark.
 abbrev pub Unmarked : List ℕ → Type 0
@@ -212,7 +212,7 @@ ink-at : (s bs : List ℕ) (a : ℕ) → drop a s ≡ bs → a < length s → is
 ink-at s [] a h l f = absurd (omega (arith, length-drop a s, ap length h))
 ink-at s (b ∷ bs) a h l f = ap is_ws (sym (at_byte b bs s a h)) ∙ f
 
-pub ends_at : (d : ℕ) (s : List ℕ) (a e : ℕ) → a < length s → is_ws (get_or s a 0) ≡ false → one d s a ≡ End e → (e < length s → is_mark (get_or s e 0) ≡ true) → behind s a ≡ e
+pub ends_at : (d : ℕ) (s : List ℕ) (a e : ℕ) → a < length s → is_ws (get_or s a 0) ≡ false → one d s a ≡ Ok e → (e < length s → is_mark (get_or s e 0) ≡ true) → behind s a ≡ e
 unfolding from behind
 ends_at d s a e l i h f =
     let r = split d (drop a s) a e h in
@@ -230,7 +230,7 @@ unfolding run
 opened-front d [] q m' f e o = let p : value ≡ m' = cc in let z : false ≡ true = ap over p ∙ f in let y : ◌≡◌ {A = ℕ} 0 1 = cc in absurd (omega arith)
 opened-front d (b ∷ v) q m' f e o = o
 
-pub ends_open : (d : ℕ) (s : List ℕ) (a e : ℕ) → a < length s → Opener (get_or s a 0) → one d s a ≡ End e → behind s a ≡ e
+pub ends_open : (d : ℕ) (s : List ℕ) (a e : ℕ) → a < length s → Opener (get_or s a 0) → one d s a ≡ Ok e → behind s a ≡ e
 unfolding from behind
 ends_open d s a e l o h =
     let r = split d (drop a s) a e h in
@@ -239,7 +239,7 @@ ends_open d s a e l o h =
     omega (arith, ap size r.is, z.ends, r.far)
 
 -- a value by itself that is over
-pub walk-over : (t : List ℕ) (d i : ℕ) → walk t after (alone d) i ≡ End i
+pub walk-over : (t : List ℕ) (d i : ℕ) → walk t after (alone d) i ≡ Ok i
 unfolding walk stops step ends
 walk-over [] d i = refl
 walk-over (b ∷ t) d i = refl

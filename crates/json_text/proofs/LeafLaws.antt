@@ -10,9 +10,10 @@ use lib.ListN.{length, get_or, drop}
 use lib.Seq.{drop-cons, drop-length}
 use Rattle.octets.specs.Class.{is_digit}
 use Rattle.json_text.specs.inner.Machine.{Stack, Role, Mode, after, str, hex, word, power, live, dead, is_hex_digit, due, hexes, step, from, Pass}
-use Rattle.json_text.specs.declared.Walked.TheVariants.{Bad}
 use Rattle.json_text.proofs.MoveLaws.{moves, short, as_good}
 use Rattle.json_text.proofs.StepLaws.{power-digit, power-rest}
+use Rattle.json_text.specs.declared.Fault.TheVariants.{Bad}
+use Rattle.std.specs.Prelude.{Err}
 
 -- A literal's bytes.
 due-cons : (w : List ℕ) (j : ℕ) → j < length w → due (drop j w) ≡ word (get_or w j 0) (drop (j + 1) w)
@@ -31,10 +32,10 @@ module _ (s w : List ℕ) (i j : ℕ) (k : Stack) (in-w : j < length w) where
   pub word-hit : i < length s → get_or s i 0 ≡ get_or w j 0 → from s i (due (drop j w)) k ≡ from s (i + 1) (due (drop (j + 1) w)) k
   word-hit h e = rw (due-cons w j in-w) (moves s i _ k (live (due (drop (j + 1) w)) k) h (word-step (get_or w j 0) (drop (j + 1) w) k (get_or s i 0) e))
 
-  pub word-miss : i < length s → (get_or s i 0 ≡ get_or w j 0 → ⊥) → from s i (due (drop j w)) k ≡ Bad i
+  pub word-miss : i < length s → (get_or s i 0 ≡ get_or w j 0 → ⊥) → from s i (due (drop j w)) k ≡ Err (Bad i)
   word-miss h e = rw (due-cons w j in-w) (moves s i _ k dead h (word-stop (get_or w j 0) (drop (j + 1) w) k (get_or s i 0) e))
 
-  pub word-short : i ≤ length s → length s ≤ i → from s i (due (drop j w)) k ≡ Bad i
+  pub word-short : i ≤ length s → length s ≤ i → from s i (due (drop j w)) k ≡ Err (Bad i)
   word-short l u = rw (due-cons w j in-w) (short s i _ k l u refl)
 
 pub due_all : (w : List ℕ) (j : ℕ) → j ≤ length w → length w ≤ j → due (drop j w) ≡ after
@@ -59,10 +60,10 @@ module _ (s : List ℕ) (i n : ℕ) (w : Role) (k : Stack) (more : 0 < n) where
   pub hex-hit : i < length s → is_hex_digit (get_or s i 0) ≡ true → from s i (hexes w n) k ≡ from s (i + 1) (hexes w (n - 1)) k
   hex-hit h e = rw (hexes-suc w n more) (moves s i _ k (live (hexes w (n - 1)) k) h (hex-step w (n - 1) k _ e))
 
-  pub hex-miss : i < length s → is_hex_digit (get_or s i 0) ≡ false → from s i (hexes w n) k ≡ Bad i
+  pub hex-miss : i < length s → is_hex_digit (get_or s i 0) ≡ false → from s i (hexes w n) k ≡ Err (Bad i)
   hex-miss h e = rw (hexes-suc w n more) (moves s i _ k dead h (hex-stop w (n - 1) k _ e))
 
-  pub hex-short : i ≤ length s → length s ≤ i → from s i (hexes w n) k ≡ Bad i
+  pub hex-short : i ≤ length s → length s ≤ i → from s i (hexes w n) k ≡ Err (Bad i)
   hex-short l u = rw (hexes-suc w n more) (short s i _ k l u refl)
 
 pub hex-none : (w : Role) (n : ℕ) → n ≤ 0 → hexes w n ≡ str w

@@ -3,24 +3,31 @@ use mathlib.Core.Path.{◌≡◌, refl, sym, ap, subst, ◌∙◌}
 use mathlib.Core.Bool.{Bool, true, false}
 use mathlib.Core.List.{List, ◌∷◌}
 use mathlib.Core.Logic.{⊎_elim}
-use Prim.Native.Nat.{ℕ, zero, suc, ◌+◌, ◌≤◌, ◌<◌}
+use Prim.Native.Nat.{ℕ, zero, suc, ◌+◌, ◌-◌, ◌≤◌, ◌<◌}
 use native.Mathlib.Nat.{eq-or-lt_of_le, add-zero}
 use native.Mathlib.Numerals.{add-one}
 use native.Mathlib.Omega.{arith}
 use lib.ListN.{length, get_or, drop}
 use lib.Seq.{drop-cons, drop-length}
 use Rattle.json_text.specs.inner.Machine.{Stack, alone, text, arr, obj, Role, Mode, after, Next, live, dead, deep, done, ends, step, over, ended, stops}
-use Rattle.json_text.specs.inner.Machine.{takes, walk, from, onward, place, Leaf}
+use Rattle.json_text.specs.inner.Machine.{takes, walk, from, onward, place, Leaf, Pass}
 use Rattle.json_text.specs.Places.{is_ws}
-use Rattle.json_text.specs.declared.Walked.{Walked}
-use Rattle.json_text.specs.declared.Walked.TheVariants.{End, Bad, Deep}
+use Rattle.json_text.specs.inner.Machine.{Walked}
+use Rattle.json_text.specs.declared.Fault.TheVariants.{Bad, Deep}
+use Rattle.std.specs.Prelude.{Result, Ok, Err}
+use Rattle.std.specs.Result.{IsErrAnd}
+
+-- what a `?` hands on is the fault as it was
+pub raised : {T E : Type 0} {r : Result T E} {e : E} → IsErrAnd r (λ (y : E). y ≡ e) → r ≡ Err e
+raised {r = Ok x} h = absurd h
+raised {r = Err y} h = ap Err h
 
 -- the answer after a byte that does n
 abbrev pub goes : List ℕ → ℕ → Next → Walked
 goes s i (live m k) = from s (i + 1) m k
-goes s i dead = Bad i
-goes s i deep = Deep i
-goes s i done = End i
+goes s i dead = Err (Bad i)
+goes s i deep = Err (Deep i)
+goes s i done = Ok i
 
 lands : (s : List ℕ) (i : ℕ) (n : Next) → takes n (walk (drop (suc i) s)) i ≡ goes s i n
 unfolding from
@@ -56,14 +63,14 @@ stops-place m (arr s) i = refl
 stops-place m (obj s) i = refl
 
 -- The bytes stop where more are due.
-pub stops-short : (m : Mode) (k : Stack) (i : ℕ) → over m ≡ false → stops m k i ≡ Bad i
+pub stops-short : (m : Mode) (k : Stack) (i : ℕ) → over m ≡ false → stops m k i ≡ Err (Bad i)
 unfolding stops
 stops-short m (alone d) i e = simp e
 stops-short m (text d) i e = simp e
 stops-short m (arr k) i e = refl
 stops-short m (obj k) i e = refl
 
-pub short : (s : List ℕ) (i : ℕ) (m : Mode) (k : Stack) → i ≤ length s → length s ≤ i → over m ≡ false → from s i m k ≡ Bad i
+pub short : (s : List ℕ) (i : ℕ) (m : Mode) (k : Stack) → i ≤ length s → length s ≤ i → over m ≡ false → from s i m k ≡ Err (Bad i)
 short s i m k l u e = halts s i m k (omega arith) ∙ stops-short m k i e
 
 -- Two modes that do the same at a byte, and at the end of the bytes.
@@ -82,20 +89,20 @@ pub as_good : (s : List ℕ) (i : ℕ) (m m' : Mode) (k : Stack) → i ≤ lengt
 as_good s i m m' k l o f = ⊎_elim (λ (h : i ≡ length s). halts s i m k h ∙ stops-over m m' k i o ∙ sym (halts s i m' k h)) (λ (h : i < length s). alike s i m m' k h (f h))
     (eq-or-lt_of_le l)
 
-stops-arr : (m : Mode) (k : Stack) (i : ℕ) → stops m (arr k) i ≡ Bad i
+stops-arr : (m : Mode) (k : Stack) (i : ℕ) → stops m (arr k) i ≡ Err (Bad i)
 unfolding stops
 stops-arr m k i = refl
 
-stops-obj : (m : Mode) (k : Stack) (i : ℕ) → stops m (obj k) i ≡ Bad i
+stops-obj : (m : Mode) (k : Stack) (i : ℕ) → stops m (obj k) i ≡ Err (Bad i)
 unfolding stops
 stops-obj m k i = refl
 
 -- the bytes stop while a bracket is open
 module _ (s : List ℕ) (i : ℕ) (m : Mode) (k : Stack) (l : i ≤ length s) (u : length s ≤ i) where
-  pub short-arr : from s i m (arr k) ≡ Bad i
+  pub short-arr : from s i m (arr k) ≡ Err (Bad i)
   short-arr = halts s i m (arr k) (omega arith) ∙ stops-arr m k i
 
-  pub short-obj : from s i m (obj k) ≡ Bad i
+  pub short-obj : from s i m (obj k) ≡ Err (Bad i)
   short-obj = halts s i m (obj k) (omega arith) ∙ stops-obj m k i
 
 -- Contracts, where the answer is known.
@@ -103,11 +110,11 @@ pub leaf_is : {s : List ℕ} {a : ℕ} {m m' : Role → Mode} {r r' : Walked} �
 leaf_is {s} {a} {m} {m'} l e = subst (λ (x : Walked). Leaf s a m m' x) e l
 
 -- After the text's value.
-stops-whole : (i : ℕ) → stops after (text 8) i ≡ End i
+stops-whole : (i : ℕ) → stops after (text 8) i ≡ Ok i
 unfolding stops
 stops-whole i = refl
 
-pub whole : (s : List ℕ) (i : ℕ) → i ≤ length s → length s ≤ i → from s i after (text 8) ≡ End i
+pub whole : (s : List ℕ) (i : ℕ) → i ≤ length s → length s ≤ i → from s i after (text 8) ≡ Ok i
 whole s i l u = halts s i after (text 8) (omega arith) ∙ stops-whole i
 
 pub trail : (b : ℕ) → is_ws b ≡ false → step after (text 8) b ≡ dead
@@ -115,7 +122,7 @@ unfolding step ends
 trail b w = simp w
 
 -- A value by itself: what its reader answers is the machine's answer.
-stops-alone : (d i : ℕ) → stops after (alone d) i ≡ End i
+stops-alone : (d i : ℕ) → stops after (alone d) i ≡ Ok i
 unfolding stops
 stops-alone d i = refl
 
@@ -123,23 +130,13 @@ pub done-alone : (d b : ℕ) → step after (alone d) b ≡ done
 unfolding step ends
 done-alone d b = refl
 
-pub from-alone : (s : List ℕ) (i d : ℕ) → i ≤ length s → from s i after (alone d) ≡ End i
+pub from-alone : (s : List ℕ) (i d : ℕ) → i ≤ length s → from s i after (alone d) ≡ Ok i
 from-alone s i d l = ⊎_elim (λ (h : i ≡ length s). halts s i after (alone d) h ∙ stops-alone d i) (λ (h : i < length s). moves s i after (alone d) done h (done-alone d _))
     (eq-or-lt_of_le l)
 
 pub onward-alone : (s : List ℕ) (d : ℕ) (r : Walked) → place r ≤ length s → onward s after (alone d) r ≡ r
-onward-alone s d (End e) l = from-alone s e d l
-onward-alone s d (Bad p) l = refl
-onward-alone s d (Deep p) l = refl
-
--- an answer that is no End stays the answer, wherever the machine stands
-pub stands : (r : Walked) (s : List ℕ) (m : Mode) (k : Stack) → ((e : ℕ) → r ≡ End e → ⊥) → onward s m k r ≡ r
-stands (End e) s m k h = absurd (h e refl)
-stands (Bad p) s m k h = refl
-stands (Deep p) s m k h = refl
-
-pub stuck : (r : Walked) (s : List ℕ) (m m' : Mode) (k k' : Stack) → ((e : ℕ) → r ≡ End e → ⊥) → onward s m k r ≡ onward s m' k' r
-stuck r s m m' k k' h = stands r s m k h ∙ sym (stands r s m' k' h)
+onward-alone s d (Ok e) l = from-alone s e d l
+onward-alone s d (Err f) l = refl
 
 -- n bytes of a class that leaves the machine where it is
 pub run : (f : ℕ → Bool) (s : List ℕ) (a n : ℕ) → a + n ≤ length s → ((j : ℕ) → j < n → f (get_or s (a + j) 0) ≡ true) → (m : Mode) (k : Stack)
@@ -148,3 +145,16 @@ run f s a zero h g m k e = rw add-zero
 run f s a (suc n) h g m k e =
     let q : a + n + 1 ≡ a + suc n = omega arith in
     run f s a n (omega arith) (λ j l. g j (omega arith)) m k e ∙ moves s (a + n) m k (live m k) (omega arith) (e _ (g n (omega arith))) ∙ ap (λ (i : ℕ). from s i m k) q
+
+-- bytes of a class, from a up to r
+pub passes : {f : ℕ → Bool} {s : List ℕ} {a r : ℕ} → a ≤ r → r ≤ length s → ((k : ℕ) → a ≤ k → k < r → f (get_or s k 0) ≡ true)
+    → (r < length s → f (get_or s r 0) ≡ false) → Pass f s a r
+passes {f} {s} {a} {r} l u g e =
+    record {
+      low = l;
+      high = u;
+      stop = e;
+      same = λ m k h.
+          let z : a + (r - a) ≡ r = omega arith in
+          run f s a (r - a) (omega arith) (λ j i. g (a + j) (omega arith) (omega arith)) m k h ∙ ap (λ (i : ℕ). from s i m k) z;
+    }

@@ -13,7 +13,7 @@ use Rattle.json_text.specs.inner.Machine.{Stack, alone, text, arr, obj, Mode, va
 use Rattle.json_text.specs.inner.Machine.{dot, frac, exp, sign, power, Next, live, dead, deep, is_hex_digit, is_sign, is_esc, levels, shut, opens, begin, ends}
 use Rattle.json_text.specs.inner.Machine.{expo, point, step, over, ended, stops, takes, walk}
 use Rattle.json_text.specs.Places.{is_ws}
-use Rattle.json_text.specs.declared.Walked.TheVariants.{End}
+use Rattle.std.specs.Prelude.{Ok}
 
 -- a text is around all, and no bracket opened where no level was left
 pub data Fits : Stack → Type 0 where
@@ -91,24 +91,24 @@ module _ (k : Stack) (b : ℕ) (f : Fits k) where
   keep power = kept (is_digit b) (keeps f) (keep-ends b f)
 
 -- A text ends where its bytes do.
-ended_where : (t : Bool) (i e : ℕ) → ended t i ≡ End e → e ≡ i
+ended_where : (t : Bool) (i e : ℕ) → ended t i ≡ Ok e → e ≡ i
 ended_where true i e q = cc
 ended_where false i e q = cc
 
-stops_where : (m : Mode) (k : Stack) (i e : ℕ) → stops m k i ≡ End e → e ≡ i
+stops_where : (m : Mode) (k : Stack) (i e : ℕ) → stops m k i ≡ Ok e → e ≡ i
 unfolding stops
 stops_where m (alone d) i e q = ended_where (over m) i e q
 stops_where m (text d) i e q = ended_where (over m) i e q
 stops_where m (arr k) i e q = cc
 stops_where m (obj k) i e q = cc
 
-takes_where : (s : List ℕ) (i e : ℕ) → ((m : Mode) (k : Stack) → Fits k → walk s m k (i + 1) ≡ End e → e ≡ (i + 1) + length s) → (n : Next) → Keeps n → takes n (walk s) i ≡ End e
+takes_where : (s : List ℕ) (i e : ℕ) → ((m : Mode) (k : Stack) → Fits k → walk s m k (i + 1) ≡ Ok e → e ≡ (i + 1) + length s) → (n : Next) → Keeps n → takes n (walk s) i ≡ Ok e
     → e ≡ i + suc (length s)
 takes_where s i e ih n (keeps {m} {k} f) q = omega (arith, ih m k f q)
 takes_where s i e ih n refuses q = let z : ◌≡◌ {A = ℕ} 0 1 = cc in absurd (omega arith)
 takes_where s i e ih n sinks q = let z : ◌≡◌ {A = ℕ} 0 1 = cc in absurd (omega arith)
 
-pub ends_where : (s : List ℕ) (m : Mode) (k : Stack) (i e : ℕ) → Fits k → walk s m k i ≡ End e → e ≡ i + length s
+pub ends_where : (s : List ℕ) (m : Mode) (k : Stack) (i e : ℕ) → Fits k → walk s m k i ≡ Ok e → e ≡ i + length s
 unfolding walk
 ends_where [] m k i e f q = let w = stops_where m k i e q in omega arith
 ends_where (b ∷ s) m k i e f q = takes_where s i e (λ m' k' f' q'. ends_where s m' k' (i + 1) e f' q') (step m k b) (keep k b f m) q

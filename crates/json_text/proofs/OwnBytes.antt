@@ -14,7 +14,7 @@ use Rattle.json_text.specs.inner.Machine.{Stack, alone, text, arr, obj, levels, 
 use Rattle.json_text.specs.inner.Machine.{str, esc, hex, word, minus, nought, int, dot, frac, exp, sign, power, Next, live, dead, deep, is_hex_digit, is_esc}
 use Rattle.json_text.specs.inner.Machine.{is_sign, closed, due, hexes, opens, begin, ends, step, over, ended, stops, takes, walk, expo, point}
 use Rattle.json_text.specs.Places.{is_ws}
-use Rattle.json_text.specs.declared.Walked.TheVariants.{End}
+use Rattle.std.specs.Prelude.{Ok}
 
 -- Where some bytes leave the machine, or why it stopped.
 abbrev pub then : Next → (Mode → Stack → Next) → Next
@@ -321,11 +321,11 @@ pub record Split (d : ℕ) (bs : List ℕ) (m : Mode) (s : Stack) (i e : ℕ) : 
   pub runs : run v m s ≡ live m' (alone d)
   pub fin : over m' ≡ true
 
-ended_is : (t : Bool) (i e : ℕ) → ended t i ≡ End e → (t ≡ true) × (i ≡ e)
+ended_is : (t : Bool) (i e : ℕ) → ended t i ≡ Ok e → (t ≡ true) × (i ≡ e)
 ended_is true i e q = (refl, cc)
 ended_is false i e q = let z : ◌≡◌ {A = ℕ} 0 1 = cc in absurd (omega arith)
 
-stops-split : (d : ℕ) (m : Mode) (s : Stack) (i e : ℕ) → In d m s → stops m s i ≡ End e → Split d [] m s i e
+stops-split : (d : ℕ) (m : Mode) (s : Stack) (i e : ℕ) → In d m s → stops m s i ≡ Ok e → Split d [] m s i e
 unfolding stops run
 stops-split d m (alone x) i e h q = let r = ended_is (over m) i e q in
     record { v = []; q = []; m' = m; is = refl; far = omega (arith, r.1); runs = ap (λ (y : ℕ). live m (alone y)) h.0; fin = r.0 }
@@ -334,7 +334,7 @@ stops-split d m (arr s) i e h q = let z : ◌≡◌ {A = ℕ} 0 1 = cc in absurd
 stops-split d m (obj s) i e h q = let z : ◌≡◌ {A = ℕ} 0 1 = cc in absurd (omega arith)
 
 split-next : (d b : ℕ) (bs : List ℕ) (m : Mode) (s : Stack) (i e : ℕ) (n : Next) {n' : Next} → step m s b ≡ n → Lifts d (alone d) m s b n n'
-    → ((m' : Mode) (s' : Stack) → In d m' s' → walk bs m' s' (i + 1) ≡ End e → Split d bs m' s' (i + 1) e) → takes n (walk bs) i ≡ End e → Split d (b ∷ bs) m s i e
+    → ((m' : Mode) (s' : Stack) → In d m' s' → walk bs m' s' (i + 1) ≡ Ok e → Split d bs m' s' (i + 1) e) → takes n (walk bs) i ≡ Ok e → Split d (b ∷ bs) m s i e
 unfolding run
 split-next d b bs m s i e (live m' s') g (on x h) ih q = let r = ih m' s' h q in
     record {
@@ -350,10 +350,10 @@ split-next d b bs m s i e dead g x ih q = let z : ◌≡◌ {A = ℕ} 0 1 = cc i
 split-next d b bs m s i e deep g x ih q = let z : ◌≡◌ {A = ℕ} 0 1 = cc in absurd (omega arith)
 split-next d b bs m s i e done g (late x y w) ih q = let j : i ≡ e = cc in record { v = []; q = b ∷ bs; m' = m; is = refl; far = omega arith; runs = ap (live m) y; fin = x }
 
-split_in : (d : ℕ) (bs : List ℕ) (m : Mode) (s : Stack) (i e : ℕ) → In d m s → walk bs m s i ≡ End e → Split d bs m s i e
+split_in : (d : ℕ) (bs : List ℕ) (m : Mode) (s : Stack) (i e : ℕ) → In d m s → walk bs m s i ≡ Ok e → Split d bs m s i e
 unfolding walk
 split_in d [] m s i e h q = stops-split d m s i e h q
 split_in d (b ∷ bs) m s i e h q = split-next d b bs m s i e (step m s b) refl (lift-step d (alone d) (omega arith) m s h b) (λ m' s' h' q'. split_in d bs m' s' (i + 1) e h' q') q
 
-pub split : (d : ℕ) (bs : List ℕ) (i e : ℕ) → walk bs value (alone d) i ≡ End e → Split d bs value (alone d) i e
+pub split : (d : ℕ) (bs : List ℕ) (i e : ℕ) → walk bs value (alone d) i ≡ Ok e → Split d bs value (alone d) i e
 split d bs i e q = split_in d bs value (alone d) i e (refl, tt) q

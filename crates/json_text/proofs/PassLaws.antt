@@ -10,17 +10,15 @@ use Rattle.json_text.proofs.SpaceLaws.{past-tour, past-ink}
 use Rattle.json_text.proofs.StepLaws.{not-ws, ws-value, ws-colon, ws-obj, name-quote, colon-hit, colon-miss, value-quote, obj-miss}
 use Rattle.json_text.proofs.TourLaws.{tour-moves, tour-short, string-around, alone-stops, opens-some}
 use Rattle.json_text.specs.inner.Machine.{Stack, alone, arr, obj, Role, label, plain, Mode, value, name, colon, after, str, live, dead, closed, levels}
-use Rattle.json_text.specs.inner.Machine.{step, from, one, place, Leaf}
-use Rattle.json_text.specs.inner.Passing.{is_end, reached, passed, no_visit, is_next, followed, labelled, passed_member}
+use Rattle.json_text.specs.inner.Machine.{step, from, one, Leaf}
+use Rattle.json_text.specs.inner.Passing.{is_end, passed, is_next, followed, passed_member}
 use Rattle.json_text.specs.inner.Tour.{lift, tour, resume, lone, Tally}
 use Rattle.json_text.specs.Places.{past, is_mark, is_shut, next, behind, value_of, follows, is_ws}
 use Rattle.json_text.specs.inner.Landing.{Lands, Row}
-use Rattle.json_text.specs.declared.Toured.TheVariants as counts
-use Rattle.json_text.specs.declared.Toured.{Toured}
-use Rattle.json_text.specs.declared.Walked.TheVariants.{End, Bad, Deep}
-use Rattle.json_text.specs.declared.Walked.{Walked}
+use Rattle.json_text.specs.inner.Tour.{Toured}
+use Rattle.json_text.specs.inner.Machine.{Walked}
 use Rattle.json_text.specs.declared.passing.Visit.{Visit}
-use borrow.Author.Tests.{eqb-true, eqb-false, lt-ltb, eq-eqb, ne_eqb}
+use borrow.Author.Tests.{eqb-true, eqb-false, eq-eqb, ne_eqb}
 use lib.Dec.{eqb}
 use lib.ListN.{length, get_or}
 use mathlib.Core.Bool.{Bool, true, false, ◌||◌, not}
@@ -29,6 +27,9 @@ use mathlib.Core.Logic.{◌⊎◌, inl, inr}
 use mathlib.Core.Path.{◌≡◌, refl, sym, ap, subst, ◌∙◌}
 use native.Mathlib.Decide.{dec_lt, ℕ_discrete}
 use native.Mathlib.Omega.{arith}
+use Rattle.json_text.specs.declared.Fault.TheVariants.{Bad}
+use Rattle.std.specs.Prelude.{Result, Ok, Err, Option, Some, None}
+use Rattle.std.specs.Result.{result_ok}
 
 -- a byte that ends a member, and white space, are marks
 marks : (b : ℕ) → (b ≡ 44) ⊎ (b ≡ 125) → is_mark b ≡ true
@@ -46,11 +47,6 @@ mark_at s w t e h f = by (is_ws (get_or s w 0)) refl
         rw (← z) (marks (get_or s t 0) f)
 
 -- What the readers of strings and of values answer, as `passed` and `lone` have it.
-none-reached : (r : Walked) → ((e : ℕ) → r ≡ End e → ⊥) → reached r ≡ 0
-none-reached (End e) h = absurd (h e refl)
-none-reached (Bad p) h = refl
-none-reached (Deep p) h = refl
-
 pub value-lone : {s : List ℕ} {v left room : ℕ} {r : Toured} → Tally s v left room value (λ k. k) r → r ≡ lone left room s v
 value-lone {s} {v} {left} {room} {r} l = sym (l.same (alone left) refl ∙ alone-stops s left r l.high)
 
@@ -59,23 +55,14 @@ module _ {s : List ℕ} {q : ℕ} {r : Walked} (h : q < length s) (quote : get_o
   string-is =
       sym (moves s q value (alone 0) (live (str plain) (alone 0)) h (value-quote (alone 0) (get_or s q 0) quote) ∙ l.same plain (alone 0) ∙ onward-alone s 0 r l.high)
 
-  pub string-reached : {e : ℕ} → r ≡ End e → e ≡ passed s q
+  pub string-told : result_ok r ≡ passed s q
   unfolding passed
-  string-reached e = ap reached (sym e ∙ string-is)
-
-  pub string-some : {e : ℕ} → r ≡ End e → 0 < e
-  string-some e = omega (arith, l.low, ap place e)
-
-  pub no-string-reached : ((e : ℕ) → r ≡ End e → ⊥) → 0 ≡ passed s q
-  unfolding passed
-  no-string-reached g = sym (none-reached r g) ∙ ap reached string-is
+  string-told = ap result_ok string-is
 
 -- The machine is stuck where a reader is,
 pub stuck-on : (s : List ℕ) (m : Mode) (k : Stack) (r : Toured) → is_end r ≡ false → is_end (resume s m k r) ≡ false
-stuck-on s m k (counts.End e n) h = let z : ◌≡◌ {A = ℕ} 0 1 = cc in absurd (omega arith)
-stuck-on s m k (counts.Bad p) h = refl
-stuck-on s m k (counts.Deep p) h = refl
-stuck-on s m k (counts.Many p) h = refl
+stuck-on s m k (Ok (e, n)) h = let z : ◌≡◌ {A = ℕ} 0 1 = cc in absurd (omega arith)
+stuck-on s m k (Err f) h = refl
 
 -- and at a byte that does nothing there, and behind the last, where a bracket is open.
 module _ (s : List ℕ) (m : Mode) (k : Stack) (n : ℕ) where
@@ -83,7 +70,7 @@ module _ (s : List ℕ) (m : Mode) (k : Stack) (n : ℕ) where
   dead_end i h e = ap is_end (tour-moves s i m k n _ dead h refl e)
 
   -- whatever bracket f opens
-  open_end : (f : Stack → Stack) → ((i : ℕ) → i ≤ length s → length s ≤ i → from s i m (f k) ≡ Bad i)
+  open_end : (f : Stack → Stack) → ((i : ℕ) → i ≤ length s → length s ≤ i → from s i m (f k) ≡ Err (Bad i))
       → (i : ℕ) → i ≤ length s → (i < length s → step m (f k) (get_or s i 0) ≡ dead) → is_end (tour s i m (f k) n) ≡ false
   open_end f short i l g = by (dec_lt i (length s))
     where
@@ -98,27 +85,26 @@ module _ (s : List ℕ) (m : Mode) (k : Stack) (n : ℕ) where
   arr-end = open_end arr (λ i l u. short-arr s i m k l u)
 
 -- The string that opens at q passes: the machine says where it ends. It does not pass: the machine finds none.
-reached-end : (r : Walked) → 0 < reached r → r ≡ End (reached r)
-reached-end (End e) h = refl
-reached-end (Bad p) h = absurd (omega arith)
-reached-end (Deep p) h = absurd (omega arith)
+pub told : {T E : Type 0} (r : Result T E) {x : T} → result_ok r ≡ Some x → r ≡ Ok x
+told (Ok y) {x} h = let z : y ≡ x = cc in ap Ok z
+told (Err f) h = let z : ◌≡◌ {A = ℕ} 0 1 = cc in absurd (omega arith)
 
-passed-end : (s : List ℕ) (q : ℕ) → 0 < passed s q → one 0 s q ≡ End (passed s q)
+passed-end : (s : List ℕ) (q : ℕ) {e : ℕ} → passed s q ≡ Some e → one 0 s q ≡ Ok e
 unfolding passed
-passed-end s q h = reached-end (one 0 s q) h
+passed-end s q h = told (one 0 s q) h
 
-passed_none : (s : List ℕ) (q n : ℕ) → q ≤ length s → passed s q ≡ 0 → is_end (lift (one 0 s q) n) ≡ false
+passed_none : (s : List ℕ) (q n : ℕ) → passed s q ≡ None → is_end (lift (one 0 s q) n) ≡ false
 unfolding passed
-passed_none s q n l e = by (one 0 s q) refl e
+passed_none s q n e = by (one 0 s q) e
   where
-    by : (r : Walked) → one 0 s q ≡ r → reached r ≡ 0 → is_end (lift r n) ≡ false
-    by (End w) f g = let z = one-ends 0 s q w l f in absurd (omega (arith, z.0))
-    by (Bad p) f g = refl
-    by (Deep p) f g = refl
+    by : (r : Walked) → result_ok r ≡ None → is_end (lift r n) ≡ false
+    by (Ok w) g = let z : ◌≡◌ {A = ℕ} 0 1 = cc in absurd (omega arith)
+    by (Err f) g = refl
 
 -- it ends at e; as a value it takes room for one
 pub record PassedString (s : List ℕ) (q e : ℕ) : Type 0 where
   pub ends : Lands s q (behind s q) e
+  pub beyond : q < e
   pub same : (k : Stack) (n : ℕ) → tour s q value k (suc n) ≡ tour s e after k n
 
 module _ (s : List ℕ) (q : ℕ) (h : q < length s) (quote : get_or s q 0 ≡ 34) where
@@ -127,27 +113,28 @@ module _ (s : List ℕ) (q : ℕ) (h : q < length s) (quote : get_or s q 0 ≡ 3
   role_tour w k n =
       string-around s (q + 1) (one 0 s q) (omega arith) (sym (moves s q value (alone 0) (live (str plain) (alone 0)) h (value-quote (alone 0) (get_or s q 0) quote))) w k n
 
-  module _ (some : 0 < passed s q) where
-    string-found : Lands s q (behind s q) (passed s q)
-    string-found =
-        let e = passed-end s q some in
-        let z = one-ends 0 s q (passed s q) (omega arith) e in
-        record { is = sym (ends_open 0 s q (passed s q) h (inl quote) e); low = omega (arith, z.0); inner = λ g. z.1 }
+  module _ {e : ℕ} (some : passed s q ≡ Some e) where
+    string-ends : (q < e) × (e ≤ length s)
+    string-ends = one-ends 0 s q e (omega arith) (passed-end s q some)
 
-    role_passes : (w : Role) (k : Stack) (n : ℕ) → tour s (q + 1) (str w) k n ≡ tour s (passed s q) (closed w) k n
+    string-found : Lands s q (behind s q) e
+    string-found = record { is = sym (ends_open 0 s q e h (inl quote) (passed-end s q some)); low = omega (arith, string-ends); inner = λ g. string-ends.1 }
+
+    role_passes : (w : Role) (k : Stack) (n : ℕ) → tour s (q + 1) (str w) k n ≡ tour s e (closed w) k n
     role_passes w k n = role_tour w k n ∙ ap (λ (r : Walked). resume s (closed w) k (lift r n)) (passed-end s q some)
 
-    pub string-passed : PassedString s q (passed s q)
+    pub string-passed : PassedString s q e
     string-passed =
         record {
           ends = string-found;
+          beyond = string-ends.0;
           same = λ k n.
               opens-some s q k k (str plain) h (not-ws (get_or s q 0) (omega arith)) (value-quote k (get_or s q 0) quote) n ∙ role_passes plain k n;
         }
 
-  module _ (none : passed s q ≡ 0) where
+  module _ (none : passed s q ≡ None) where
     role_stuck : (w : Role) (k : Stack) (n : ℕ) → is_end (tour s (q + 1) (str w) k n) ≡ false
-    role_stuck w k n = ap is_end (role_tour w k n) ∙ stuck-on s (closed w) k (lift (one 0 s q) n) (passed_none s q n (omega arith) none)
+    role_stuck w k n = ap is_end (role_tour w k n) ∙ stuck-on s (closed w) k (lift (one 0 s q) n) (passed_none s q n none)
 
     pub string-stuck : (k : Stack) (n : ℕ) → is_end (tour s q value k (suc n)) ≡ false
     string-stuck k n =
@@ -172,43 +159,39 @@ next-not true y b e f g = let z : ◌≡◌ {A = ℕ} 0 1 = cc in absurd (omega 
 next-not false true b e f g = let z : ◌≡◌ {A = ℕ} 0 1 = cc in absurd (omega arith)
 next-not false false b e f g = (eqb-false b 44 e, eqb-false b 125 f)
 
-no_visit_lem : (s : List ℕ) (e v : ℕ) (r : Toured) → is_end r ≡ false → no_visit ≡ followed s e v r
-no_visit_lem s e v (counts.End w n) h = let z : ◌≡◌ {A = ℕ} 0 1 = cc in absurd (omega arith)
-no_visit_lem s e v (counts.Bad p) h = refl
-no_visit_lem s e v (counts.Deep p) h = refl
-no_visit_lem s e v (counts.Many p) h = refl
+none-followed : (s : List ℕ) (e v : ℕ) (r : Toured) → is_end r ≡ false → None ≡ followed s e v r
+none-followed s e v (Ok (w, n)) h = let z : ◌≡◌ {A = ℕ} 0 1 = cc in absurd (omega arith)
+none-followed s e v (Err f) h = refl
 
-pub no_end : (r : Toured) → ((e n : ℕ) → r ≡ counts.End e n → ⊥) → is_end r ≡ false
-no_end (counts.End e n) h = absurd (h e n refl)
-no_end (counts.Bad p) h = refl
-no_end (counts.Deep p) h = refl
-no_end (counts.Many p) h = refl
+pub no_end : (r : Toured) → result_ok r ≡ None → is_end r ≡ false
+no_end (Ok x) h = let z : ◌≡◌ {A = ℕ} 0 1 = cc in absurd (omega arith)
+no_end (Err f) h = refl
 
 -- One law for each way that the walk over a member ends: what is answered, and of the machine whether it is stuck.
-module _ (left room : ℕ) (s : List ℕ) (q : ℕ) {e : ℕ} (at-e : e ≡ passed s q) where
-  pub no_name : e ≡ 0 → no_visit ≡ passed_member left room s q
-  unfolding passed_member labelled
-  no_name z = rw (← at-e, z)
+module _ (left room : ℕ) (s : List ℕ) (q : ℕ) where
+  pub no_name : passed s q ≡ None → None ≡ passed_member left room s q
+  unfolding passed_member
+  no_name z = rw z
 
-  module _ {c : ℕ} (named : 0 < e) (at_c : c ≡ past s e) where
-    pub no-colon : (get_or s c 0 ≡ 58 → ⊥) → no_visit ≡ passed_member left room s q
-    unfolding passed_member labelled
-    no-colon ne = rw (← at-e, ← at_c, lt-ltb 0 e named, ne_eqb (get_or s c 0) 58 ne)
+  module _ {e : ℕ} (named : passed s q ≡ Some e) {c : ℕ} (at_c : c ≡ past s e) where
+    pub no-colon : (get_or s c 0 ≡ 58 → ⊥) → None ≡ passed_member left room s q
+    unfolding passed_member
+    no-colon ne = rw (named, ← at_c, ne_eqb (get_or s c 0) 58 ne)
 
     module _ {v : ℕ} {r : Toured} (colon-there : get_or s c 0 ≡ 58) (at-v : v ≡ past s (c + 1)) (is-r : r ≡ lone left room s v) where
       to-value : followed s e v r ≡ passed_member left room s q
-      unfolding passed_member labelled
-      to-value = rw (← at-e, ← at_c, lt-ltb 0 e named, eq-eqb (get_or s c 0) 58 colon-there, ← at-v) (ap (followed s e v) is-r)
+      unfolding passed_member
+      to-value = rw (named, ← at_c, eq-eqb (get_or s c 0) 58 colon-there, ← at-v) (ap (followed s e v) is-r)
 
-      pub no_value : is_end r ≡ false → no_visit ≡ passed_member left room s q
-      no_value z = no_visit_lem s e v r z ∙ to-value
+      pub no_value : is_end r ≡ false → None ≡ passed_member left room s q
+      no_value z = none-followed s e v r z ∙ to-value
 
-      module _ {w n t : ℕ} (ended : r ≡ counts.End w n) (at-t : t ≡ past s w) where
-        pub not-followed : is_next (get_or s t 0) ≡ false → no_visit ≡ passed_member left room s q
+      module _ {w n t : ℕ} (ended : r ≡ Ok (w, n)) (at-t : t ≡ past s w) where
+        pub not-followed : is_next (get_or s t 0) ≡ false → None ≡ passed_member left room s q
         not-followed f = sym (ap (followed s e v) ended ∙ rw (← at-t, f)) ∙ to-value
 
         pub a-member : is_next (get_or s t 0) ≡ true
-            → ◌≡◌ {A = Visit} (record { member = record { name = e; value = v; end = w; then = t }; room = n }) (passed_member left room s q)
+            → ◌≡◌ {A = Option Visit} (Some (record { member = record { name = e; value = v; end = w; then = t }; room = n })) (passed_member left room s q)
         a-member f = sym (ap (followed s e v) ended ∙ rw (← at-t, f)) ∙ to-value
 
 module _ (left room : ℕ) (s : List ℕ) (q : ℕ) (h : q < length s) (quote : get_or s q 0 ≡ 34) where
@@ -218,19 +201,19 @@ module _ (left room : ℕ) (s : List ℕ) (q : ℕ) (h : q < length s) (quote : 
   into_name : (k : Stack) → tour s q name (obj k) room ≡ tour s (q + 1) (str label) (obj k) room
   into_name k = tour-moves s q name (obj k) room false (live (str label) (obj k)) h refl (name-quote (obj k) (get_or s q 0) quote)
 
-  name-stuck : passed s q ≡ 0 → Stuck
+  name-stuck : passed s q ≡ None → Stuck
   name-stuck z k d = ap is_end (into_name k) ∙ role_stuck s q h quote z label (obj k) room
 
-  module _ (e c : ℕ) (at-e : e ≡ passed s q) (named : 0 < e) (at_c : c ≡ past s e) where
+  module _ (e c : ℕ) (named : passed s q ≡ Some e) (at_c : c ≡ past s e) where
     name-found : Lands s q (behind s q) e
-    name-found = rw at-e (string-found s q h quote (rw at-e at named))
+    name-found = string-found s q h quote named
 
     c-high : c ≤ length s
     c-high = omega (arith, at_c, past-inner s e (name-found.inner (omega arith)))
 
     to-colon : (k : Stack) → tour s q name (obj k) room ≡ tour s c colon (obj k) room
     to-colon k =
-        into_name k ∙ role_passes s q h quote (rw at-e at named) label (obj k) room ∙ ap (λ (i : ℕ). tour s i colon (obj k) room) (sym at-e)
+        into_name k ∙ role_passes s q h quote named label (obj k) room
         ∙ past-tour colon (obj k) (ws-colon (obj k)) (λ b w. refl) s e room ∙ ap (λ (i : ℕ). tour s i colon (obj k) room) (sym at_c)
 
     colon-stuck : (get_or s c 0 ≡ 58 → ⊥) → Stuck
@@ -253,8 +236,8 @@ module _ (left room : ℕ) (s : List ℕ) (q : ℕ) (h : q < length s) (quote : 
       value-stuck : is_end r ≡ false → Stuck
       value-stuck z k d = ap is_end (by_value k d) ∙ stuck-on s after (obj k) r z
 
-      module _ (w n t : ℕ) (ended : r ≡ counts.End w n) (at-t : t ≡ past s w) where
-        value-end : one left s v ≡ End w
+      module _ (w n t : ℕ) (ended : r ≡ Ok (w, n)) (at-t : t ≡ past s w) where
+        value-end : one left s v ≡ Ok w
         value-end = lone-ends left room s v w n (sym is-r ∙ ended)
 
         w_in : (v < w) × (w ≤ length s)
@@ -313,52 +296,38 @@ module _ (left room : ℕ) (s : List ℕ) (q : ℕ) (h : q < length s) (quote : 
               }
 
   -- a member that passes, or none
-  data View : Visit → Type 0 where
-    passes : {e v w t n : ℕ} → 0 < t → PassedMember s q left room e v w t n → View (record { member = record { name = e; value = v; end = w; then = t }; room = n })
-    stuck : Stuck → View no_visit
+  abbrev View : Option Visit → Type 0
+  View (Some m) = PassedMember s q left room m.member.name m.member.value m.member.end m.member.then m.room
+  View None = Stuck
 
-  module _ (e c v : ℕ) (at-e : e ≡ passed s q) (at_c : c ≡ past s e) (at-v : v ≡ past s (c + 1)) where
-    by-follow : (w n t : ℕ) → 0 < e → get_or s c 0 ≡ 58 → (r : Toured) → (is-r : r ≡ lone left room s v) → r ≡ counts.End w n → t ≡ past s w → (x : Bool)
+  module _ (e c v : ℕ) (named : passed s q ≡ Some e) (at_c : c ≡ past s e) (at-v : v ≡ past s (c + 1)) where
+    by-follow : (w n t : ℕ) → get_or s c 0 ≡ 58 → (r : Toured) → (is-r : r ≡ lone left room s v) → r ≡ Ok (w, n) → t ≡ past s w → (x : Bool)
         → is_next (get_or s t 0) ≡ x
         → View (passed_member left room s q)
-    by-follow w n t some b r is-r f at-t true g =
-        let z : t < length s = (member-there e c at-e some at_c v r b at-v is-r w n t f at-t g).inside in
-        let y = value-end e c at-e some at_c v r b at-v is-r w n t f at-t in
-        let u = one-ends left s v w (v_high e c at-e some at_c v r b at-v is-r) y in
-        subst View (a-member left room s q at-e some at_c b at-v is-r f at-t g)
-        (passes (omega (arith, at-t, past-low s w, u.0)) (member-there e c at-e some at_c v r b at-v is-r w n t f at-t g))
-    by-follow w n t some b r is-r f at-t false g =
-        subst View (not-followed left room s q at-e some at_c b at-v is-r f at-t g) (stuck (follow-stuck e c at-e some at_c v r b at-v is-r w n t f at-t g))
+    by-follow w n t b r is-r f at-t true g =
+        subst View (a-member left room s q named at_c b at-v is-r f at-t g) (member-there e c named at_c v r b at-v is-r w n t f at-t g)
+    by-follow w n t b r is-r f at-t false g =
+        subst View (not-followed left room s q named at_c b at-v is-r f at-t g) (follow-stuck e c named at_c v r b at-v is-r w n t f at-t g)
 
-    by_end : 0 < e → get_or s c 0 ≡ 58 → (r : Toured) → r ≡ lone left room s v → View (passed_member left room s q)
-    by_end n b (counts.End w m) i = by-follow w m (past s w) n b (counts.End w m) i refl refl (is_next (get_or s (past s w) 0)) refl
-    by_end n b (counts.Bad p) i = subst View (no_value left room s q at-e n at_c b at-v i refl) (stuck (value-stuck e c at-e n at_c v (counts.Bad p) b at-v i refl))
-    by_end n b (counts.Deep p) i = subst View (no_value left room s q at-e n at_c b at-v i refl) (stuck (value-stuck e c at-e n at_c v (counts.Deep p) b at-v i refl))
-    by_end n b (counts.Many p) i = subst View (no_value left room s q at-e n at_c b at-v i refl) (stuck (value-stuck e c at-e n at_c v (counts.Many p) b at-v i refl))
+    by_end : get_or s c 0 ≡ 58 → (r : Toured) → r ≡ lone left room s v → View (passed_member left room s q)
+    by_end b (Ok (w, m)) i = by-follow w m (past s w) b (Ok (w, m)) i refl refl (is_next (get_or s (past s w) 0)) refl
+    by_end b (Err f) i = subst View (no_value left room s q named at_c b at-v i refl) (value-stuck e c named at_c v (Err f) b at-v i refl)
 
-    by-colon : 0 < e → Dec (get_or s c 0 ≡ 58) → View (passed_member left room s q)
-    by-colon n (yes b) = by_end n b (lone left room s v) refl
-    by-colon n (no b) = subst View (no-colon left room s q at-e n at_c b) (stuck (colon-stuck e c at-e n at_c b))
+    by-colon : Dec (get_or s c 0 ≡ 58) → View (passed_member left room s q)
+    by-colon (yes b) = by_end b (lone left room s v) refl
+    by-colon (no b) = subst View (no-colon left room s q named at_c b) (colon-stuck e c named at_c b)
 
-    by_name : Dec (e ≡ 0) → View (passed_member left room s q)
-    by_name (yes z) = subst View (no_name left room s q at-e z) (stuck (name-stuck (sym at-e ∙ z)))
-    by_name (no z) = by-colon (omega arith) (ℕ_discrete (get_or s c 0) 58)
+  by_name : (x : Option ℕ) → passed s q ≡ x → View (passed_member left room s q)
+  by_name None z = subst View (no_name left room s q z) (name-stuck z)
+  by_name (Some e) z = by-colon e (past s e) (past s (past s e + 1)) z refl refl (ℕ_discrete (get_or s (past s e) 0) 58)
 
   view : View (passed_member left room s q)
-  view = by_name _ _ _ refl refl refl (ℕ_discrete (passed s q) 0)
-
-  view-passed : {m : Visit} → View m → 0 < m.member.then → PassedMember s q left room m.member.name m.member.value m.member.end m.member.then m.room
-  view-passed (passes n p) h = p
-  view-passed (stuck f) h = absurd (omega arith)
-
-  view-stuck : {m : Visit} → View m → m.member.then ≡ 0 → Stuck
-  view-stuck (passes n p) z = absurd (omega arith)
-  view-stuck (stuck f) z = f
+  view = by_name (passed s q) refl
 
   -- THE LAWS, of an answer m of `pass_member`
-  module _ {m : Visit} (is : m ≡ passed_member left room s q) where
-    pub member-passed : 0 < m.member.then → PassedMember s q left room m.member.name m.member.value m.member.end m.member.then m.room
-    member-passed = view-passed (subst View (sym is) view)
+  module _ {m : Option Visit} (is : m ≡ passed_member left room s q) where
+    pub member-passed : {v : Visit} → m ≡ Some v → PassedMember s q left room v.member.name v.member.value v.member.end v.member.then v.room
+    member-passed e = subst View (sym is ∙ e) view
 
-    pub member-stuck : m.member.then ≡ 0 → (k : Stack) → levels (obj k) ≡ left → is_end (tour s q name (obj k) room) ≡ false
-    member-stuck = view-stuck (subst View (sym is) view)
+    pub member-stuck : m ≡ None → (k : Stack) → levels (obj k) ≡ left → is_end (tour s q name (obj k) room) ≡ false
+    member-stuck e = subst View (sym is ∙ e) view

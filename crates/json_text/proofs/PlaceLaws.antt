@@ -98,6 +98,18 @@ module _ (s : List ℕ) (i : ℕ) where
   unfolding past spaces
   past_end h = rw (drop_of_length-le s h) (omega arith)
 
+past_run : (s : List ℕ) (a n : ℕ) → a + n ≤ length s → ((k : ℕ) → a ≤ k → k < a + n → is_ws (get_or s k 0) ≡ true) → past s a ≡ past s (a + n)
+past_run s a zero h g = let z : a ≡ a + 0 = omega arith in ap (past s) z
+past_run s a (suc n) h g =
+    let z : a + n + 1 ≡ a + suc n = omega arith in
+    past_run s a n (omega arith) (λ k l u. g k l (omega arith)) ∙ past-ws s (a + n) (omega arith) (g (a + n) (omega arith) (omega arith)) ∙ ap (past s) z
+
+-- white space alone from a up to r
+pub past_over : (s : List ℕ) (a r : ℕ) → a ≤ r → r ≤ length s → ((k : ℕ) → a ≤ k → k < r → is_ws (get_or s k 0) ≡ true) → past s a ≡ past s r
+past_over s a r l u g =
+    let z : a + (r - a) ≡ r = omega arith in
+    past_run s a (r - a) (omega arith) (λ k i j. g k i (omega arith)) ∙ ap (past s) z
+
 -- The last of a list, and the last but one.
 pub last_one : (x : ℕ) → last_of (x ∷ []) ≡ x
 unfolding last_of
@@ -240,6 +252,21 @@ module _ (s : List ℕ) (i : ℕ) where
   pub plain-ends : length s ≤ i → i + unmarked (drop i s) ≡ i
   unfolding unmarked
   plain-ends h = rw (drop_of_length-le s h) (omega arith)
+
+plain_run : (s : List ℕ) (a n : ℕ) → a + n ≤ length s → ((k : ℕ) → a ≤ k → k < a + n → is_mark (get_or s k 0) ≡ false)
+    → a + unmarked (drop a s) ≡ (a + n) + unmarked (drop (a + n) s)
+plain_run s a zero h g = let z : a ≡ a + 0 = omega arith in ap (λ (i : ℕ). i + unmarked (drop i s)) z
+plain_run s a (suc n) h g =
+    let z : a + n + 1 ≡ a + suc n = omega arith in
+    plain_run s a n (omega arith) (λ k l u. g k l (omega arith)) ∙ plain_more s (a + n) (omega arith) (g (a + n) (omega arith) (omega arith))
+    ∙ ap (λ (i : ℕ). i + unmarked (drop i s)) z
+
+-- no mark from a up to r
+pub plain_over : (s : List ℕ) (a r : ℕ) → a ≤ r → r ≤ length s → ((k : ℕ) → a ≤ k → k < r → is_mark (get_or s k 0) ≡ false)
+    → a + unmarked (drop a s) ≡ r + unmarked (drop r s)
+plain_over s a r l u g =
+    let z : a + (r - a) ≡ r = omega arith in
+    plain_run s a (r - a) (omega arith) (λ k i j. g k i (omega arith)) ∙ ap (λ (i : ℕ). i + unmarked (drop i s)) z
 
 -- Values.
 module _ (s : List ℕ) (a : ℕ) where

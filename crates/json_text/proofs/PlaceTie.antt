@@ -11,12 +11,12 @@ use lib.Seq.{drop-append_seam}
 use Rattle.json_text.specs.Places.{past, is_shut, is_mark, bytes, members, elements, spell, is_ws}
 use Rattle.json_text.specs.Rfc7159.{Rule, bytes as it, ◌⨾◌, both, absent, present, Star, none, more, value_separator, member, object, array, value, JSON-text}
 use Rattle.json_text.specs.Verdict.{Verdict}
-use Rattle.json_text.specs.declared.Visited.TheVariants.{Text}
 use Rattle.json_text.specs.inner.Derived.{values_in, elements_in, member_in, pairs_in, members_in, bare, bared}
 use Rattle.json_text.proofs.Listing.{Blank, Sized, Label, Field, entry, body, Fine, Fines, Item, item, items, Good, Goods, read_all, values, past_is, past-at}
 use Rattle.json_text.proofs.Listing.{array-read, array-none, object-read, object-none, starts-ink, ws_91, ws_123}
 use Rattle.json_text.proofs.EndLaws.{Marked, ws_mark}
 use Rattle.json_text.proofs.GrammarCore.{blank_of, blank-append, Core, core-bare, core_of, label_of}
+use Rattle.std.specs.Prelude.{Ok}
 
 -- What follows a value inside brackets is a mark.
 marked_by : (u t : List ℕ) → Blank u → Marked t → Marked (u ++ t)
@@ -250,5 +250,5 @@ text_tie d s (both {s = w} h (both {s = v} {t = t} x g)) = record {
 }
 
 -- THE THEOREM for a text that is accepted, in the words of the public reader's contract
-pub accepted_tie : (c : ℕ) (s : List ℕ) (n : ℕ) → Verdict c s (Text n) → TextTie 8 s
+pub accepted_tie : (c : ℕ) (s : List ℕ) (n : ℕ) → Verdict c s (Ok n) → TextTie 8 s
 accepted_tie c s n v = text_tie 8 s v.0

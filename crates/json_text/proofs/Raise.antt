@@ -13,15 +13,17 @@ use Rattle.json_text.specs.inner.Machine.{Stack, alone, text, arr, obj, Mode, va
 use Rattle.json_text.specs.inner.Machine.{dot, frac, exp, sign, power, Next, live, dead, deep, done, is_hex_digit, is_sign, is_esc, levels, shut, opens, begin}
 use Rattle.json_text.specs.inner.Machine.{ends, expo, point, step, stops, takes, walk}
 use Rattle.json_text.specs.Places.{is_ws}
-use Rattle.json_text.specs.declared.Walked.{Walked}
-use Rattle.json_text.specs.declared.Walked.TheVariants.{End, Bad, Deep}
+use Rattle.json_text.specs.inner.Machine.{Walked}
 use Rattle.json_text.proofs.Opened.{Fits, fits-text, fits-arr, fits-obj}
+use Rattle.json_text.specs.declared.Fault.TheVariants.{Bad, Deep, Many}
+use Rattle.std.specs.Prelude.{Ok, Err}
 
 -- an answer other than Deep
 abbrev pub Flat : Walked → Type 0
-Flat (End i) = Unit
-Flat (Bad i) = Unit
-Flat (Deep i) = ⊥
+Flat (Ok i) = Unit
+Flat (Err (Bad i)) = Unit
+Flat (Err (Deep i)) = ⊥
+Flat (Err (Many i)) = Unit
 
 pub data IsLive : Next → Type 0 where
   is_live : {m : Mode} {k : Stack} → IsLive (live m k)

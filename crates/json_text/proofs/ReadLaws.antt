@@ -10,19 +10,19 @@ use Rattle.json_text.specs.Verdict.{Verdict}
 use Rattle.json_text.specs.inner.Begun.{begun}
 use Rattle.json_text.specs.inner.Machine.{text, value, after, dead, answer, Pass}
 use Rattle.json_text.specs.inner.Tour.{tour, total, resume, spot, Tally}
-use Rattle.json_text.specs.declared.Toured.{Toured}
-use Rattle.json_text.specs.declared.Toured.TheVariants.{End, Bad, Deep, Many}
-use Rattle.json_text.specs.declared.Visited.TheVariants as visits
-use Rattle.json_text.specs.declared.Walked.TheVariants.{End as Ended}
+use Rattle.json_text.specs.inner.Tour.{Toured}
 use Rattle.json_text.proofs.MoveLaws.{whole, trail}
 use Rattle.json_text.proofs.StepLaws.{ws-text}
 use Rattle.json_text.proofs.AroundLaws.{cap-end}
 use Rattle.json_text.proofs.TourLaws.{tour-is, tour-moves, places_halt, spaces}
 use Rattle.json_text.proofs.VerdictLaws.{verdict}
+use Rattle.json_text.specs.declared.Fault.{Fault}
+use Rattle.json_text.specs.declared.Fault.TheVariants.{Bad}
+use Rattle.std.specs.Prelude.{Ok, Err}
 
 module _ (c : ℕ) (s : List ℕ) where
   -- the room left is no more than there was
-  pub tour-room : (e n : ℕ) → tour s 0 value (text 8) c ≡ End e n → n ≤ c
+  pub tour-room : (e n : ℕ) → tour s 0 value (text 8) c ≡ Ok (e, n) → n ≤ c
   unfolding tour
   tour-room e n h = omega (arith, (cap-end c (answer s) (begun s 0 value (text 8)) e n h).1)
 
@@ -34,30 +34,24 @@ module _ (c : ℕ) (s : List ℕ) where
     run : {r' : Toured} → r ≡ r' → tour s 0 value (text 8) c ≡ resume s after (text 8) r'
     run e = v.same (text 8) refl ∙ ap (resume s after (text 8)) e
 
-    pub read-bad : {p : ℕ} → r ≡ Bad p → Verdict c s (visits.Bad p)
-    read-bad {p} e = read_is (Bad p) (run e)
+    pub read-fault : {f : Fault} → r ≡ Err f → Verdict c s (Err f)
+    read-fault {f} e = read_is (Err f) (run e)
 
-    pub read-deep : {p : ℕ} → r ≡ Deep p → Verdict c s (visits.Deep p)
-    read-deep {p} e = read_is (Deep p) (run e)
-
-    pub read-many : {p : ℕ} → r ≡ Many p → Verdict c s (visits.Many p)
-    read-many {p} e = read_is (Many p) (run e)
-
-    pub read-high : {e n : ℕ} → r ≡ End e n → e ≤ length s
+    pub read-high : {e n : ℕ} → r ≡ Ok (e, n) → e ≤ length s
     read-high q = subst (λ (x : Toured). spot x ≤ length s) q v.high
 
-    module _ {e n i : ℕ} (q : r ≡ End e n) (w : Pass is_ws s e i) where
+    module _ {e n i : ℕ} (q : r ≡ Ok (e, n)) (w : Pass is_ws s e i) where
       on : tour s 0 value (text 8) c ≡ tour s i after (text 8) n
       on = run q ∙ spaces s i e after (text 8) n w (λ b h. ws-text b h 8) (λ b h. refl)
 
-      over : length s ≤ i → tour s 0 value (text 8) c ≡ End i n
-      over u = on ∙ tour-is s i after (text 8) n (Ended i) [] (whole s i w.high u) (places_halt s i after (text 8) (omega (arith, w.high)))
+      over : length s ≤ i → tour s 0 value (text 8) c ≡ Ok (i, n)
+      over u = on ∙ tour-is s i after (text 8) n (Ok i) [] (whole s i w.high u) (places_halt s i after (text 8) (omega (arith, w.high)))
 
-      pub read-text : length s ≤ i → Verdict c s (visits.Text (c - n))
-      read-text u = read_is (End i n) (over u)
+      pub read-text : length s ≤ i → Verdict c s (Ok (c - n))
+      read-text u = read_is (Ok (i, n)) (over u)
 
       pub read-room : length s ≤ i → n ≤ c
       read-room u = tour-room i n (over u)
 
-      pub read-trail : i < length s → Verdict c s (visits.Bad i)
-      read-trail h = read_is (Bad i) (on ∙ tour-moves s i after (text 8) n false dead h refl (trail (get_or s i 0) (w.stop h)))
+      pub read-trail : i < length s → Verdict c s (Err (Bad i))
+      read-trail h = read_is (Err (Bad i)) (on ∙ tour-moves s i after (text 8) n false dead h refl (trail (get_or s i 0) (w.stop h)))

@@ -11,14 +11,14 @@ use Rattle.json_text.specs.inner.Machine.{Stack, alone, text, arr, obj, Role, la
 use Rattle.json_text.specs.inner.Machine.{minus, nought, int, dot, frac, exp, sign, power, Next, live, dead, deep, done, is_hex_digit, is_sign, is_esc, due, hexes}
 use Rattle.json_text.specs.inner.Machine.{begin, ends, expo, point, step, over, ended, stops, takes, walk}
 use Rattle.json_text.specs.Places.{is_ws}
-use Rattle.json_text.specs.declared.Walked.{Walked}
-use Rattle.json_text.specs.declared.Walked.TheVariants.{End, Bad, Deep}
+use Rattle.json_text.specs.inner.Machine.{Walked}
+use Rattle.json_text.specs.declared.Fault.TheVariants.{Bad}
+use Rattle.std.specs.Prelude.{Ok, Err}
 
--- whether an answer is End
+-- whether an answer is Ok
 abbrev pub Ends : Walked → Type 0
-Ends (End e) = Unit
-Ends (Bad p) = ⊥
-Ends (Deep p) = ⊥
+Ends (Ok e) = Unit
+Ends (Err f) = ⊥
 
 -- the brackets that close all that is open
 closers : Stack → List ℕ
@@ -144,13 +144,13 @@ pub record Place (bs : List ℕ) (m : Mode) (k : Stack) (i p : ℕ) : Type 0 whe
   pub far : p ≡ i + length before
   pub more : List ℕ
   pub can : Ends (walk (before ++ more) m k i)
-  pub cannot : (b : ℕ) (l : List ℕ) → behind ≡ b ∷ l → (u : List ℕ) → walk (before ++ (b ∷ u)) m k i ≡ Bad p
+  pub cannot : (b : ℕ) (l : List ℕ) → behind ≡ b ∷ l → (u : List ℕ) → walk (before ++ (b ∷ u)) m k i ≡ Err (Bad p)
 
-ended_at : (t : Bool) (i p : ℕ) → ended t i ≡ Bad p → p ≡ i
+ended_at : (t : Bool) (i p : ℕ) → ended t i ≡ Err (Bad p) → p ≡ i
 ended_at true i p q = cc
 ended_at false i p q = cc
 
-stops_at : (m : Mode) (k : Stack) (i p : ℕ) → stops m k i ≡ Bad p → p ≡ i
+stops_at : (m : Mode) (k : Stack) (i p : ℕ) → stops m k i ≡ Err (Bad p) → p ≡ i
 unfolding stops
 stops_at m (alone d) i p q = ended_at (over m) i p q
 stops_at m (text d) i p q = ended_at (over m) i p q
@@ -169,7 +169,7 @@ module _ (b : ℕ) (bs : List ℕ) (m : Mode) (k : Stack) (i p : ℕ) where
         can = goes_on m k i;
         cannot = λ b' l s u.
             on b' u m k i dead (ap (step m k) (cc) ∙ e)
-            ∙ ap Bad (sym q);
+            ∙ ap (λ (p : ℕ). Err (Bad p)) (sym q);
       }
 
   later : (m' : Mode) (k' : Stack) → step m k b ≡ live m' k' → Place bs m' k' (i + 1) p → Place (b ∷ bs) m k i p
@@ -186,14 +186,15 @@ module _ (b : ℕ) (bs : List ℕ) (m : Mode) (k : Stack) (i p : ℕ) where
             ∙ r.cannot b' l s u;
       }
 
-  next : (n : Next) → step m k b ≡ n → takes n (walk bs) i ≡ Bad p → ((m' : Mode) (k' : Stack) → walk bs m' k' (i + 1) ≡ Bad p → Place bs m' k' (i + 1) p) → Place (b ∷ bs) m k i p
+  next : (n : Next) → step m k b ≡ n → takes n (walk bs) i ≡ Err (Bad p) → ((m' : Mode) (k' : Stack) → walk bs m' k' (i + 1) ≡ Err (Bad p) → Place bs m' k' (i + 1) p)
+      → Place (b ∷ bs) m k i p
   next (live m' k') e q ih = later m' k' e (ih m' k' q)
   next dead e q ih = here e (cc)
   next deep e q ih = let z : ◌≡◌ {A = ℕ} 0 1 = cc in absurd (omega arith)
   next done e q ih = let z : ◌≡◌ {A = ℕ} 0 1 = cc in absurd (omega arith)
 
 -- the place of a refusal is the first byte after which no text can go on, or the length
-pub placed : (bs : List ℕ) (m : Mode) (k : Stack) (i p : ℕ) → walk bs m k i ≡ Bad p → Place bs m k i p
+pub placed : (bs : List ℕ) (m : Mode) (k : Stack) (i p : ℕ) → walk bs m k i ≡ Err (Bad p) → Place bs m k i p
 unfolding walk
 placed [] m k i p e =
     let q = stops_at m k i p e in

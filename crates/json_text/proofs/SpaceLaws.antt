@@ -11,7 +11,7 @@ use Rattle.json_text.specs.inner.Landing.{Lands}
 use Rattle.json_text.specs.inner.Machine.{Stack, text, Mode, after, live, dead, ends, step, stops, walk, from, place, Pass}
 use Rattle.json_text.specs.inner.Tour.{cap, tour}
 use Rattle.json_text.specs.Places.{spaces, past, is_ws}
-use Rattle.json_text.specs.declared.Walked.{Walked}
+use Rattle.json_text.specs.inner.Machine.{Walked}
 use lib.ListN.{length, drop, get_or, length-drop}
 use lib.Seq.{drop-drop, get_or-drop}
 use mathlib.Core.Bool.{Bool, true, false, cond}

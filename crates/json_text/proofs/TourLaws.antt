@@ -15,20 +15,20 @@ use lib.Dec.{eqb, ltb}
 use Rattle.octets.specs.Class.{is_digit}
 use Rattle.octets.proofs.TestLaws.{picked, picked-alike}
 use Rattle.json_text.specs.inner.Begun.{begins_value, begins_at, begins, begun}
-use Rattle.json_text.specs.inner.Machine.{Stack, alone, arr, obj, Role, plain, Mode, value, first, name, name₁, after, str, esc, hex, word}
+use Rattle.json_text.specs.inner.Machine.{Stack, alone, arr, obj, Role, plain, Mode, value, first, name₁, after, str, esc, hex, word}
 use Rattle.json_text.specs.inner.Machine.{minus, nought, int, dot, frac, exp, sign, power, Next, live, dead, deep, done, is_hex_digit, is_sign, is_esc, closed, due, hexes}
 use Rattle.json_text.specs.inner.Machine.{begin, ends, expo, point, step, over, takes, walk, levels, from, place, Leaf, Pass, Scalar}
 use Rattle.json_text.specs.inner.Tour.{lift, cap, tour, lone, resume, spot, taken, started, Tally, Calm}
 use Rattle.json_text.specs.Places.{is_ws}
-use Rattle.json_text.specs.declared.Toured.{Toured}
-use Rattle.json_text.specs.declared.Toured.TheVariants.{End, Bad, Deep, Many}
-use Rattle.json_text.specs.declared.Walked.{Walked}
-use Rattle.json_text.specs.declared.Walked.TheVariants.{End as Ended, Bad as Wrong, Deep as Nested}
+use Rattle.json_text.specs.inner.Tour.{Toured}
+use Rattle.json_text.specs.inner.Machine.{Walked}
 use Rattle.json_text.proofs.AroundLaws.{tour-around}
 use Rattle.json_text.proofs.Complete.{begin-on, ws-not}
 use Rattle.json_text.proofs.SpaceLaws.{Passes, Quiet, past-tour, pass_is}
 use Rattle.json_text.proofs.MoveLaws.{goes, moves, short, stops-place, done-alone, from-alone, onward-alone}
 use Rattle.json_text.proofs.StepLaws as laws
+use Rattle.json_text.specs.declared.Fault.TheVariants.{Bad, Deep, Many}
+use Rattle.std.specs.Prelude.{Ok, Err}
 
 -- The places from byte i on, by what byte i does.
 lands : (s : List ℕ) (i : ℕ) (t : Bool) (n : Next) → begins_at t n (begins (drop (suc i) s)) i ≡ begins_at t n (λ m k j. begun s j m k) i
@@ -56,11 +56,11 @@ tour-is s i m k n g l e q = ap (λ (x : Walked). cap n x (begun s i m k)) e ∙ 
 -- what byte i does with room for n
 abbrev pub afterwards : List ℕ → ℕ → ℕ → Bool → Next → Toured
 afterwards s i n false (live m k) = tour s (i + 1) m k n
-afterwards s i zero true (live m k) = Many i
+afterwards s i zero true (live m k) = Err (Many i)
 afterwards s i (suc n) true (live m k) = tour s (i + 1) m k n
-afterwards s i n t dead = Bad i
-afterwards s i n t deep = Deep i
-afterwards s i n t done = End i n
+afterwards s i n t dead = Err (Bad i)
+afterwards s i n t deep = Err (Deep i)
+afterwards s i n t done = Ok (i, n)
 
 after_is : (s : List ℕ) (i n : ℕ) (t : Bool) (x : Next) → cap n (goes s i x) (begins_at t x (λ m k j. begun s j m k) i) ≡ afterwards s i n t x
 unfolding tour
@@ -79,8 +79,8 @@ pub tour-moves : (s : List ℕ) (i : ℕ) (m : Mode) (k : Stack) (n : ℕ) (t : 
 tour-moves s i m k n t x h o e = tour-is s i m k n (goes s i x) _ (moves s i m k x h e) (places_move s i m k t x h o e) ∙ after_is s i n t x
 
 -- the bytes stop
-pub tour-short : (s : List ℕ) (i : ℕ) (m : Mode) (k : Stack) (n : ℕ) → i ≤ length s → length s ≤ i → from s i m k ≡ Wrong i → tour s i m k n ≡ Bad i
-tour-short s i m k n l u e = tour-is s i m k n (Wrong i) [] e (places_halt s i m k (omega arith))
+pub tour-short : (s : List ℕ) (i : ℕ) (m : Mode) (k : Stack) (n : ℕ) → i ≤ length s → length s ≤ i → from s i m k ≡ Err (Bad i) → tour s i m k n ≡ Err (Bad i)
+tour-short s i m k n l u e = tour-is s i m k n (Err (Bad i)) [] e (places_halt s i m k (omega arith))
 
 -- White space that a reader passed over.
 pub spaces : (s : List ℕ) (r a : ℕ) (m : Mode) (k : Stack) (room : ℕ) → Pass is_ws s a r → Passes m k → Quiet m → tour s a m k room ≡ tour s r m k room
@@ -280,9 +280,10 @@ module _ (s : List ℕ) (a : ℕ) (k : Stack) (n : ℕ) (sc : Scalar s a) (r : W
 
   -- it has begun: the reader's answer lies behind
   behind : (x : Walked) → a + 1 ≤ place x → taken a n x ≡ started a n x
-  behind (Ended e) h = refl
-  behind (Wrong p) h = rw (ne_eqb p a (omega arith))
-  behind (Nested p) h = refl
+  behind (Ok e) h = refl
+  behind (Err (Bad p)) h = rw (ne_eqb p a (omega arith))
+  behind (Err (Deep p)) h = refl
+  behind (Err (Many p)) h = refl
 
   taken_is : (m : Mode) → ((c : ℕ) → tour s (a + 1) m (alone d) c ≡ lift r c) → afterwards s a n true (live m (alone d)) ≡ taken a n r
   taken_is m h = go n
@@ -299,45 +300,20 @@ module _ (s : List ℕ) (a : ℕ) (k : Stack) (n : ℕ) (sc : Scalar s a) (r : W
       ∙ taken_is m (λ c. tour-is s (a + 1) m (alone d) c r [] v (begins-none d (drop (a + 1) s) m (a + 1) i))
       ∙ behind r (subst (λ (x : Walked). a + 1 ≤ place x) v (low-from s (a + 1) m (alone d)))
   alone-go x e no_start =
-      let v : Wrong a ≡ r = sym (moves s a value (alone d) dead sc.inside (value-begin ∙ e)) ∙ r-is in
+      let v : Err (Bad a) ≡ r = sym (moves s a value (alone d) dead sc.inside (value-begin ∙ e)) ∙ r-is in
       tour-moves s a value (alone d) n true dead sc.inside (simp sc.no_space) (value-begin ∙ e) ∙ dead-is ∙ ap (started a n) v
     where
-      dead-is : Bad a ≡ started a n (Wrong a)
+      dead-is : Err (Bad a) ≡ started a n (Err (Bad a))
       dead-is = rw (eq-eqb a a refl)
 
   pub scalars : tour s a value k n ≡ resume s after k (started a n r)
   scalars = tour-around s d k refl a n ∙ ap (resume s after k) (alone-go _ refl (starts d (get_or s a 0) sc.no-quote sc.no-array sc.no-object))
-
--- Exits of the readers.
-pub taken_none : (i n : ℕ) (r : Walked) → n ≡ 0 → Many i ≡ taken i n r
-taken_none i n r e = rw e
-
-pub taken-some : (i n : ℕ) (r : Walked) (g : Toured) → (n ≡ 0 → ⊥) → g ≡ lift r (n - 1) → g ≡ taken i n r
-taken-some i zero r g h e = absurd (h refl)
-taken-some i (suc n) r g h e = let z : suc n - 1 ≡ n = omega arith in subst (λ (c : ℕ). g ≡ lift r c) z e
-
-pub stopped-here : (i n p : ℕ) (r : Walked) → r ≡ Wrong p → p ≡ i → Bad p ≡ started i n r
-stopped-here i n p r e h = rw (e, eq-eqb p i h)
-
-pub stopped-later : (i n p : ℕ) (r : Walked) → r ≡ Wrong p → (p ≡ i → ⊥) → taken i n r ≡ started i n r
-stopped-later i n p r e h = rw (e, ne_eqb p i h)
-
-pub not_stopped : (i n : ℕ) (r : Walked) → ((p : ℕ) → r ≡ Wrong p → ⊥) → taken i n r ≡ started i n r
-not_stopped i n (Ended e) h = refl
-not_stopped i n (Wrong p) h = absurd (h p refl)
-not_stopped i n (Nested p) h = refl
 
 pub calm-is : {s : List ℕ} {a : ℕ} {m m' : Mode} {r r' : Walked} → Calm s a m m' r → r ≡ r' → Calm s a m m' r'
 calm-is {s} {a} {m} {m'} l e = subst (λ (x : Walked). Calm s a m m' x) e l
 
 pub tally-is : {s : List ℕ} {a left room : ℕ} {m : Mode} {f : Stack → Stack} {r r' : Toured} → Tally s a left room m f r → r ≡ r' → Tally s a left room m f r'
 tally-is {s} {a} {left} {room} {m} {f} l e = subst (λ (x : Toured). Tally s a left room m f x) e l
-
--- an answer that is no End stays, wherever the machine stands
-pub stays : (r : Walked) (s : List ℕ) (m m' : Mode) (k k' : Stack) (n : ℕ) → ((e : ℕ) → r ≡ Ended e → ⊥) → resume s m k (lift r n) ≡ resume s m' k' (lift r n)
-stays (Ended e) s m m' k k' n h = absurd (h e refl)
-stays (Wrong p) s m m' k k' n h = refl
-stays (Nested p) s m m' k k' n h = refl
 
 pub tour-alike : (s : List ℕ) (i : ℕ) (m m' : Mode) (k : Stack) (n : ℕ) → i < length s → begins_value m (get_or s i 0) ≡ begins_value m' (get_or s i 0)
     → step m k (get_or s i 0) ≡ step m' k (get_or s i 0) → tour s i m k n ≡ tour s i m' k n
@@ -352,16 +328,15 @@ first_alike b w h = simp (w, ne_eqb b 93 h)
 
 -- a byte that begins a string, an array or an object: it is one too many, or it takes room for one
 module _ (s : List ℕ) (i : ℕ) (k k' : Stack) (m' : Mode) (h : i < length s) (w : is_ws (get_or s i 0) ≡ false) (e : step value k (get_or s i 0) ≡ live m' k') where
-  opens-none : tour s i value k 0 ≡ Many i
+  opens-none : tour s i value k 0 ≡ Err (Many i)
   opens-none = tour-moves s i value k 0 true (live m' k') h (simp w) e
 
   pub opens-some : (n : ℕ) → tour s i value k (suc n) ≡ tour s (i + 1) m' k' n
   opens-some n = tour-moves s i value k (suc n) true (live m' k') h (simp w) e
 
 lift-spot : (r : Walked) (n : ℕ) → spot (lift r n) ≡ place r
-lift-spot (Ended e) n = refl
-lift-spot (Wrong p) n = refl
-lift-spot (Nested p) n = refl
+lift-spot (Ok e) n = refl
+lift-spot (Err f) n = refl
 
 -- what holds of the place i and of the reader's holds of the answer's
 module _ (P : ℕ → Type 0) (i n : ℕ) (here : P i) where
@@ -373,9 +348,10 @@ module _ (P : ℕ → Type 0) (i n : ℕ) (here : P i) where
       go (suc c) = subst P (sym (lift-spot r c)) l
 
   started-place : (r : Walked) → P (place r) → P (spot (started i n r))
-  started-place (Ended e) l = taken-place (Ended e) l
-  started-place (Wrong p) l = picked (λ x. P (spot x)) (eqb p i) l (taken-place (Wrong p) l)
-  started-place (Nested p) l = taken-place (Nested p) l
+  started-place (Ok e) l = taken-place (Ok e) l
+  started-place (Err (Bad p)) l = picked (λ x. P (spot x)) (eqb p i) l (taken-place (Err (Bad p)) l)
+  started-place (Err (Deep p)) l = taken-place (Err (Deep p)) l
+  started-place (Err (Many p)) l = taken-place (Err (Many p)) l
 
 text-taken : (s : List ℕ) (i : ℕ) (k : Stack) (n : ℕ) (r : Walked) → i < length s → is_ws (get_or s i 0) ≡ false → step value k (get_or s i 0) ≡ live (str plain) k
     → Leaf s (i + 1) str closed r → tour s i value k n ≡ resume s after k (taken i n r)
@@ -399,7 +375,7 @@ module _ {s : List ℕ} {a i : ℕ} (left n : ℕ) (p : Pass is_ws s a i) where
   to-value : (k : Stack) → tour s a value k n ≡ tour s i value k n
   to-value k = spaces s i a value k n p (laws.ws-value k) (λ b h. ws-not b h)
 
-  pub value-short : length s ≤ i → Tally s a left n value (λ k. k) (Bad i)
+  pub value-short : length s ≤ i → Tally s a left n value (λ k. k) (Err (Bad i))
   value-short u = record { low = p.low; high = p.high; same = λ k d. to-value k ∙ tour-short s i value k n p.high u (short s i value k p.high u refl) }
 
   pub value-text : {r : Walked} {g : Toured} → i < length s → get_or s i 0 ≡ 34 → Leaf s (i + 1) str closed r → g ≡ taken i n r → Tally s a left n value (λ k. k) g
@@ -426,10 +402,10 @@ module _ {s : List ℕ} {a i : ℕ} (left n : ℕ) (p : Pass is_ws s a i) where
 
   -- a bracket
   module _ {m₁ : Mode} {f : Stack → Stack} (h : i < length s) (b : Bracket m₁ f (get_or s i 0)) where
-    pub bracket-deep : left ≡ 0 → Tally s a left n value (λ k. k) (Deep i)
+    pub bracket-deep : left ≡ 0 → Tally s a left n value (λ k. k) (Err (Deep i))
     bracket-deep z = record { low = p.low; high = p.high; same = λ k d. to-value k ∙ tour-moves s i value k n _ deep h refl (b.sinks k (omega arith)) }
 
-    pub bracket-many : (left ≡ 0 → ⊥) → n ≡ 0 → Tally s a left n value (λ k. k) (Many i)
+    pub bracket-many : (left ≡ 0 → ⊥) → n ≡ 0 → Tally s a left n value (λ k. k) (Err (Many i))
     bracket-many z q = record {
       low = p.low;
       high = p.high;
@@ -446,27 +422,6 @@ module _ {s : List ℕ} {a i : ℕ} (left n : ℕ) (p : Pass is_ws s a i) where
           ∙ ap (tour s i value k) o ∙ opens-some s i k (f k) m₁ h (p.stop h) (b.opens k (omega arith)) (n - 1) ∙ t.same k (omega (arith, b.level k));
     }
 
--- an answer that is no End stays
-pub remains : (r : Toured) (s : List ℕ) (m m' : Mode) (k k' : Stack) → ((e n : ℕ) → r ≡ End e n → ⊥) → resume s m k r ≡ resume s m' k' r
-remains (End e n) s m m' k k' h = absurd (h e n refl)
-remains (Bad p) s m m' k k' h = refl
-remains (Deep p) s m m' k k' h = refl
-remains (Many p) s m m' k k' h = refl
-
--- an object whose next name is none
-pub label-stops : {s : List ℕ} {a p : ℕ} {g : Toured} (left room n : ℕ) (r : Walked) → a ≤ p
-    → ((k : Stack) → levels (obj k) ≡ left → tour s a name₁ (obj k) room ≡ tour s p name (obj k) n) → Calm s p name value r → ((e : ℕ) → r ≡ Ended e → ⊥) → g ≡ lift r n
-    → Tally s a left room name₁ obj g
-label-stops {s} {a} {p} {g} left room n r l f c h e =
-    tally-is {r = lift r n}
-    (record {
-      low = omega (arith, lift-spot r n, c.low);
-      high = omega (arith, lift-spot r n, c.high);
-      same = λ k d. f k d ∙ c.same (obj k) n
-          ∙ stays r s value after (obj k) k n h;
-    })
-    (sym e)
-
 -- with nothing around the readers' answer is the machine's
 alone-none : (s : List ℕ) (e d : ℕ) → e ≤ length s → begun s e after (alone d) ≡ []
 alone-none s e d l =
@@ -474,7 +429,5 @@ alone-none s e d l =
     (λ (h : e < length s). places_move s e after (alone d) false done h refl (done-alone d _)) (eq-or-lt_of_le l)
 
 pub alone-stops : (s : List ℕ) (d : ℕ) (r : Toured) → spot r ≤ length s → resume s after (alone d) r ≡ r
-alone-stops s d (End e n) l = tour-is s e after (alone d) n (Ended e) [] (from-alone s e d l) (alone-none s e d l)
-alone-stops s d (Bad p) l = refl
-alone-stops s d (Deep p) l = refl
-alone-stops s d (Many p) l = refl
+alone-stops s d (Ok (e, n)) l = tour-is s e after (alone d) n (Ok e) [] (from-alone s e d l) (alone-none s e d l)
+alone-stops s d (Err f) l = refl

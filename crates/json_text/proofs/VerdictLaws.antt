@@ -18,11 +18,7 @@ use Rattle.json_text.specs.Verdict.{below, before, Few, TooMany, Verdict, Refuse
 use Rattle.json_text.specs.inner.Begun.{begins_value, only, begins_at, begins, begun}
 use Rattle.json_text.specs.inner.Machine.{Stack, text, Mode, value, Next, live, dead, deep, done, step, walk, answer}
 use Rattle.json_text.specs.inner.Tour.{lift, cap, tour, total, visited}
-use Rattle.json_text.specs.declared.Toured.TheVariants.{Many as Beyond}
-use Rattle.json_text.specs.declared.Visited.{Visited}
-use Rattle.json_text.specs.declared.Visited.TheVariants.{Text, Bad, Deep, Many}
-use Rattle.json_text.specs.declared.Walked.{Walked}
-use Rattle.json_text.specs.declared.Walked.TheVariants.{End, Bad as Wrong, Deep as Nested}
+use Rattle.json_text.specs.inner.Machine.{Walked}
 use Rattle.json_text.proofs.Agreement.{deeper, take-one}
 use Rattle.json_text.proofs.AnswerLaws.{Says, says, says-one, beyond, order}
 use Rattle.json_text.proofs.Bound.{bound, agree}
@@ -30,6 +26,9 @@ use Rattle.json_text.proofs.Complete.{complete-places, begin-on, begin-none}
 use Rattle.json_text.proofs.Raise.{raise, raise-text, Up, lives, dies, ended-up, deeps, up_step}
 use Rattle.json_text.proofs.Refusal.{Ends, rest, goes_on, on}
 use Rattle.json_text.proofs.Sound.{sound}
+use Rattle.json_text.specs.declared.Fault.{Fault}
+use Rattle.json_text.specs.declared.Fault.TheVariants.{Bad, Deep, Many}
+use Rattle.std.specs.Prelude.{Result, Ok, Err}
 
 -- Those below a place.
 below-hit : (p x : ℕ) (l : List ℕ) → x < p → below p (x ∷ l) ≡ x ∷ below p l
@@ -120,16 +119,16 @@ module _ (s : List ℕ) where
   number x = sym (agree 8 s x) ∙ ap length (sym (complete-places 8 s x))
 
   same-bad : (p q : ℕ) → Refused 8 s p → Refused 8 s q → p ≡ q
-  same-bad p q a b = let e = says-one s (Wrong p) (Wrong q) a b in cc
+  same-bad p q a b = let e = says-one s (Err (Bad p)) (Err (Bad q)) a b in cc
 
   same-deep : (p q : ℕ) → TooDeep 8 s p → TooDeep 8 s q → p ≡ q
-  same-deep p q a b = let e = says-one s (Nested p) (Nested q) a b in cc
+  same-deep p q a b = let e = says-one s (Err (Deep p)) (Err (Deep q)) a b in cc
 
   not-bad-deep : (p q : ℕ) → Refused 8 s p → TooDeep 8 s q → ⊥
-  not-bad-deep p q a b = let e = says-one s (Wrong p) (Nested q) a b in let z : ◌≡◌ {A = ℕ} 0 1 = cc in omega arith
+  not-bad-deep p q a b = let e = says-one s (Err (Bad p)) (Err (Deep q)) a b in let z : ◌≡◌ {A = ℕ} 0 1 = cc in omega arith
 
   not-text-deep : (p : ℕ) → JsonText 8 s → TooDeep 8 s p → ⊥
-  not-text-deep p x a = let e = says-one s (End (length s)) (Nested p) (x, refl) a in let z : ◌≡◌ {A = ℕ} 0 1 = cc in omega arith
+  not-text-deep p x a = let e = says-one s (Ok (length s)) (Err (Deep p)) (x, refl) a in let z : ◌≡◌ {A = ℕ} 0 1 = cc in omega arith
 
 module _ (c : ℕ) (s : List ℕ) where
   many-one : (p : ℕ) → TooMany c s p → length (below (p + 1) (all s)) ≡ c + 1
@@ -145,7 +144,7 @@ module _ (c : ℕ) (s : List ℕ) where
   no-further : (p q : ℕ) → Few c s p → TooMany c s q → p < q + 1
   no-further p q f t = let h : q < p → ⊥ = λ l. f q l t in omega arith
 
-  text-many : (n p : ℕ) → Verdict c s (Text n) → TooMany c s p → ⊥
+  text-many : (n p : ℕ) → Verdict c s (Ok n) → TooMany c s p → ⊥
   text-many n p (x, (e, l)) t = omega (arith, number s x, many-all p t)
 
   bad-many : (p q : ℕ) → Refused 8 s p → Few c s p → TooMany c s q → ⊥
@@ -164,27 +163,27 @@ module _ (c : ℕ) (s : List ℕ) where
   many-same : (p q : ℕ) → TooMany c s p → TooMany c s q → p ≡ q
   many-same p q t u = order p q (many-less p q t u) (many-less q p u t)
 
-  one-count : (n n' : ℕ) → Verdict c s (Text n) → Verdict c s (Text n') → n ≡ n'
+  one-count : (n n' : ℕ) → Verdict c s (Ok n) → Verdict c s (Ok n') → n ≡ n'
   one-count n n' (x, (e, l)) (x', (e', l')) = omega (arith, number s x, number s x')
 
   -- THEOREM: one text has one verdict under one ceiling, kind, count and place: two answers that the contract of `read` allows are equal
-  pub read-determined : (g g' : Visited) → Verdict c s g → Verdict c s g' → g ≡ g'
-  read-determined (Text n) (Text n') a b = ap Text (one-count n n' a b)
-  read-determined (Text n) (Bad q) a b = absurd (b.0.none_such (8, a.0))
-  read-determined (Text n) (Deep q) a b = absurd (not-text-deep s q a.0 b.0)
-  read-determined (Text n) (Many q) a b = absurd (text-many n q a b)
-  read-determined (Bad p) (Text n) a b = absurd (a.0.none_such (8, b.0))
-  read-determined (Bad p) (Bad q) a b = ap Bad (same-bad s p q a.0 b.0)
-  read-determined (Bad p) (Deep q) a b = absurd (not-bad-deep s p q a.0 b.0)
-  read-determined (Bad p) (Many q) a b = absurd (bad-many p q a.0 a.1 b)
-  read-determined (Deep p) (Text n) a b = absurd (not-text-deep s p b.0 a.0)
-  read-determined (Deep p) (Bad q) a b = absurd (not-bad-deep s q p b.0 a.0)
-  read-determined (Deep p) (Deep q) a b = ap Deep (same-deep s p q a.0 b.0)
-  read-determined (Deep p) (Many q) a b = absurd (deep-many p q a.0 a.1 b)
-  read-determined (Many p) (Text n) a b = absurd (text-many n p b a)
-  read-determined (Many p) (Bad q) a b = absurd (bad-many q p b.0 b.1 a)
-  read-determined (Many p) (Deep q) a b = absurd (deep-many q p b.0 b.1 a)
-  read-determined (Many p) (Many q) a b = ap Many (many-same p q a b)
+  pub read-determined : (g g' : Result ℕ Fault) → Verdict c s g → Verdict c s g' → g ≡ g'
+  read-determined (Ok n) (Ok n') a b = ap Ok (one-count n n' a b)
+  read-determined (Ok n) (Err (Bad q)) a b = absurd (b.0.none_such (8, a.0))
+  read-determined (Ok n) (Err (Deep q)) a b = absurd (not-text-deep s q a.0 b.0)
+  read-determined (Ok n) (Err (Many q)) a b = absurd (text-many n q a b)
+  read-determined (Err (Bad p)) (Ok n) a b = absurd (a.0.none_such (8, b.0))
+  read-determined (Err (Bad p)) (Err (Bad q)) a b = ap (λ (p : ℕ). Err (Bad p)) (same-bad s p q a.0 b.0)
+  read-determined (Err (Bad p)) (Err (Deep q)) a b = absurd (not-bad-deep s p q a.0 b.0)
+  read-determined (Err (Bad p)) (Err (Many q)) a b = absurd (bad-many p q a.0 a.1 b)
+  read-determined (Err (Deep p)) (Ok n) a b = absurd (not-text-deep s p b.0 a.0)
+  read-determined (Err (Deep p)) (Err (Bad q)) a b = absurd (not-bad-deep s q p b.0 a.0)
+  read-determined (Err (Deep p)) (Err (Deep q)) a b = ap (λ (p : ℕ). Err (Deep p)) (same-deep s p q a.0 b.0)
+  read-determined (Err (Deep p)) (Err (Many q)) a b = absurd (deep-many p q a.0 a.1 b)
+  read-determined (Err (Many p)) (Ok n) a b = absurd (text-many n p b a)
+  read-determined (Err (Many p)) (Err (Bad q)) a b = absurd (bad-many q p b.0 b.1 a)
+  read-determined (Err (Many p)) (Err (Deep q)) a b = absurd (deep-many q p b.0 b.1 a)
+  read-determined (Err (Many p)) (Err (Many q)) a b = ap (λ (p : ℕ). Err (Many p)) (many-same p q a b)
 
 -- The machine's answer with room for c, where values begin at l.
 cap-few : (c : ℕ) (g : Walked) (l : List ℕ) → length l ≤ c → cap c g l ≡ lift g (c - length l)
@@ -192,21 +191,19 @@ cap-few c g [] h = let z : c ≡ c - 0 = omega arith in ap (lift g) z
 cap-few zero g (p ∷ l) h = absurd (omega arith)
 cap-few (suc c) g (p ∷ l) h = let z : c - length l ≡ suc c - suc (length l) = omega arith in cap-few c g l (omega arith) ∙ ap (lift g) z
 
-cap-many : (c : ℕ) (g : Walked) (l : List ℕ) → c < length l → cap c g l ≡ Beyond (get_or l c 0)
+cap-many : (c : ℕ) (g : Walked) (l : List ℕ) → c < length l → cap c g l ≡ Err (Many (get_or l c 0))
 cap-many c g [] h = absurd (omega arith)
 cap-many zero g (p ∷ l) h = refl
 cap-many (suc c) g (p ∷ l) h = cap-many c g l (omega arith)
 
 -- its answer without a ceiling, on a text of n values
-abbrev plainly : Walked → ℕ → Visited
-plainly (End e) n = Text n
-plainly (Wrong p) n = Bad p
-plainly (Nested p) n = Deep p
+abbrev plainly : Walked → ℕ → Result ℕ Fault
+plainly (Ok e) n = Ok n
+plainly (Err f) n = Err f
 
 total-lift : (c n : ℕ) (g : Walked) → n ≤ c → total c (lift g (c - n)) ≡ plainly g n
-total-lift c n (End e) h = let z : c - (c - n) ≡ n = omega arith in ap Text z
-total-lift c n (Wrong p) h = refl
-total-lift c n (Nested p) h = refl
+total-lift c n (Ok e) h = let z : c - (c - n) ≡ n = omega arith in ap Ok z
+total-lift c n (Err f) h = refl
 
 -- The machine's answer: value number n of those begun: the bytes up to its first go on to a text.
 record Nth (bs : List ℕ) (m : Mode) (k : Stack) (i n p : ℕ) : Type 0 where
@@ -308,9 +305,10 @@ module _ (c : ℕ) (s : List ℕ) (h : c < length (all s)) where
 
 module _ (c : ℕ) (s : List ℕ) where
   few : (g : Walked) → Says s g → length (all s) ≤ c → Verdict c s (plainly g (length (all s)))
-  few (End e) v h = (v.0, (number s v.0, h))
-  few (Wrong p) v h = (v, λ q l t. omega (arith, many-all c s q t))
-  few (Nested p) v h = (v, λ q l t. omega (arith, many-all c s q t))
+  few (Ok e) v h = (v.0, (number s v.0, h))
+  few (Err (Bad p)) v h = (v, λ q l t. omega (arith, many-all c s q t))
+  few (Err (Deep p)) v h = (v, λ q l t. omega (arith, many-all c s q t))
+  few (Err (Many p)) v h = absurd v
 
   tour-cap : tour s 0 value (text 8) c ≡ cap c (answer s) (all s)
   unfolding tour begun
@@ -327,25 +325,25 @@ module _ (c : ℕ) (s : List ℕ) where
       (either (leb (length (all s)) c))
 
   -- so whoever is told the verdict knows the machine's answer
-  pub verdict-answer : (g : Visited) → Verdict c s g → g ≡ visited c s
+  pub verdict-answer : (g : Result ℕ Fault) → Verdict c s g → g ≡ visited c s
   verdict-answer g v = read-determined c s g (visited c s) v verdict
 
   -- THEOREM: every text has one verdict under one ceiling: there is one, and no other
-  pub one-verdict : (g : Visited) × (Verdict c s g × ((g' : Visited) → Verdict c s g' → g' ≡ g))
+  pub one-verdict : (g : Result ℕ Fault) × (Verdict c s g × ((g' : Result ℕ Fault) → Verdict c s g' → g' ≡ g))
   one-verdict = (visited c s, (verdict, verdict-answer))
 
   -- a text under a ceiling is one without, and every derivation has its count
-  pub text-ends : {n : ℕ} → visited c s ≡ Text n → answer s ≡ End (length s)
-  text-ends e = sym (says-one s (End (length s)) (answer s) ((subst (Verdict c s) e verdict).0, refl) (says s))
+  pub text-ends : {n : ℕ} → visited c s ≡ Ok n → answer s ≡ Ok (length s)
+  text-ends e = sym (says-one s (Ok (length s)) (answer s) ((subst (Verdict c s) e verdict).0, refl) (says s))
 
-  pub text-counts : {n : ℕ} → visited c s ≡ Text n → (x : JsonText 8 s) → n ≡ count 8 s x
+  pub text-counts : {n : ℕ} → visited c s ≡ Ok n → (x : JsonText 8 s) → n ≡ count 8 s x
   text-counts e x = let v = subst (Verdict c s) e verdict in omega (arith, v.1.0, number s v.0, number s x)
 
   -- what the machine takes to its end without a ceiling, it does under one of half the bytes
-  pub ends-within : {e : ℕ} → answer s ≡ End e → length s ≤ 2 * c → (n : ℕ) × (visited c s ≡ Text n)
+  pub ends-within : {e : ℕ} → answer s ≡ Ok e → length s ≤ 2 * c → (n : ℕ) × (visited c s ≡ Ok n)
   ends-within e h =
       let x = (subst (Says s) e (says s)).0 in
-      (count 8 s x, sym (verdict-answer (Text (count 8 s x)) (x, (refl, omega (arith, bound 8 s x)))))
+      (count 8 s x, sym (verdict-answer (Ok (count 8 s x)) (x, (refl, omega (arith, bound 8 s x)))))
 
   -- THEOREM: no JSON text of at most twice c bytes, however deep, has a value too many under a ceiling of c
   pub never-many : (p : ℕ) → Json s → length s ≤ 2 * c → TooMany c s p → ⊥

@@ -1,10 +1,10 @@
 -- What the public reader's answer says of a text under a ceiling of values, in the words of RFC 7159's grammar alone: its contract in `src/lib.rt` cites
 -- `Verdict`. 01 Reading, rows 4 and 5; 02 §9, row 11. Assumes nothing.
-use Rattle.std.specs.Prelude.{cond, List, [], ◌∷◌, ◌++◌, ◌≡◌, ℕ, ◌+◌, ◌≤◌, ◌<◌, ltb, length, take}
+use Rattle.std.specs.Prelude.{cond, List, [], ◌∷◌, ◌++◌, ◌≡◌, ℕ, ◌+◌, ◌≤◌, ◌<◌, ltb, length, take, Result, Ok, Err}
 use Rattle.json_text.specs.Rfc7159.{JSON-text, JSON}
 use Rattle.json_text.specs.Values.{count, places}
-use Rattle.json_text.specs.declared.Visited.{Visited}
-use Rattle.json_text.specs.declared.Visited.TheVariants.{Text, Bad, Deep, Many}
+use Rattle.json_text.specs.declared.Fault.{Fault}
+use Rattle.json_text.specs.declared.Fault.TheVariants.{Bad, Deep, Many}
 
 -- s is refused at p (number 4): the bytes before p begin a text nested at most d deep; with the byte at p, if s has one there, no text goes on,
 -- however deep; and s is none
@@ -49,8 +49,8 @@ Few c s p = (q : ℕ) → q < p → TooMany c s q → ⊥
 
 -- what an answer says of s under a ceiling of c: a text nested at most eight deep, with so many values, no more than the ceiling; or refused at a place, or
 -- too deep at one, before which no value is too many; or a value too many at one. So at one place 5 comes before 11, and 4 and 11 never meet.
-abbrev pub Verdict : ℕ → List ℕ → Visited → Type 0
-Verdict c s (Text n) = (x : JSON-text 8 s) × ((count 8 s x ≡ n) × (n ≤ c))
-Verdict c s (Bad p) = Refused 8 s p × Few c s p
-Verdict c s (Deep p) = TooDeep 8 s p × Few c s p
-Verdict c s (Many p) = TooMany c s p
+abbrev pub Verdict : ℕ → List ℕ → Result ℕ Fault → Type 0
+Verdict c s (Ok n) = (x : JSON-text 8 s) × ((count 8 s x ≡ n) × (n ≤ c))
+Verdict c s (Err (Bad p)) = Refused 8 s p × Few c s p
+Verdict c s (Err (Deep p)) = TooDeep 8 s p × Few c s p
+Verdict c s (Err (Many p)) = TooMany c s p

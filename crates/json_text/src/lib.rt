@@ -19,50 +19,24 @@ use spaces::past_spaces;
 pub use spaces::skip;
 use values::value;
 
-// The answer of the readers of strings, literals, numbers and names: the place behind what it read; or the byte at which no text goes
-// on. Deep, a bracket that opens a level too many, is the machine's alone: nothing nests in these.
-#[derive(Drop)]
-pub enum Walked {
-    End(usize),
-    Bad(usize),
-    Deep(usize),
-}
-
-// The answer of a reader of values with room for so many: the place behind what it read, and the room left; or a place as above; or
-// the first byte of the first value too many.
-#[derive(Drop)]
-pub enum Toured {
-    End(usize, usize),
+// Why bytes are no text, and where: the first byte with which no text goes on, or the length where they only stop short; the bracket that
+// opens a level too many; or the first byte of the first value too many.
+#[derive(Clone, Copy, Debug, PartialEq, Eq)]
+pub enum Fault {
     Bad(usize),
     Deep(usize),
     Many(usize),
 }
 
-// The answer on a whole text: how many values it has; or a place as above.
-#[derive(Drop)]
-pub enum Visited {
-    Text(usize),
-    Bad(usize),
-    Deep(usize),
-    Many(usize),
-}
-
-// Reads a whole text under a ceiling of values (02 §9): Text with the number of its values; or Bad with the first byte at which it can
-// be no JSON text, or with its length where it only stops short; or Deep with the bracket that opens a ninth level; or Many with the
-// first byte of the first value past the ceiling. The earliest place answers, and Deep before Many at one place.
-pub fn read(s: &[u8], ceiling: usize) -> Visited
+// Reads a whole text under a ceiling of values (02 §9), and answers how many it has. The earliest fault answers, and Deep, which is a ninth
+// level, before Many at one place.
+pub fn read(s: &[u8], ceiling: usize) -> Result<usize, Fault>
     ensures { Verdict ceiling s.now result }
 {
-    match value(s, 0, 8, ceiling) {
-        Toured::End(e, room) => {
-            let i = past_spaces(s, e);
-            if s.len() <= i {
-                return Visited::Text(ceiling - room);
-            }
-            Visited::Bad(i)
-        }
-        Toured::Bad(p) => Visited::Bad(p),
-        Toured::Deep(p) => Visited::Deep(p),
-        Toured::Many(p) => Visited::Many(p),
+    let (e, room) = value(s, 0, 8, ceiling)?;
+    let i = past_spaces(s, e);
+    if i < s.len() {
+        return Err(Fault::Bad(i));
     }
+    Ok(ceiling - room)
 }

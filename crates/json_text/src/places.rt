@@ -1,36 +1,40 @@
 // Where things stand in a text: values, members, elements. Any bytes and any place will
 // do, so nobody has to know that a text is JSON to walk it; a walk passes each byte once.
 ghost use Rattle.std.specs.Prelude.{◌≡◌, ◌+◌, ◌≤◌, ◌<◌, drop, length};
-ghost use Rattle.json_text.specs.Places.{behind, bytes, closing, follows, is_mark, is_open, is_shut, left, next, outside, part, past, quoted, raw, unmarked, value_of};
+ghost use Rattle.json_text.specs.Places.{behind, bytes, closing, is_mark, is_open, is_shut, left, next, outside, part, past, quoted, raw, unmarked};
 ghost use Rattle.json_text.specs.inner.Landing.{Cell, Lands, Row};
 
 use crate::spaces::{is_space, skip};
 use crate::strings::plain_of_32;
-use octets::or;
+use octets::past;
 
 // A bracket that opens.
+#[tactic(auto, unfolding(crate::specs::Places::is_open))]
 fn is_open(b: u8) -> bool
     ensures { result ≡ is_open b }
 {
-    or(b == b'[', b == b'{')
+    matches!(b, b'[' | b'{')
 }
 
 // A bracket that closes.
+#[tactic(auto, unfolding(crate::specs::Places::is_shut))]
 fn is_shut(b: u8) -> bool
     ensures { result ≡ is_shut b }
 {
-    or(b == b']', b == b'}')
+    matches!(b, b']' | b'}')
 }
 
 // What ends a number or a literal.
+#[tactic(auto, unfolding(crate::specs::Places::is_mark))]
 fn is_mark(b: u8) -> bool
     ensures { result ≡ is_mark b }
 {
-    or(is_space(b), or(b == b',', is_shut(b)))
+    is_space(b) || b == b',' || is_shut(b)
 }
 
 // Behind the string of which a is the first byte after its opening quote, or any later one that stands
-// outside an escape: byte by byte.
+// outside an escape: byte by byte. The place is counted here and in the two loops below, since a turn
+// passes one byte, two, a run or a string.
 fn string_tail(s: &[u8], a: usize) -> usize
     requires { a ≤ length s.now }
     ensures { (result ≡ a + left (drop a s.now) quoted 0) × (a ≤ result) × (result ≤ length s.now) }
@@ -115,14 +119,7 @@ fn plain_end(s: &[u8], a: usize) -> usize
     requires { a ≤ length s.now }
     ensures { (result ≡ a + unmarked (drop a s.now)) × (a ≤ result) × (result ≤ length s.now) }
 {
-    let mut i = a;
-    while i < s.len() {
-        if is_mark(s[i]) {
-            return i;
-        }
-        i += 1;
-    }
-    i
+    past(s, a, |b| !is_mark(b))
 }
 
 // Behind the value that begins at a.

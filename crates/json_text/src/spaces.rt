@@ -4,27 +4,23 @@ ghost use Rattle.json_text.specs.Places.{is_ws, past};
 ghost use Rattle.json_text.specs.inner.Landing.{Lands};
 ghost use Rattle.json_text.specs.inner.Machine.{Pass};
 
-use octets::or;
+use octets::past;
 
+#[tactic(auto, unfolding(crate::specs::Places::is_ws))]
 pub fn is_space(b: u8) -> bool
     ensures { result ≡ is_ws b }
 {
-    or(b == b' ', or(b == b'\t', or(b == b'\n', b == b'\r')))
+    matches!(b, b' ' | b'\t' | b'\n' | b'\r')
 }
 
 // Past the white space at a.
 pub fn skip(s: &[u8], a: usize) -> usize
     ensures { Lands s.now a (past s.now a) result }
 {
-    let mut i = a;
-    while i < s.len() {
-        if is_space(s[i]) {
-            i += 1;
-        } else {
-            return i;
-        }
+    if s.len() <= a {
+        return a;
     }
-    i
+    past(s, a, |b| is_space(b))
 }
 
 // The same, as the machine has it.

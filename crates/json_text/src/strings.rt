@@ -3,78 +3,65 @@ ghost use Rattle.std.specs.Prelude.{◌≡◌, ◌+◌, ◌≤◌, length};
 ghost use Rattle.json_text.specs.inner.Machine.{Leaf, Pass, closed, esc, hexes, is_esc, is_hex_digit, is_plain, str};
 ghost use Rattle.json_text.specs.inner.Runs.{Run, least, rank};
 
-use crate::Walked;
-use octets::{among, and, is_digit, or};
+use crate::Fault;
+use octets::{among, is_digit, past};
 
+#[tactic(auto, unfolding(crate::specs::inner::Machine::is_hex_digit))]
 fn is_hex_digit(b: u8) -> bool
     ensures { result ≡ is_hex_digit b }
 {
-    or(is_digit(b), or(among(b'A', b'F', b), among(b'a', b'f', b)))
+    is_digit(b) || among(b'A', b'F', b) || among(b'a', b'f', b)
 }
 
 // What may follow a backslash, u aside.
+#[tactic(auto, unfolding(crate::specs::inner::Machine::is_esc))]
 fn is_escaped(b: u8) -> bool
     ensures { result ≡ is_esc b }
 {
-    or(
-        b == b'"',
-        or(
-            b == b'\\',
-            or(
-                b == b'/',
-                or(
-                    b == b'b',
-                    or(b == b'f', or(b == b'n', or(b == b'r', b == b't'))),
-                ),
-            ),
-        ),
-    )
+    matches!(b, b'"' | b'\\' | b'/' | b'b' | b'f' | b'n' | b'r' | b't')
 }
 
 // Four hex digits.
-fn four_hex(s: &[u8], at: usize) -> Walked
+fn four_hex(s: &[u8], at: usize) -> Result<usize, Fault>
     requires { at ≤ length s.now }
     ensures { Leaf s.now at (λ w. hexes w 4) str result }
 {
-    let mut i = at;
-    let mut n: usize = 4;
-    while 0 < n {
+    for n in 0..4 {
+        let i = at + n;
         if s.len() <= i {
-            return Walked::Bad(i);
+            return Err(Fault::Bad(i));
         }
-        if is_hex_digit(s[i]) {
-            i += 1;
-            n -= 1;
-        } else {
-            return Walked::Bad(i);
+        if !is_hex_digit(s[i]) {
+            return Err(Fault::Bad(i));
         }
     }
-    Walked::End(i)
+    Ok(at + 4)
 }
 
 // What follows a backslash.
-fn escaped(s: &[u8], at: usize) -> Walked
+fn escaped(s: &[u8], at: usize) -> Result<usize, Fault>
     requires { at ≤ length s.now }
     ensures { Leaf s.now at esc str result }
 {
     if s.len() <= at {
-        return Walked::Bad(at);
+        return Err(Fault::Bad(at));
     }
     let b = s[at];
     if is_escaped(b) {
-        return Walked::End(at + 1);
+        return Ok(at + 1);
     }
     if b == b'u' {
         return four_hex(s, at + 1);
     }
-    Walked::Bad(at)
+    Err(Fault::Bad(at))
 }
 
 // Whether b stands for itself in a string.
+#[tactic(auto, unfolding(crate::specs::inner::Machine::is_plain))]
 fn is_plain(b: u8) -> bool
     ensures { result ≡ is_plain b }
 {
-    and(b != b'"', and(b != b'\\', 32 <= b))
+    (b != b'"') & (b != b'\\') & (32 <= b)
 }
 
 // 32 where b stands for itself, else k.
@@ -103,7 +90,8 @@ pub fn plain_of_32(s: &[u8], at: usize) -> u8
     m
 }
 
-// The first byte from `at` on that does not stand for itself, or the length.
+// The first byte from `at` on that does not stand for itself, or the length. The place is counted, since the last run may pass fewer
+// than 32.
 fn past_plain(s: &[u8], at: usize) -> usize
     requires { at ≤ length s.now }
     ensures { Pass is_plain s.now at result }
@@ -116,18 +104,11 @@ fn past_plain(s: &[u8], at: usize) -> usize
             return i;
         }
     }
-    while i < s.len() {
-        if is_plain(s[i]) {
-            i += 1;
-        } else {
-            return i;
-        }
-    }
-    i
+    past(s, i, |b| is_plain(b))
 }
 
 // A string, from behind its opening quote.
-pub fn string(s: &[u8], at: usize) -> Walked
+pub fn string(s: &[u8], at: usize) -> Result<usize, Fault>
     requires { at ≤ length s.now }
     ensures { Leaf s.now at str closed result }
 {
@@ -135,19 +116,15 @@ pub fn string(s: &[u8], at: usize) -> Walked
     loop {
         let j = past_plain(s, i);
         if s.len() <= j {
-            return Walked::Bad(j);
+            return Err(Fault::Bad(j));
         }
         let b = s[j];
         if b == b'"' {
-            return Walked::End(j + 1);
+            return Ok(j + 1);
         }
         if b != b'\\' {
-            return Walked::Bad(j);
+            return Err(Fault::Bad(j));
         }
-        let r = escaped(s, j + 1);
-        let Walked::End(e) = r else {
-            return r;
-        };
-        i = e;
+        i = escaped(s, j + 1)?;
     }
 }

@@ -2,78 +2,59 @@
 // that opens, and the bytes left fall. Elements and members are read by loops, so that the stack grows with the nesting alone.
 ghost use Rattle.std.specs.Prelude.{◌≡◌, ◌≤◌, length};
 ghost use Rattle.json_text.specs.inner.Machine.{Leaf, Scalar, after, arr, first, name, name₁, obj, value};
-ghost use Rattle.json_text.specs.inner.Tour.{Calm, Tally, lift, started, taken};
+ghost use Rattle.json_text.specs.inner.Tour.{Calm, Tally, started, taken};
 
+use crate::Fault;
 use crate::literals::literal;
 use crate::numbers::unsigned;
 use crate::spaces::past_spaces;
 use crate::strings::string;
-use crate::{Toured, Walked};
-
-// What a reader that began no value answered, with the room as it was.
-fn lifted(r: Walked, room: usize) -> Toured
-    ensures { result ≡ lift r room }
-{
-    match r {
-        Walked::End(e) => Toured::End(e, room),
-        Walked::Bad(p) => Toured::Bad(p),
-        Walked::Deep(p) => Toured::Deep(p),
-    }
-}
 
 // A value began at i, and its reader answered r.
-fn taking(r: Walked, i: usize, room: usize) -> Toured
+fn taking(r: Result<usize, Fault>, i: usize, room: usize) -> Result<(usize, usize), Fault>
     ensures { result ≡ taken i room r }
 {
     if room == 0 {
-        return Toured::Many(i);
+        return Err(Fault::Many(i));
     }
-    lifted(r, room - 1)
+    Ok((r?, room - 1))
 }
 
 // The same of a literal or a number, which may have begun none: then its reader stopped at i.
-fn starting(r: Walked, i: usize, room: usize) -> Toured
+fn starting(r: Result<usize, Fault>, i: usize, room: usize) -> Result<(usize, usize), Fault>
     ensures { result ≡ started i room r }
 {
     match r {
-        Walked::Bad(p) => {
-            if p == i {
-                return Toured::Bad(p);
-            }
-            taking(r, i, room)
-        }
+        Err(Fault::Bad(p)) if p == i => Err(Fault::Bad(p)),
         _ => taking(r, i, room),
     }
 }
 
 // A member's name and the colon after it.
-fn label(s: &[u8], at: usize) -> Walked
+fn label(s: &[u8], at: usize) -> Result<usize, Fault>
     requires { at ≤ length s.now }
     ensures { Calm s.now at name value result }
 {
     let i = past_spaces(s, at);
     if s.len() <= i {
-        return Walked::Bad(i);
+        return Err(Fault::Bad(i));
     }
     if s[i] != b'"' {
-        return Walked::Bad(i);
+        return Err(Fault::Bad(i));
     }
-    let r = string(s, i + 1);
-    let Walked::End(e) = r else {
-        return r;
-    };
+    let e = string(s, i + 1)?;
     let j = past_spaces(s, e);
     if s.len() <= j {
-        return Walked::Bad(j);
+        return Err(Fault::Bad(j));
     }
     if s[j] == b':' {
-        return Walked::End(j + 1);
+        return Ok(j + 1);
     }
-    Walked::Bad(j)
+    Err(Fault::Bad(j))
 }
 
 // A literal name or a number; or what starts no value.
-fn scalar(s: &[u8], at: usize) -> Walked
+fn scalar(s: &[u8], at: usize) -> Result<usize, Fault>
     requires { Scalar s.now at }
     ensures { Leaf s.now at (λ _. value) (λ _. after) result }
 {
@@ -96,13 +77,13 @@ fn scalar(s: &[u8], at: usize) -> Walked
 
 // A value, with `left` levels left to open.
 #[cycle(array_object_value)]
-pub fn value(s: &[u8], at: usize, left: usize, room: usize) -> Toured
+pub fn value(s: &[u8], at: usize, left: usize, room: usize) -> Result<(usize, usize), Fault>
     requires { at ≤ length s.now }
     ensures { Tally s.now at left room value (λ k. k) result }
 {
     let i = past_spaces(s, at);
     if s.len() <= i {
-        return Toured::Bad(i);
+        return Err(Fault::Bad(i));
     }
     let b = s[i];
     if b == b'"' {
@@ -110,19 +91,19 @@ pub fn value(s: &[u8], at: usize, left: usize, room: usize) -> Toured
     }
     if b == b'[' {
         if left == 0 {
-            return Toured::Deep(i);
+            return Err(Fault::Deep(i));
         }
         if room == 0 {
-            return Toured::Many(i);
+            return Err(Fault::Many(i));
         }
         return array(s, i + 1, left - 1, room - 1);
     }
     if b == b'{' {
         if left == 0 {
-            return Toured::Deep(i);
+            return Err(Fault::Deep(i));
         }
         if room == 0 {
-            return Toured::Many(i);
+            return Err(Fault::Many(i));
         }
         return object(s, i + 1, left - 1, room - 1);
     }
@@ -131,34 +112,31 @@ pub fn value(s: &[u8], at: usize, left: usize, room: usize) -> Toured
 
 // An array, from behind its bracket, which is open.
 #[cycle(array_object_value)]
-fn array(s: &[u8], at: usize, left: usize, room: usize) -> Toured
+fn array(s: &[u8], at: usize, left: usize, room: usize) -> Result<(usize, usize), Fault>
     requires { at ≤ length s.now }
     ensures { Tally s.now at left room first arr result }
 {
     let i = past_spaces(s, at);
     if s.len() <= i {
-        return Toured::Bad(i);
+        return Err(Fault::Bad(i));
     }
     if s[i] == b']' {
-        return Toured::End(i + 1, room);
+        return Ok((i + 1, room));
     }
     let mut p = i;
     let mut n = room;
     loop {
-        let r = value(s, p, left, n);
-        let Toured::End(e, c) = r else {
-            return r;
-        };
+        let (e, c) = value(s, p, left, n)?;
         let j = past_spaces(s, e);
         if s.len() <= j {
-            return Toured::Bad(j);
+            return Err(Fault::Bad(j));
         }
         let b = s[j];
         if b == b']' {
-            return Toured::End(j + 1, c);
+            return Ok((j + 1, c));
         }
         if b != b',' {
-            return Toured::Bad(j);
+            return Err(Fault::Bad(j));
         }
         p = j + 1;
         n = c;
@@ -167,38 +145,32 @@ fn array(s: &[u8], at: usize, left: usize, room: usize) -> Toured
 
 // An object, from behind its bracket, which is open.
 #[cycle(array_object_value)]
-fn object(s: &[u8], at: usize, left: usize, room: usize) -> Toured
+fn object(s: &[u8], at: usize, left: usize, room: usize) -> Result<(usize, usize), Fault>
     requires { at ≤ length s.now }
     ensures { Tally s.now at left room name₁ obj result }
 {
     let i = past_spaces(s, at);
     if s.len() <= i {
-        return Toured::Bad(i);
+        return Err(Fault::Bad(i));
     }
     if s[i] == b'}' {
-        return Toured::End(i + 1, room);
+        return Ok((i + 1, room));
     }
     let mut p = i;
     let mut n = room;
     loop {
-        let m = label(s, p);
-        let Walked::End(a) = m else {
-            return lifted(m, n);
-        };
-        let r = value(s, a, left, n);
-        let Toured::End(e, c) = r else {
-            return r;
-        };
+        let a = label(s, p)?;
+        let (e, c) = value(s, a, left, n)?;
         let j = past_spaces(s, e);
         if s.len() <= j {
-            return Toured::Bad(j);
+            return Err(Fault::Bad(j));
         }
         let b = s[j];
         if b == b'}' {
-            return Toured::End(j + 1, c);
+            return Ok((j + 1, c));
         }
         if b != b',' {
-            return Toured::Bad(j);
+            return Err(Fault::Bad(j));
         }
         p = j + 1;
         n = c;

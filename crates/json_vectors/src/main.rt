@@ -2,20 +2,16 @@
 // `ok COUNT`, `no 4 PLACE`, `no 5 PLACE` or `no 11 PLACE`. A text has 1,024 bytes at most, all lines 65,536.
 #![tactic(auto)]
 
-ghost use Rattle.std.specs.Prelude.{◌≤◌};
-
-use json_text::Visited;
-use octets::Spelt;
+use json_text::Fault;
 use std::io;
 
-// Puts the text that a line of hex stands for into `text`, and answers its length; a line that is too long stands for none.
-fn decoded(line: &[u8], text: &mut [u8; 1024]) -> usize
-    ensures { result ≤ 1024 }
-{
-    if 2048 < line.len() {
-        return 0;
+// The text that a word of hex stands for, put into `room`; a word that is too long stands for none.
+fn decoded<'a>(word: &[u8], room: &'a mut [u8; 1024]) -> &'a [u8] {
+    if 2048 < word.len() {
+        return b"";
     }
-    hex_text::decode(text, line)
+    let n = hex_text::decode(room, word);
+    &room[..n]
 }
 
 fn say(rt: &impl Print, start: &[u8], n: usize) -> io::Result<()> {
@@ -23,47 +19,28 @@ fn say(rt: &impl Print, start: &[u8], n: usize) -> io::Result<()> {
     println!(rt; "{n}")
 }
 
-// Reads the first n bytes as a text under a ceiling, and writes the answer's line.
-fn answer(rt: &impl Print, text: &[u8; 1024], n: usize, ceiling: usize) -> io::Result<()>
-    requires { n ≤ 1024 }
-{
-    let s: &[u8] = text;
-    match json_text::read(&s[0..n], ceiling) {
-        Visited::Text(count) => say(rt, b"ok ", count),
-        Visited::Bad(p) => say(rt, b"no 4 ", p),
-        Visited::Deep(p) => say(rt, b"no 5 ", p),
-        Visited::Many(p) => say(rt, b"no 11 ", p),
+// Reads a text under a ceiling, and writes the answer's line.
+fn answer(rt: &impl Print, text: &[u8], ceiling: usize) -> io::Result<()> {
+    match json_text::read(text, ceiling) {
+        Ok(count) => say(rt, b"ok ", count),
+        Err(Fault::Bad(p)) => say(rt, b"no 4 ", p),
+        Err(Fault::Deep(p)) => say(rt, b"no 5 ", p),
+        Err(Fault::Many(p)) => say(rt, b"no 11 ", p),
     }
 }
 
 // A ceiling; 0 for what is no number.
 fn ceiling_of(word: &[u8]) -> usize {
-    match octets::decimal(word) {
-        Spelt::Value(n) => n as usize,
-        Spelt::Other => 0,
-    }
+    octets::decimal(word).map_or(0, |n| n as usize)
 }
 
 // A line: its first word, and what stands behind the space.
-fn line(rt: &impl Print, s: &[u8], text: &mut [u8; 1024]) -> io::Result<()> {
-    let gap = octets::find(s, 0, 32);
-    if gap < s.len() {
-        let from = gap + 1;
-        let n = decoded(&s[from..], text);
-        return answer(rt, text, n, ceiling_of(&s[0..gap]));
+fn line(rt: &impl Print, s: &[u8]) -> io::Result<()> {
+    let mut room = [0u8; 1024];
+    match s.iter().position(|b| *b == b' ') {
+        Some(gap) => answer(rt, decoded(&s[gap + 1..], &mut room), ceiling_of(&s[..gap])),
+        None => Ok(()),
     }
-    Ok(())
-}
-
-fn lines(rt: &impl Print, s: &[u8]) -> io::Result<()> {
-    let mut text = [0u8; 1024];
-    let mut from: usize = 0;
-    while from < s.len() {
-        let e = octets::find(s, from, 10);
-        line(rt, &s[from..e], &mut text)?;
-        from = e + 1;
-    }
-    Ok(())
 }
 
 fn main(rt: HostRuntime) -> io::Result<()> {
@@ -74,5 +51,8 @@ fn main(rt: HostRuntime) -> io::Result<()> {
         &mut buf,
         b"json_vectors: standard input",
     );
-    lines(&rt, &buf[..n])
+    for text in buf[..n].split(|b| *b == b'\n') {
+        line(&rt, text)?;
+    }
+    Ok(())
 }

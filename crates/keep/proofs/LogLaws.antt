@@ -1,7 +1,8 @@
 -- What a line does, by each case of what it says, and that its answer's line always has room. Assumes nothing.
+use Rattle.answers.specs.Answer.{Answer}
+use Rattle.std.proofs.Common.{Result, Err}
+use Rattle.std.specs.Result.{result_unwrap_or}
 use Prim.Native.Nat.{ℕ, ◌+◌, ◌-◌, ◌≤◌, ◌<◌}
-use Rattle.answers.specs.declared.Answer.TheVariants.{Refused}
-use Rattle.answers.specs.declared.Answer.{Answer}
 use Rattle.answers.specs.declared.Refusal.TheVariants.{Reading}
 use Rattle.keeper.specs.Keeping.{on_message, on_tick}
 use Rattle.message.specs.Reading.{ample}
@@ -10,8 +11,7 @@ use Rattle.lines.proofs.Cutting.{short}
 use Rattle.lines.proofs.LineLaws.{Places, of_long, of_message, of_tick, places}
 use Rattle.lines.proofs.WritingLaws.{wrote}
 use Rattle.lines.specs.Program.{after_writing, answer_line, bad_line, line_of, said, said_by, wrote_at}
-use Rattle.lines.specs.declared.answering.Wrote.TheVariants.{End, NoRoom}
-use Rattle.lines.specs.declared.answering.Wrote.{Wrote}
+use Rattle.lines.specs.declared.answering.NoRoom.{NoRoom}
 use Rattle.lines.specs.declared.reading.Line.TheVariants.{Bad, Long, Message, Tick}
 use Rattle.lines.specs.declared.reading.Line.{Line}
 use Rattle.octets.proofs.ClassLaws.{in_among}
@@ -23,7 +23,7 @@ use lib.ListN.{drop, length, length-drop, take}
 use lib.Seq.{take_all}
 use mathlib.Core.Bool.{true}
 use mathlib.Core.List.{List}
-use mathlib.Core.Path.{◌≡◌, refl, subst, sym, ◌∙◌}
+use mathlib.Core.Path.{◌≡◌, ap, refl, subst, sym, ◌∙◌}
 use native.Mathlib.Omega.{arith}
 
 -- Where a line's parts stand.
@@ -40,20 +40,12 @@ message-at l n v e = of_message (subst (λ (r : Line). Places l r) e (places l))
 pub part-short : (l : List ℕ) (n : ℕ) → n ≤ 20 → length (take (n - 0) l) ≤ 20
 part-short l n h = let z : n - 0 ≡ n = omega arith in rw z (let k = short n l in omega arith)
 
--- Writing a line w that has room.
-module _ (o : List ℕ) (at : ℕ) (w : List ℕ) (room : at + length w ≤ length o) (r : Wrote) {o' : List ℕ} (is : (r ≡ wrote_at o at w) × (o' ≡ after_writing o at w)) where
-  pub put-end : (e : ℕ) → r ≡ End e → (e ≡ at + length w) × (o' ≡ splice o at w)
-  put-end e q =
-      let k = wrote o at w room in
-      let z : End e ≡ End (at + length w) = sym q ∙ is.0 ∙ sym k.0 in
-      (cc, is.1 ∙ sym k.1)
-
-  pub put-none : r ≡ NoRoom → ⊥
-  put-none q =
-      let k = wrote o at w room in
-      let y : NoRoom ≡ End (at + length w) = sym q ∙ is.0 ∙ sym k.0 in
-      let z : ◌≡◌ {A = ℕ} 0 1 = cc in
-      omega arith
+-- Writing a line w that has room, by what `unwrap_or` then gives.
+pub put-end : (o : List ℕ) (at : ℕ) (w : List ℕ) → at + length w ≤ length o → (r : Result ℕ NoRoom) (d : ℕ) {o' : List ℕ} → (r ≡ wrote_at o at w) × (o' ≡ after_writing o at w)
+    → (result_unwrap_or r d ≡ at + length w) × (o' ≡ splice o at w)
+put-end o at w room r d is =
+    let k = wrote o at w room in
+    (ap (λ (x : Result ℕ NoRoom). result_unwrap_or x d) (is.0 ∙ sym k.0), is.1 ∙ sym k.1)
 
 -- What a line does, where its answer's line was written as the last two equations say.
 module _ (t l o : List ℕ) (at : ℕ) {o' : List ℕ} {r : ℕ} where
@@ -63,7 +55,7 @@ module _ (t l o : List ℕ) (at : ℕ) {o' : List ℕ} {r : ℕ} where
   bad-done e w = rw e (w.0, w.1, refl)
 
   pub long-done : (n : ℕ) → line_of l ≡ Long n
-      → (r ≡ at + length (answer_line (take (n - 0) l) (Refused (Reading 2 0)))) × (o' ≡ splice o at (answer_line (take (n - 0) l) (Refused (Reading 2 0))))
+      → (r ≡ at + length (answer_line (take (n - 0) l) (Err (Reading 2 0)))) × (o' ≡ splice o at (answer_line (take (n - 0) l) (Err (Reading 2 0))))
       → (r ≡ at + length (line_done t l).text) × (o' ≡ splice o at (line_done t l).text) × (t ≡ (line_done t l).held)
   unfolding line_done said said_by
   long-done n e w =

@@ -6,7 +6,7 @@ ghost use Rattle.octets.specs.Splice.{splice};
 ghost use Rattle.table.specs.WellFormed.{well_formed};
 
 use answers::{Answer, Refusal};
-use lines::{Line, Wrote};
+use lines::Line;
 use message::AMPLE;
 
 // Writes the line that answers an event, and answers the place behind it. There is room for it.
@@ -14,10 +14,7 @@ fn put_answer(out: &mut [u8], at: usize, time: &[u8], a: Answer) -> usize
     requires { (length time.now ≤ 20) × (at + 64 ≤ length out.old) }
     ensures { (result ≡ at + length (answer_line time.now a)) × (out.new ≡ splice out.old at (answer_line time.now a)) × (result ≤ at + 64) }
 {
-    match lines::write_answer(out, at, time, a) {
-        Wrote::End(e) => e,
-        Wrote::NoRoom => at,
-    }
+    lines::write_answer(out, at, time, a).unwrap_or(at)
 }
 
 // Writes the line that answers a line without a time.
@@ -25,10 +22,7 @@ fn put_bad(out: &mut [u8], at: usize) -> usize
     requires { at + 64 ≤ length out.old }
     ensures { (result ≡ at + length bad_line) × (out.new ≡ splice out.old at bad_line) × (result ≤ at + 64) }
 {
-    match lines::write_bad(out, at) {
-        Wrote::End(e) => e,
-        Wrote::NoRoom => at,
-    }
+    lines::write_bad(out, at).unwrap_or(at)
 }
 
 // Answers a line: the table is changed by its event, and its answer's line is written.
@@ -42,7 +36,7 @@ pub fn answer(table: &mut [u8], l: &[u8], out: &mut [u8], at: usize) -> usize
 {
     match lines::read(l) {
         Line::Bad => put_bad(out, at),
-        Line::Long(n) => put_answer(out, at, &l[0..n], Answer::Refused(Refusal::Reading(2, 0))),
+        Line::Long(n) => put_answer(out, at, &l[0..n], Err(Refusal::Reading(2, 0))),
         Line::Tick(n, time) => {
             let id = n + 6;
             let a = keeper::tick_step(table, time, &l[id..]);

@@ -129,7 +129,8 @@ fn turn(
 fn start(table: &mut [u8; 40816])
     ensures { table.new ≡ blank_of 255 }
 {
-    table::blank(table, 255);
+    // 255 records are what the table has room for.
+    let _ = table::blank(table, 255);
 }
 
 // Turn by turn from a blank table on, until the input ends or a call fails. Nothing says that an input ends, so the turns are counted

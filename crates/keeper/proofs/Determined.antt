@@ -1,6 +1,6 @@
 -- Each public contract determines its answer and the table after it: two results that it allows are equal. Assumes nothing.
+use Rattle.answers.specs.Answer.{Answer}
 use Prim.Native.Nat.{ℕ}
-use Rattle.answers.specs.declared.Answer.{Answer}
 use Rattle.keeper.specs.Keeping.{Step, on_message, on_tick}
 use mathlib.Core.List.{List}
 use mathlib.Core.Path.{◌≡◌, sym, ◌∙◌}

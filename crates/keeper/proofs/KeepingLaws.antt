@@ -1,8 +1,9 @@
 -- What an event leaves of a well-formed table is well-formed: what the rule sets is sound, and a new record's texts are within their rules.
 -- Assumes nothing.
+use Rattle.answers.specs.Answer.{Answer}
+use Rattle.std.specs.Prelude.{Option, Some, None}
 use Prim.Native.Nat.{ℕ, ◌<◌}
 use Rattle.call.specs.inner.Sound.{Sound, SoundAfter}
-use Rattle.answers.specs.declared.Answer.{Answer}
 use Rattle.call.specs.declared.records.After.TheVariants.{Same, Set, Free}
 use Rattle.call.specs.declared.records.After.{After}
 use Rattle.call.specs.declared.records.Call.{Call}
@@ -18,8 +19,6 @@ use Rattle.table.specs.Image.{record_count, record_at}
 use Rattle.table.specs.Record.{is_free}
 use Rattle.table.specs.Search.{place_named, free_place}
 use Rattle.table.specs.WellFormed.{well_formed}
-use Rattle.table.specs.declared.searching.Found.TheVariants.{At, Nothing}
-use Rattle.table.specs.declared.searching.Found.{Found}
 use mathlib.Core.Bool.{true, false}
 use mathlib.Core.List.{List}
 use mathlib.Core.Path.{◌≡◌, refl}
@@ -33,13 +32,13 @@ module _ (t : List ℕ) (w : well_formed t ≡ true) where
   kept-well k h used (Set c) s = store_keeps t k w h (fields_from c) used (sound-fields c s) (fit-fields c s)
   kept-well k h used Free s = release_keeps t k w h
 
-  module _ (s : List ℕ) (m : Message) (n : Named s m) (new : place_named (call_id_of s m) t ≡ Nothing) (a : Answer) where
-    taken-at-well : (c : Call) → Sound c → (f : Found) → free_place t ≡ f → well_formed (taken_at t s m a c f).table ≡ true
+  module _ (s : List ℕ) (m : Message) (n : Named s m) (new : place_named (call_id_of s m) t ≡ None) (a : Answer) where
+    taken-at-well : (c : Call) → Sound c → (f : Option ℕ) → free_place t ≡ f → well_formed (taken_at t s m a c f).table ≡ true
     unfolding record_for
-    taken-at-well c sound (At k) e =
+    taken-at-well c sound (Some k) e =
         open_keeps t k w (free-found t k e).inside (call_id_of s m) (user_of s m) (caller_fire_of s m) (callee_fire_of s m) (fields_from c)
         (ruled s m n) (sound-fields c sound) (fit-fields c sound) (not_found (call_id_of s m) t new)
-    taken-at-well c sound Nothing e = w
+    taken-at-well c sound None e = w
 
     pub taken-well : (after : After) → SoundAfter after → well_formed (taken t s m a after).table ≡ true
     taken-well Same sound = w

@@ -1,5 +1,6 @@
 -- The texts of a message that was read, found in its bytes or decoded into a buffer of 64, which they all fit. Assumes nothing.
-use Prim.Native.Nat.{ℕ, ◌+◌, ◌≤◌}
+use Rattle.std.specs.Prelude.{Some}
+use Prim.Native.Nat.{ℕ, ◌+◌}
 use Rattle.escapes.proofs.LengthLaws.{as_long}
 use Rattle.escapes.proofs.PlainLaws.{plain-text}
 use Rattle.escapes.specs.Rfc7159.{text}
@@ -17,7 +18,6 @@ use Rattle.table.proofs.LookupLaws.{found}
 use Rattle.table.specs.Image.{record_at}
 use Rattle.table.specs.Search.{place_named}
 use Rattle.table.specs.WellFormed.{well_formed}
-use Rattle.table.specs.declared.searching.Found.TheVariants.{At}
 use lib.ListN.{length, take}
 use lib.Seq.{take_all}
 use mathlib.Core.Bool.{true, false}
@@ -54,18 +54,15 @@ module _ (s : List ℕ) (m : Message) {w : List ℕ} (is : w ≡ cut s m.callid)
   unfolding call_id_of
   call-is = ap text is
 
-  pub call_id_short : Named s m → length (text w) ≤ 64
-  call_id_short n = rw call-is (call_id_length (call_id_of s m) n.call_id).1
-
   module _ (t : List ℕ) where
-    pub decoded-is : place_named (text w) t ≡ place_named (call_id_of s m) t
+    decoded-is : place_named (text w) t ≡ place_named (call_id_of s m) t
     decoded-is = ap (λ (x : List ℕ). place_named x t) call-is
 
     pub unescaped : escaped w ≡ false → place_named w t ≡ place_named (call_id_of s m) t
     unescaped e = ap (λ (x : List ℕ). place_named x t) (sym (plain-text w e)) ∙ decoded-is
 
     -- what names a record has no escape, as the record's Call-ID has none
-    pub named-own : well_formed t ≡ true → {k : ℕ} → place_named w t ≡ At k → place_named w t ≡ place_named (call_id_of s m) t
+    pub named-own : well_formed t ≡ true → {k : ℕ} → place_named w t ≡ Some k → place_named w t ≡ place_named (call_id_of s m) t
     named-own h {k} p =
         let f = found w t k p in
         let u = named-used w (record_at t k) f.passes in

@@ -1,5 +1,5 @@
 // What the rule of one call is given: a record's numbers as a call, and back; a message's facts as an event.
-ghost use Rattle.std.specs.Prelude.{cond, ◌≡◌};
+ghost use Rattle.std.specs.Prelude.{◌≡◌};
 ghost use Rattle.keeper.specs.Facts.{call_of, event_of, fields_from, method_of_code, side_of, state_of};
 ghost use Rattle.keeper.specs.inner.Known.{Fitting};
 
@@ -8,7 +8,8 @@ use call::{Call, Event, Highest, Method, Request, Response, Side};
 use message::Message;
 use table::Fields;
 
-// The state of a record's number.
+// The state of a record's number: a record in use has no other, and a conversion that may fail would want an answer for it.
+#[tactic(auto, unfolding(crate::specs::Facts::state_of))]
 fn state_of(n: u8) -> State
     ensures { result ≡ state_of n }
 {
@@ -22,7 +23,8 @@ fn state_of(n: u8) -> State
     }
 }
 
-// The method of a message's code.
+// The method of a message's code, likewise.
+#[tactic(auto, unfolding(crate::specs::Facts::method_of_code))]
 fn method_of_code(n: u8) -> Method
     ensures { result ≡ method_of_code n }
 {
@@ -44,13 +46,8 @@ fn side_of(caller: bool) -> Side
     if caller { Side::Caller } else { Side::Callee }
 }
 
-fn bit_of(b: bool) -> u8
-    ensures { result ≡ cond b 1 0 }
-{
-    if b { 1 } else { 0 }
-}
-
 // The numbers of a record in use, as a call. By their types they fit the bytes that a record has for them.
+#[tactic(auto, unfolding(crate::specs::Facts::call_of))]
 pub fn call_of(f: Fields) -> Call
     ensures { (result ≡ call_of f) × Fitting f }
 {
@@ -73,13 +70,13 @@ pub fn call_of(f: Fields) -> Call
 }
 
 // The numbers of a call, as a record has them.
+#[tactic(auto, unfolding(crate::specs::Facts::fields_from))]
 pub fn fields_from(c: Call) -> Fields
     ensures { result ≡ fields_from c }
 {
-    let state = c.state;
     Fields {
-        state: answers::state_number(state),
-        secure: bit_of(c.secure),
+        state: c.state as u8,
+        secure: u8::from(c.secure),
         invite: c.invite,
         caller: c.caller.number,
         callermethod: c.caller.method,
@@ -92,6 +89,7 @@ pub fn fields_from(c: Call) -> Fields
 }
 
 // A request or a response, whose user and Fire-IDs are the record's or not.
+#[tactic(auto, unfolding(crate::specs::Facts::event_of))]
 pub fn event_of(m: Message, agrees: bool) -> Event
     ensures { result ≡ event_of m agrees }
 {

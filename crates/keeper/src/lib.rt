@@ -18,7 +18,7 @@ pub fn message(t: &mut [u8], time: u64, s: &[u8], ceiling: u32) -> Answer
     ensures { (result ≡ (on_message ceiling t.old time s.now).answer) × (t.new ≡ (on_message ceiling t.old time s.now).table) }
 {
     if !table::well_formed(t) {
-        return Answer::Refused(Refusal::Table);
+        return Err(Refusal::Table);
     }
     message_step(t, time, s, ceiling)
 }
@@ -28,7 +28,7 @@ pub fn tick(t: &mut [u8], time: u64, id: &[u8]) -> Answer
     ensures { (result ≡ (on_tick t.old time id.now).answer) × (t.new ≡ (on_tick t.old time id.now).table) }
 {
     if !table::well_formed(t) {
-        return Answer::Refused(Refusal::Table);
+        return Err(Refusal::Table);
     }
     tick_step(t, time, id)
 }

@@ -1,14 +1,14 @@
 -- The reach of fixed letters, of one of some words, and of the end. Assumes nothing.
-use Prim.Native.Nat.{ℕ, suc, ◌+◌}
+use Prim.Native.Nat.{ℕ, max, suc, ◌+◌}
 use Rattle.letters.proofs.Reaches.{Reaches, at-end, at-letter, either_reaches, opens, past-letter, same_reaches}
 use Rattle.letters.specs.BadLetter.{Begins}
-use Rattle.letters.specs.inner.Reach.{common, end_reach, fixed_reach, higher, words_reach}
+use Rattle.letters.specs.inner.Reach.{common, end_reach, fixed_reach, words_reach}
 use Rattle.letters.specs.inner.Rest.{end_rest, fixed_rest}
 use Rattle.octets.proofs.TestLaws.{Either, either}
 use Rattle.octets.proofs.TextLaws.{same_self}
 use Rattle.octets.specs.Text.{same}
 use Rattle.rules.specs.Pieces.{word_number_from}
-use borrow.Author.Tests.{eq-eqb, le-leb, lt-ltb}
+use borrow.Author.Tests.{eq-eqb, lt-ltb}
 use lib.Dec.{eqb, ltb}
 use mathlib.Core.Bool.{Bool, true, false, ◌||◌, cond}
 use mathlib.Core.List.{List, [], ◌∷◌}
@@ -76,7 +76,7 @@ more_words w ws k t = rw (let e : suc k + 1 ≡ suc (suc k) = omega arith in e) 
     go false = refl
 
 pub words_reach_lem : (w : List ℕ) (ws : List (List ℕ)) (k : ℕ) (t : List ℕ) → Reaches (word_rule (w ∷ ws) k) t (words_reach (w ∷ ws) t)
-unfolding words_reach higher
-words_reach_lem w [] k t = rw (le-leb 0 (common t w) (omega arith)) (same_reaches (one_word w k) (word_reaches t w))
+unfolding words_reach
+words_reach_lem w [] k t = rw (let z : max (common t w) 0 ≡ common t w = omega arith in z) (same_reaches (one_word w k) (word_reaches t w))
 words_reach_lem w (v ∷ ws) k t =
     same_reaches (more_words w (v ∷ ws) k) (either_reaches (λ t. same t w) (word_rule (v ∷ ws) (suc k)) (word_reaches t w) (words_reach_lem v ws (suc k) t))

@@ -1,6 +1,6 @@
 -- A piece alone, and what stands behind it where the text has the whole piece, as the code puts them together by places. Assumes nothing.
-use Prim.Native.Nat.{ℕ, zero, suc, ◌+◌, ◌-◌, ◌*◌, ◌≤◌, ◌<◌}
-use Rattle.letters.specs.inner.Reach.{common, count_letters, count_reach, end_reach, fixed_reach, follows, higher, meets, number_letters, number_reach, run_letters, run_reach}
+use Prim.Native.Nat.{ℕ, zero, suc, max, ◌+◌, ◌-◌, ◌*◌, ◌≤◌, ◌<◌}
+use Rattle.letters.specs.inner.Reach.{common, count_letters, count_reach, end_reach, fixed_reach, follows, meets, number_letters, number_reach, run_letters, run_reach}
 use Rattle.letters.specs.inner.Reach.{words_reach}
 use Rattle.octets.proofs.ClassLaws.{among_in, among-low}
 use Rattle.octets.proofs.TestLaws.{Either, and_right, either, picked, picked-alike}
@@ -10,7 +10,7 @@ use Rattle.rules.specs.Classes.{holds}
 use Rattle.rules.specs.Names.{methods}
 use Rattle.rules.specs.Pieces.{decimal_at, within}
 use Rattle.rules.specs.declared.classes.Class.{Class}
-use borrow.Author.Tests.{eq-eqb, eqb-false, eqb-true, le-leb, lt-ltb, ne_eqb}
+use borrow.Author.Tests.{eq-eqb, eqb-false, eqb-true, lt-ltb, ne_eqb}
 use lib.Dec.{eqb, ltb}
 use lib.ListN.{drop, get_or, length}
 use lib.Seq.{drop-drop, get_or-drop}
@@ -66,15 +66,12 @@ fixed-end (b ∷ w) [] = refl
 fixed-end (b ∷ w) (y ∷ u) = ap (λ (k : ℕ). cond (eqb y b) (suc k) 0) (fixed-end w u)
 
 -- the methods, as the code puts them together
-higher-none : (n : ℕ) → higher n 0 ≡ n
-unfolding higher
-higher-none n = rw (le-leb 0 n (omega arith))
-
 pub methods-are : (t : List ℕ) {a b c d e f g h q r u v w x y : ℕ} → a ≡ common t (ascii "INVITE") → b ≡ common t (ascii "BYE") → c ≡ common t (ascii "CANCEL")
     → d ≡ common t (ascii "ACK") → e ≡ common t (ascii "MESSAGE") → f ≡ common t (ascii "CALLBACK") → g ≡ common t (ascii "REFER") → h ≡ common t (ascii "NOTIFY")
-    → q ≡ higher g h → r ≡ higher f q → u ≡ higher e r → v ≡ higher d u → w ≡ higher c v → x ≡ higher b w → y ≡ higher a x → y ≡ words_reach methods t
+    → q ≡ max g h → r ≡ max f q → u ≡ max e r → v ≡ max d u → w ≡ max c v → x ≡ max b w → y ≡ max a x → y ≡ words_reach methods t
 unfolding words_reach
-methods-are t a b c d e f g h q r u v w x y = rw (y, x, w, v, u, r, q, a, b, c, d, e, f, g, h, higher-none (common t (ascii "NOTIFY")))
+methods-are t a b c d e f g h q r u v w x y = rw
+    (y, x, w, v, u, r, q, a, b, c, d, e, f, g, h, let z : max (common t (ascii "NOTIFY")) 0 ≡ common t (ascii "NOTIFY") = omega arith in z)
 
 -- a number of some digits: v and the m digits at the front of a text
 onto : ℕ → ℕ → List ℕ → ℕ

@@ -1,36 +1,40 @@
 -- The steps of the loops: one letter more, and the ways out. Assumes nothing.
-use Prim.Native.Nat.{ℕ, zero, suc, ◌+◌, ◌-◌, ◌*◌, ◌≤◌, ◌<◌}
+use Prim.Native.Nat.{ℕ, zero, suc, min, ◌+◌, ◌-◌, ◌*◌, ◌^◌, ◌≤◌, ◌<◌}
 use Rattle.letters.proofs.NumberLaws.{is-meets}
 use Rattle.letters.specs.inner.Reach.{common, count_letters, follows, low, meets, number_letters, run_letters, top}
 use Rattle.octets.proofs.ClassLaws.{among-high, among-low, in_among}
+use Rattle.octets.proofs.TestLaws.{Either, either}
 use Rattle.octets.specs.Class.{among, is_digit}
 use Rattle.rules.specs.declared.classes.Class.{Class}
-use borrow.Author.Tests.{eq-eqb, ne_eqb}
+use Rattle.std.proofs.Math.Nat.{mul_assoc, pow-succ'}
+use Rattle.std.specs.List.{prefix_len, zip}
+use borrow.Author.Tests.{le-leb, le-ltb, leb-false, leb-true, lt-leb}
+use lib.Dec.{eqb, leb, ltb}
 use lib.ListN.{drop, drop_of_length-le, get_or, length}
 use lib.Seq.{drop-cons}
-use mathlib.Core.Bool.{true, false, and-false}
-use mathlib.Core.List.{List}
-use mathlib.Core.Path.{◌≡◌}
+use mathlib.Core.Bool.{Bool, true, false, and-false, cond}
+use mathlib.Core.List.{List, [], ◌∷◌}
+use mathlib.Core.Logic.{inl, inr}
+use mathlib.Core.Path.{◌≡◌, refl, ◌∙◌}
 use native.Mathlib.Numerals.{add-one}
 use native.Mathlib.Omega.{arith}
 
 -- `common`
-module _ (s w : List ℕ) (i : ℕ) where
-  pub common-more : i < length s → i < length w → get_or s i 0 ≡ get_or w i 0 → i + common (drop i s) (drop i w) ≡ (i + 1) + common (drop (i + 1) s) (drop (i + 1) w)
-  unfolding common
-  common-more h k e = rw (add-one, drop-cons s i 0, drop-cons w i 0, eq-eqb _ _ e) (omega arith)
+pub common-zip : (s w : List ℕ) → prefix_len (λ (p : ℕ × ℕ). eqb p.0 p.1) (zip s w) ≡ common s w
+unfolding common
+common-zip [] w = refl
+common-zip (x ∷ s) [] = refl
+common-zip (x ∷ s) (y ∷ w) = let z : 1 + common s w ≡ suc (common s w) = omega arith in rw (common-zip s w, z)
 
-  pub common-stops : i < length s → i < length w → (get_or s i 0 ≡ get_or w i 0 → ⊥) → i + common (drop i s) (drop i w) ≡ i
-  unfolding common
-  common-stops h k e = rw (drop-cons s i 0, drop-cons w i 0, ne_eqb _ _ e) (omega arith)
-
-  pub common-short : i < length s → length w ≤ i → i + common (drop i s) (drop i w) ≡ i
-  unfolding common
-  common-short h k = rw (drop-cons s i 0, drop_of_length-le w k) (omega arith)
-
-  pub common-ends : length s ≤ i → i + common (drop i s) (drop i w) ≡ i
-  unfolding common
-  common-ends h = rw (drop_of_length-le s h) (omega arith)
+pub common-inside : (s w : List ℕ) → common s w ≤ length s
+unfolding common
+common-inside [] w = omega arith
+common-inside (x ∷ s) [] = omega arith
+common-inside (x ∷ s) (y ∷ w) = by (eqb x y) (common-inside s w)
+  where
+    by : (b : Bool) → common s w ≤ length s → cond b (suc (common s w)) 0 ≤ suc (length s)
+    by true h = omega arith
+    by false h = omega arith
 
 -- `run_letters`
 module _ (hi : ℕ) (c e : Class) (s : List ℕ) (i : ℕ) where
@@ -46,39 +50,31 @@ module _ (hi : ℕ) (c e : Class) (s : List ℕ) (i : ℕ) where
   unfolding run_letters
   run_ends h = rw (drop_of_length-le s h) (omega arith)
 
--- `low` and `top`
-module _ (m v : ℕ) where
-  pub low_0 : m ≡ 0 → v ≡ low m v
-  unfolding low
-  low_0 e = rw e
+-- `meets`
+low-is : (m v : ℕ) → low m v ≡ v * 10 ^ m
+unfolding low
+low-is zero v = omega arith
+low-is (suc m) v = rw (low-is m (v * 10), mul_assoc v 10 (10 ^ m), ← pow-succ' 10 m)
 
-  pub low_1 : m ≡ 1 → v * 10 ≡ low m v
-  unfolding low
-  low_1 e = rw e
+top-is : (m v : ℕ) → top m v + 1 ≡ (v + 1) * 10 ^ m
+unfolding top
+top-is zero v = omega arith
+top-is (suc m) v =
+    let z : (v * 10 + 9) + 1 ≡ (v + 1) * 10 = omega arith in
+    top-is m (v * 10 + 9) ∙ rw (z, mul_assoc (v + 1) 10 (10 ^ m), ← pow-succ' 10 m)
 
-  pub low_2 : m ≡ 2 → v * 100 ≡ low m v
-  unfolding low
-  low_2 e = rw e (omega arith)
+module _ (lo hi m v u : ℕ) (q : u ≡ 10 ^ m) where
+  pub meets-high : lo < (v + 1) * u → leb (v * u) hi ≡ meets lo hi m v
+  unfolding meets
+  meets-high h =
+      let t : top m v + 1 ≡ (v + 1) * u = rw q (top-is m v) in
+      rw (le-leb lo (top m v) (omega arith), low-is m v, ← q)
 
-  pub low_3 : m ≡ 3 → v * 1000 ≡ low m v
-  unfolding low
-  low_3 e = rw e (omega arith)
-
-  pub top_0 : m ≡ 0 → v ≡ top m v
-  unfolding top
-  top_0 e = rw e
-
-  pub top_1 : m ≡ 1 → v * 10 + 9 ≡ top m v
-  unfolding top
-  top_1 e = rw e
-
-  pub top_2 : m ≡ 2 → v * 100 + 99 ≡ top m v
-  unfolding top
-  top_2 e = rw e (omega arith)
-
-  pub top_3 : m ≡ 3 → v * 1000 + 999 ≡ top m v
-  unfolding top
-  top_3 e = rw e (omega arith)
+  pub meets-low : (v + 1) * u ≤ lo → ltb lo ((v + 1) * u) ≡ meets lo hi m v
+  unfolding meets
+  meets-low h =
+      let t : top m v + 1 ≡ (v + 1) * u = rw q (top-is m v) in
+      rw (le-ltb lo ((v + 1) * u) h, lt-leb lo (top m v) (omega arith))
 
 -- `number_letters`
 low-above : (m v : ℕ) → v ≤ low m v
@@ -90,13 +86,20 @@ pub meets-below : (lo hi m v : ℕ) → meets lo hi m v ≡ true → v ≤ hi
 meets-below lo hi m v e = omega (arith, low-above m v, (is-meets lo hi m v e).1)
 
 module _ (lo hi n v : ℕ) (s : List ℕ) (i : ℕ) where
-  pub number-ends : i ≡ n → i + number_letters lo hi (n - i) v (drop i s) ≡ i
+  number-ends : i ≡ n → i + number_letters lo hi (n - i) v (drop i s) ≡ i
   unfolding number_letters
   number-ends e = rw (let z : n - i ≡ 0 = omega arith in z) (omega arith)
 
-  pub number_short : i < n → length s ≤ i → i + number_letters lo hi (n - i) v (drop i s) ≡ i
+  number_short : i < n → length s ≤ i → i + number_letters lo hi (n - i) v (drop i s) ≡ i
   unfolding number_letters
   number_short k h = rw (let z : n - i ≡ suc (n - i - 1) = omega arith in z, drop_of_length-le s h) (omega arith)
+
+  pub number-whole : i ≡ min n (length s) → i + number_letters lo hi (n - i) v (drop i s) ≡ i
+  number-whole e = by (either (leb n (length s)))
+    where
+      by : Either (leb n (length s)) → i + number_letters lo hi (n - i) v (drop i s) ≡ i
+      by (inl h) = let g = leb-true n (length s) h in number-ends (omega arith)
+      by (inr h) = let g = leb-false n (length s) h in number_short (omega arith) (omega arith)
 
   module _ (k : i < n) (h : i < length s) where
     pub number-other : is_digit (get_or s i 0) ≡ false → i + number_letters lo hi (n - i) v (drop i s) ≡ i

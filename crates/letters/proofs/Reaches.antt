@@ -1,8 +1,7 @@
 -- What holds under any rule: there is one bad letter at most, and how the reach of a text is put together letter by letter. A function has to find the
 -- reach alone, which does not ask whether the text keeps its rule. Assumes nothing.
-use Prim.Native.Nat.{ℕ, suc, zero, ◌≤◌, ◌<◌}
+use Prim.Native.Nat.{ℕ, suc, zero, max, ◌≤◌, ◌<◌}
 use Rattle.letters.specs.BadLetter.{BadLetter, Begins}
-use Rattle.letters.specs.inner.Reach.{higher}
 use Rattle.octets.proofs.TestLaws.{Either, clash, either, picked}
 use borrow.Author.Tests.{leb-false, leb-true}
 use lib.Dec.{leb}
@@ -142,17 +141,16 @@ module _ (R Q : List ℕ → Bool) where
       go (inl e) = f (record { rest = b.rest; allowed = e })
       go (inr e) = g (record { rest = b.rest; allowed = rw e at b.allowed })
 
-  pub either_reaches : {t : List ℕ} {k m : ℕ} → Reaches R t k → Reaches Q t m → Reaches (either_rule R Q) t (higher k m)
-  unfolding higher
+  pub either_reaches : {t : List ℕ} {k m : ℕ} → Reaches R t k → Reaches Q t m → Reaches (either_rule R Q) t (max k m)
   either_reaches {t} {k} {m} a b = go (either (leb m k))
     where
-      go : Either (leb m k) → Reaches (either_rule R Q) t (higher k m)
-      go (inl e) = rw e (record {
+      go : Either (leb m k) → Reaches (either_rule R Q) t (max k m)
+      go (inl e) = rw (let h = leb-true m k e in let z : max k m ≡ k = omega arith in z) (record {
         inside = a.inside;
         goes = begins-left a.goes;
         ends = λ h. begins-neither (a.ends h) (no-further {j = suc k} b (let i = leb-true m k e in omega arith) h);
       })
-      go (inr e) = rw e (record {
+      go (inr e) = rw (let h = leb-false m k e in let z : max k m ≡ m = omega arith in z) (record {
         inside = b.inside;
         goes = begins-right b.goes;
         ends = λ h. begins-neither (no-further {j = suc m} a (let i = leb-false m k e in omega arith) h) (b.ends h);

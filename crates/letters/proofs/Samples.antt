@@ -1,6 +1,6 @@
 -- The reach computed, at the edges of the rules. Assumes nothing.
 use Prim.Native.Nat.{ℕ}
-use Rattle.letters.specs.inner.Reach.{address_reach, call_id_reach, common, count_reach, date_reach, day_reach, end_reach, fixed_reach, follows, higher, low, meets, month_reach}
+use Rattle.letters.specs.inner.Reach.{address_reach, call_id_reach, common, count_reach, date_reach, day_reach, end_reach, fixed_reach, follows, low, meets, month_reach}
 use Rattle.letters.specs.inner.Reach.{number_reach, reach_of, run_reach, sequence_reach, top, words_reach}
 use Rattle.octets.specs.Ascii.{ascii}
 use Rattle.octets.specs.Class.{among, is_alnum, is_digit, is_letter, is_lower, is_upper}
@@ -17,7 +17,7 @@ each f (t ∷ ts) = f t ∷ each f ts
 -- the value's limit at its last digit; no leading zero; the first letter of no method, of two, past one
 sequences : each sequence_reach (ascii "4294967296 BYE" ∷ ascii "42949672950 BYE" ∷ ascii "0 BYE" ∷ ascii "01" ∷ ascii "7 CALX" ∷ ascii "7 BYES" ∷ ascii "7" ∷ ascii "x" ∷ [])
     ≡ 9 ∷ 10 ∷ 0 ∷ 0 ∷ 5 ∷ 5 ∷ 1 ∷ 0 ∷ []
-unfolding sequence_reach reach_of count_reach fixed_reach words_reach higher common is_digit among
+unfolding sequence_reach reach_of count_reach fixed_reach words_reach common is_digit among
 sequences = refl
 
 -- days by month and year; no year 0; a text that stops short
@@ -36,7 +36,7 @@ addresses : each address_reach
     (ascii "net119:fire@x" ∷ ascii "net119:fire@xy.callee" ∷ ascii "net119:fires@xy.callee" ∷ ascii "net119:abcdefghijklmnop" ∷ ascii "net119:u@abcdefghijklmn_" ∷ ascii
     "net119:u@_" ∷ ascii "net119:u@a." ∷ [])
     ≡ 13 ∷ 21 ∷ 21 ∷ 22 ∷ 23 ∷ 9 ∷ 10 ∷ []
-unfolding address_reach reach_of run_reach fixed_reach end_reach higher follows holds is_alnum is_letter is_lower is_upper is_digit among
+unfolding address_reach reach_of run_reach fixed_reach end_reach follows holds is_alnum is_letter is_lower is_upper is_digit among
 addresses = refl
 
 -- a mark as the 64th letter, and a 65th letter

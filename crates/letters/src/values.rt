@@ -8,9 +8,7 @@ ghost use Rattle.rules.specs.Names.{methods};
 ghost use Rattle.rules.specs.Pieces.{fixed};
 ghost use Rattle.rules.specs.Texts.{fire_id};
 
-use crate::pieces::{
-    common, count_letters, fixed_or, higher, number_or, rest, run_letters, run_or,
-};
+use crate::pieces::{common, count_letters, fixed_or, number_or, rest, run_letters, run_or};
 use rules::{Class, days_in, number_at};
 
 // Call-ID.
@@ -32,8 +30,8 @@ fn method_reach(s: &[u8]) -> usize
     let callback = common(s, b"CALLBACK");
     let refer = common(s, b"REFER");
     let notify = common(s, b"NOTIFY");
-    let last = higher(message, higher(callback, higher(refer, notify)));
-    higher(invite, higher(bye, higher(cancel, higher(ack, last))))
+    let last = message.max(callback.max(refer.max(notify)));
+    invite.max(bye.max(cancel.max(ack.max(last))))
 }
 
 // CSeq.
@@ -84,7 +82,7 @@ fn callee_reach(s: &[u8]) -> usize
 pub fn address_reach(s: &[u8]) -> usize
     ensures { result ≡ address_reach s.now }
 {
-    higher(caller_reach(s), callee_reach(s))
+    caller_reach(s).max(callee_reach(s))
 }
 
 // The zone of a Date from byte 19 on.

@@ -1,5 +1,6 @@
 -- Demand 3 for any table and any rule of one call: two neighbouring events that do not name the same call may change places. Tables that hold
 -- the same calls answer alike and go on to hold the same calls; and the two orders lead to such tables. Assumes nothing.
+use Rattle.std.specs.Prelude.{Option, Some, None}
 use Prim.Native.Nat.{ℕ, suc, ◌+◌}
 use Rattle.lifting.proofs.Steps as steps
 use Rattle.lifting.proofs.Steps.{bool_clash}
@@ -8,7 +9,6 @@ use Rattle.lifting.specs.inner.Keeper as keeper
 use Rattle.lifting.specs.inner.Keeper.{Keeper}
 use mathlib.Core.Bool.{Bool, true}
 use mathlib.Core.List.{List, [], ◌∷◌}
-use mathlib.Core.Option.{Option, none, some}
 use mathlib.Core.Path.{◌≡◌, refl, sym, ap, ◌∙◌}
 use native.Mathlib.Omega.{arith}
 
@@ -34,19 +34,19 @@ module _ (K : Keeper) (L : keeper.Laws K) where
   step : (t : Tab) (e : Ev) → keeper.Good K t → steps.Stepped K L t e
   step = steps.step K L
 
-  one-is : {i j : Id} {m : Option Id} → m ≡ some i → m ≡ some j → i ≡ j
+  one-is : {i j : Id} {m : Option Id} → m ≡ Some i → m ≡ Some j → i ≡ j
   one-is p q = cc
 
-  none-some : {A : Type 0} {i : Id} {m : Option Id} → m ≡ none → m ≡ some i → A
+  none-some : {A : Type 0} {i : Id} {m : Option Id} → m ≡ None → m ≡ Some i → A
   none-some p q = absurd (let z : ◌≡◌ {A = ℕ} 0 1 = cc in omega arith)
 
   -- an event has one answer on tables that hold the same calls, and they hold the same calls after it
   module _ (t u : Tab) (e : Ev) (gt : keeper.Good K t) (gu : keeper.Good K u) (s : keeper.Alike K t u) where
     -- one that is turned away on one of them is turned away on the other
-    away_too : keeper.Away K t e → (i : Id) → names e ≡ some i → ((x : Rec) → look i u ≡ none → (rule e none).1 ≡ some x → admits u e ≡ true) → ⊥
+    away_too : keeper.Away K t e → (i : Id) → names e ≡ Some i → ((x : Rec) → look i u ≡ None → (rule e None).1 ≡ Some x → admits u e ≡ true) → ⊥
     away_too w i by taken =
         let c : w.call ≡ i = one-is w.by_name by in
-        let q : look i u ≡ none = sym (s.looks i) ∙ (rw c at w.unheld) in
+        let q : look i u ≡ None = sym (s.looks i) ∙ (rw c at w.unheld) in
         bool_clash (admits-alike t u e gt gu s ∙ taken w.opened q w.opens) w.full
 
   same_step : (t u : Tab) (e : Ev) → keeper.Good K t → keeper.Good K u → keeper.Alike K t u → (answer t e ≡ answer u e) × keeper.Alike K (next t e) (next u e)
@@ -55,7 +55,7 @@ module _ (K : Keeper) (L : keeper.Laws K) where
       back : keeper.Alike K u t
       back = record { looks = λ i. sym (s.looks i); tallies = λ p. sym (s.tallies p) }
 
-      looks-after : (i j : Id) → names e ≡ some j → look j (next t e) ≡ (rule e (look j t)).1 → look j (next u e) ≡ (rule e (look j u)).1
+      looks-after : (i j : Id) → names e ≡ Some j → look j (next t e) ≡ (rule e (look j t)).1 → look j (next u e) ≡ (rule e (look j u)).1
           → Dec (i ≡ j) → look i (next t e) ≡ look i (next u e)
       looks-after i j by p q (yes w) = rw w (p ∙ ap (λ (m : Option Rec). (rule e m).1) (s.looks j) ∙ sym q)
       looks-after i j by p q (no ne) =
@@ -96,7 +96,7 @@ module _ (K : Keeper) (L : keeper.Laws K) where
     own-after : look i (next t e) ≡ (rule e (look i t)).1
     count-after : (p : Rec → Bool) → tally p (next t e) + bit (p (held (look i t))) ≡ tally p t + bit (p (held (rule e (look i t)).1))
 
-  is-done : (t : Tab) (e : Ev) (i : Id) → names e ≡ some i → keeper.Good K t → (keeper.Away K t e → ⊥) → Done t e i
+  is-done : (t : Tab) (e : Ev) (i : Id) → names e ≡ Some i → keeper.Good K t → (keeper.Away K t e → ⊥) → Done t e i
   is-done t e i by g nf = go (step t e g).outcome
     where
       go : steps.Outcome K L t e → Done t e i
@@ -109,7 +109,7 @@ module _ (K : Keeper) (L : keeper.Laws K) where
     ans : answer t e ≡ mute e
     stays : next t e ≡ t
 
-  is-mute : (t : Tab) (e : Ev) → names e ≡ none → Mute t e
+  is-mute : (t : Tab) (e : Ev) → names e ≡ None → Mute t e
   unfolding keeper.answer keeper.next
   is-mute t e n = record { ans = rw n; stays = rw n }
 
@@ -122,7 +122,7 @@ module _ (K : Keeper) (L : keeper.Laws K) where
   itself : (t : Tab) → keeper.Alike K t t
   itself t = record { looks = λ i. refl; tallies = λ p. refl }
 
-  module _ (t : Tab) (g : keeper.Good K t) (a b : Ev) (roomy : keeper.Roomy K t a b) (i j : Id) (by-a : names a ≡ some i) (by-b : names b ≡ some j) (ne : i ≡ j → ⊥) where
+  module _ (t : Tab) (g : keeper.Good K t) (a b : Ev) (roomy : keeper.Roomy K t a b) (i j : Id) (by-a : names a ≡ Some i) (by-b : names b ≡ Some j) (ne : i ≡ j → ⊥) where
     ga : keeper.Good K (next t a)
     ga = (step t a g).good
 
@@ -184,15 +184,15 @@ module _ (K : Keeper) (L : keeper.Laws K) where
   swapped t a b g apart roomy = by (names a) (names b) refl refl
     where
       by : (m n : Option Id) → names a ≡ m → names b ≡ n → Swapped t a b
-      by none n wa wb =
+      by None n wa wb =
           let m = is-mute t a wa in
           let m' = is-mute (next t b) a wa in
           record { to-a = m.ans ∙ sym m'.ans; to-b = ap (λ (v : Tab). answer v b) m.stays; alike = rw (m.stays, m'.stays) (itself (next t b)) }
-      by (some i) none wa wb =
+      by (Some i) None wa wb =
           let m = is-mute t b wb in
           let m' = is-mute (next t a) b wb in
           record { to-a = ap (λ (v : Tab). answer v a) (sym m.stays); to-b = m'.ans ∙ sym m.ans; alike = rw (m.stays, m'.stays) (itself (next t a)) }
-      by (some i) (some j) wa wb = both-named t g a b roomy i j wa wb (λ e. apart i wa (wb ∙ ap some (sym e)))
+      by (Some i) (Some j) wa wb = both-named t g a b roomy i j wa wb (λ e. apart i wa (wb ∙ ap Some (sym e)))
 
   same-run : (es : List Ev) (t u : Tab) → keeper.Good K t → keeper.Good K u → keeper.Alike K t u
       → (keeper.answers K t es ≡ keeper.answers K u es) × keeper.Alike K (keeper.after_all K t es) (keeper.after_all K u es)

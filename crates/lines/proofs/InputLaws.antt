@@ -3,11 +3,10 @@ use Prim.Native.Nat.{ℕ, ◌+◌, ◌-◌, ◌≤◌, ◌<◌}
 use Rattle.octets.proofs.TextLaws.{before-within}
 use Rattle.lines.specs.inner.Splitting.{buffer_after, first_bytes, line_end, next_line, rest_of_line}
 use Rattle.lines.specs.declared.splitting.Next.TheVariants.{Buffered, Here, Pending}
-use Rattle.octets.proofs.TextLaws.{before_more}
 use Rattle.octets.specs.Splice.{splice, written}
 use Rattle.octets.specs.Text.{before}
 use borrow.Author.Tests.{eq-eqb, le-ltb, lt-ltb, ne_eqb}
-use lib.ListN.{drop, drop_of_length-le, get_or, length, length-append, length-drop, take}
+use lib.ListN.{drop, drop_of_length-le, length, length-append, length-drop, take}
 use lib.Seq.{drop-length, length-take-le, take_all, take-append-add, take-append_seam, take-nil}
 use mathlib.Core.List.{List, [], ◌++◌, append_assoc, append-nil}
 use mathlib.Core.Path.{◌≡◌, ap, refl, sym, ◌∙◌}
@@ -36,14 +35,6 @@ over o len p h =
     let l : length (take len o) ≡ len = length-take-le len o h in
     let e : length o ≡ length (take len o) + (length o - len) = omega arith in
     ap (λ (n : ℕ). take n (take len o ++ p)) e ∙ take-append-add (take len o) p (length o - len)
-
--- Looking for the line's end.
-
-pub passed_none : (s : List ℕ) (at : ℕ) → line_end s at ≡ line_end s (at + 0)
-passed_none s at = let z : at + 0 ≡ at = omega arith in rw z
-
-pub passed-one : (s : List ℕ) (at k : ℕ) → at + k < length s → (get_or s (at + k) 0 ≡ 10 → ⊥) → line_end s (at + k) ≡ line_end s (at + (k + 1))
-passed-one s at k h ne = let z : at + (k + 1) ≡ at + k + 1 = omega arith in rw z (before_more 10 s (at + k) h ne)
 
 -- Each answer of `next_line`, where r bytes and the buffer o' are what is kept with the part p.
 module _ (o : List ℕ) (len : ℕ) (s : List ℕ) (from : ℕ) where

@@ -1,4 +1,5 @@
 -- What a line says is decided by its first bytes: 21 of them hold the time and its space, and 32,790 decide the rest. Assumes nothing.
+use Rattle.std.proofs.Common.{None, Option, Some}
 use Prim.Native.Nat.{ℕ, zero, suc, ◌+◌, ◌-◌, ◌≤◌, ◌<◌}
 use Rattle.lines.specs.Program.{line_of, long, said, said_by, timed}
 use Rattle.lines.specs.declared.reading.Line.TheVariants.{Bad, Long, Message, Tick}
@@ -8,8 +9,6 @@ use Rattle.octets.proofs.TextLaws.{before-within, same-eq}
 use Rattle.octets.specs.Ascii.{ascii}
 use Rattle.octets.specs.Decimal.{decimal_in}
 use Rattle.octets.specs.Text.{before, stands_at}
-use Rattle.octets.specs.declared.decimals.Spelt.TheVariants.{Other, Value}
-use Rattle.octets.specs.declared.decimals.Spelt.{Spelt}
 use borrow.Author.Tests.{le-ltb, lt-ltb, ltb-true}
 use lib.Dec.{eqb, ltb}
 use lib.ListN.{drop, length, length-drop, take}
@@ -43,7 +42,7 @@ before-cut b (suc n) (x ∷ s) h = go (eqb x b) refl (before-cut b n s)
     go false e r = rw e (ap suc (r (let k : suc n ≤ suc (before b s) = rw e at h in omega arith)))
 
 -- a time is at most 20 bytes long
-few : (w : List ℕ) (v : ℕ) → decimal_in w ≡ Value v → length w ≤ 20
+few : (w : List ℕ) (v : ℕ) → decimal_in w ≡ Some v → length w ≤ 20
 few w v e = go (dec_le (length w) 20)
   where
     go : Dec (length w ≤ 20) → length w ≤ 20
@@ -60,7 +59,7 @@ module _ (s : List ℕ) (n : ℕ) (is : n ≡ before 32 (take 21 s)) where
       go (yes a) = rw (le-ltb (before 32 s) (length s) (omega (arith, before-short 32 21 s a)))
       go (no a) = rw (le-ltb (before 32 s) (length s) (omega (arith, before-cut 32 21 s (omega arith), before-within 32 s)))
 
-  pub no-time : n < length s → decimal_in (take n s) ≡ Other → Bad ≡ line_of s
+  pub no-time : n < length s → decimal_in (take n s) ≡ None → Bad ≡ line_of s
   unfolding line_of timed
   no-time h e = go (dec_lt (before 32 s) 21)
     where
@@ -72,32 +71,32 @@ module _ (s : List ℕ) (n : ℕ) (is : n ≡ before 32 (take 21 s)) where
           within false = refl
           within true = rw (← too_many (take (before 32 s) s) (rw (length-take-le (before 32 s) s (before-within 32 s)) (omega arith)))
 
-  pub time-few : (v : ℕ) → n < length s → decimal_in (take n s) ≡ Value v → n ≤ 20
+  pub time-few : (v : ℕ) → n < length s → decimal_in (take n s) ≡ Some v → n ≤ 20
   time-few v h e = rw (length-take-le n s (omega arith)) at (few (take n s) v e)
 
-  pub the_time : (v : ℕ) → n < length s → decimal_in (take n s) ≡ Value v → line_of s ≡ timed s n (Value v)
+  pub the_time : (v : ℕ) → n < length s → decimal_in (take n s) ≡ Some v → line_of s ≡ timed s n (Some v)
   unfolding line_of
   the_time v h e = go (dec_lt (before 32 s) 21) (time-few v h e)
     where
-      go : Dec (before 32 s < 21) → n ≤ 20 → cond (ltb (before 32 s) (length s)) (timed s (before 32 s) (decimal_in (take (before 32 s) s))) Bad ≡ timed s n (Value v)
+      go : Dec (before 32 s < 21) → n ≤ 20 → cond (ltb (before 32 s) (length s)) (timed s (before 32 s) (decimal_in (take (before 32 s) s))) Bad ≡ timed s n (Some v)
       go (yes a) l = let q : n ≡ before 32 s = is ∙ before-short 32 21 s a in rw (← q, lt-ltb n (length s) h, e)
       go (no a) l = absurd (omega (arith, before-cut 32 21 s (omega arith)))
 
-  pub too_long : (v : ℕ) → n < length s → decimal_in (take n s) ≡ Value v → 32768 < length s - (n + 1) → Long n ≡ line_of s
+  pub too_long : (v : ℕ) → n < length s → decimal_in (take n s) ≡ Some v → 32768 < length s - (n + 1) → Long n ≡ line_of s
   unfolding timed
   too_long v h e k = sym (the_time v h e ∙ simp (lt-ltb _ _ k))
 
-  pub ticks : (v : ℕ) → n < length s → decimal_in (take n s) ≡ Value v → length s - (n + 1) ≤ 32768 → stands_at s (n + 1) (ascii "tick ") ≡ true → Tick n v ≡ line_of s
+  pub ticks : (v : ℕ) → n < length s → decimal_in (take n s) ≡ Some v → length s - (n + 1) ≤ 32768 → stands_at s (n + 1) (ascii "tick ") ≡ true → Tick n v ≡ line_of s
   unfolding timed
   ticks v h e k t = sym (the_time v h e ∙ rw (le-ltb _ _ k, t))
 
-  pub speaks : (v : ℕ) → n < length s → decimal_in (take n s) ≡ Value v → length s - (n + 1) ≤ 32768 → stands_at s (n + 1) (ascii "tick ") ≡ false → Message n v ≡ line_of s
+  pub speaks : (v : ℕ) → n < length s → decimal_in (take n s) ≡ Some v → length s - (n + 1) ≤ 32768 → stands_at s (n + 1) (ascii "tick ") ≡ false → Message n v ≡ line_of s
   unfolding timed
   speaks v h e k t = sym (the_time v h e ∙ rw (le-ltb _ _ k, t))
 
 -- A line cut to 32,790 bytes or more says what the whole says.
 
-cut-said : (cap : ℕ) → 32790 ≤ cap → (l : List ℕ) → cap < length l → (n : ℕ) → n ≡ before 32 (take 21 l) → (d : Spelt) → decimal_in (take n l) ≡ d → said (take cap l) ≡ said l
+cut-said : (cap : ℕ) → 32790 ≤ cap → (l : List ℕ) → cap < length l → (n : ℕ) → n ≡ before 32 (take 21 l) → (d : Option ℕ) → decimal_in (take n l) ≡ d → said (take cap l) ≡ said l
 unfolding said said_by
 cut-said cap room l h n is d e = go d e
   where
@@ -113,9 +112,9 @@ cut-said cap room l h n is d e = go d e
     front : take n (take cap l) ≡ take n l
     front = take-take n cap l (omega (arith, small))
 
-    go : (d : Spelt) → decimal_in (take n l) ≡ d → said_by (take cap l) (line_of (take cap l)) ≡ said_by l (line_of l)
-    go Other e = rw (← no-time (take cap l) n is' (omega (arith, small, size)) (rw front e), ← no-time l n is (omega (arith, small)) e)
-    go (Value v) e =
+    go : (d : Option ℕ) → decimal_in (take n l) ≡ d → said_by (take cap l) (line_of (take cap l)) ≡ said_by l (line_of l)
+    go None e = rw (← no-time (take cap l) n is' (omega (arith, small, size)) (rw front e), ← no-time l n is (omega (arith, small)) e)
+    go (Some v) e =
         let few = time-few l n is v (omega (arith, small)) e in
         rw (← too_long (take cap l) n is' v (omega (arith, small, size)) (rw front e) (omega (arith, size)), ← too_long l n is v (omega (arith, small)) e (omega arith))
         (ap long front)
@@ -127,7 +126,7 @@ said-kept cap room l = go (dec_le (length l) cap)
     go (yes a) = ap said (take_all cap l a)
     go (no a) = cut-said cap room l (omega arith) (before 32 (take 21 l)) refl (decimal_in (take (before 32 (take 21 l)) l)) refl
 
-timed-at : (l : List ℕ) (v : ℕ) → ltb (before 32 l) (length l) ≡ true → decimal_in (take (before 32 l) l) ≡ Value v → (before 32 l ≤ 20) × (before 32 l < length l)
+timed-at : (l : List ℕ) (v : ℕ) → ltb (before 32 l) (length l) ≡ true → decimal_in (take (before 32 l) l) ≡ Some v → (before 32 l ≤ 20) × (before 32 l < length l)
 timed-at l v h e = (rw (length-take-le (before 32 l) l (before-within 32 l)) at (few (take (before 32 l) l) v e), ltb-true _ _ h)
 
 taken-within : (n : ℕ) (l : List ℕ) → length (take n l) ≤ length l
@@ -158,10 +157,10 @@ pub places : (l : List ℕ) → Places l (line_of l)
 unfolding line_of timed
 places l = go (ltb (before 32 l) (length l)) refl (decimal_in (take (before 32 l) l)) refl
   where
-    go : (t : Bool) → ltb (before 32 l) (length l) ≡ t → (d : Spelt) → decimal_in (take (before 32 l) l) ≡ d → Places l (cond t (timed l (before 32 l) d) Bad)
+    go : (t : Bool) → ltb (before 32 l) (length l) ≡ t → (d : Option ℕ) → decimal_in (take (before 32 l) l) ≡ d → Places l (cond t (timed l (before 32 l) d) Bad)
     go false h d e = bad-places
-    go true h Other e = bad-places
-    go true h (Value v) e = behind l (before 32 l) v (timed-at l v h e) (ltb 32768 (length l - (before 32 l + 1))) (stands_at l (before 32 l + 1) (ascii "tick ")) refl
+    go true h None e = bad-places
+    go true h (Some v) e = behind l (before 32 l) v (timed-at l v h e) (ltb 32768 (length l - (before 32 l + 1))) (stands_at l (before 32 l + 1) (ascii "tick ")) refl
 
 pub of_long : {l : List ℕ} {n : ℕ} → Places l (Long n) → (n ≤ 20) × (n < length l)
 of_long (long-places h) = h

@@ -1,8 +1,8 @@
 -- Lines and answers as a person would write them, computed by the definitions. Assumes nothing.
-use Rattle.answers.specs.declared.Answer.TheVariants.{Accepted, Refused}
+use Rattle.answers.specs.Answer.{accepted}
+use Rattle.std.specs.Prelude.{Some, None, Err}
 use Rattle.answers.specs.declared.Reason.TheVariants.{NoCall}
 use Rattle.answers.specs.declared.Refusal.TheVariants.{Call}
-use Rattle.answers.specs.declared.Shown.TheVariants.{Free, In}
 use Rattle.answers.specs.declared.State.TheVariants.{Cancelling}
 use Rattle.answers.specs.declared.Waiting.TheVariants.{Nobody}
 use Rattle.answers.specs.declared.Word.TheVariants.{Freed, Repeat}
@@ -42,9 +42,9 @@ unfolding line_of timed before same stands_at decimal_in is_decimal tens all is_
 longest = (refl, refl, refl, refl)
 
 pub answers-read :
-    (answer_line (ascii "1000") (Refused (Call NoCall Nobody)) ≡ ascii "1000 refused 20" ++ (10 ∷ []))
-    × (answer_line (ascii "007") (Accepted Repeat (In Cancelling)) ≡ ascii "007 repeat 6" ++ (10 ∷ []))
-    × (answer_line (ascii "0") (Accepted Freed Free) ≡ ascii "0 freed 0" ++ (10 ∷ []))
+    (answer_line (ascii "1000") (Err (Call NoCall Nobody)) ≡ ascii "1000 refused 20" ++ (10 ∷ []))
+    × (answer_line (ascii "007") (accepted Repeat (Some Cancelling)) ≡ ascii "007 repeat 6" ++ (10 ∷ []))
+    × (answer_line (ascii "0") (accepted Freed None) ≡ ascii "0 freed 0" ++ (10 ∷ []))
 unfolding answer_line answer_text shown shown_in
 answers-read = (refl, refl, refl)
 

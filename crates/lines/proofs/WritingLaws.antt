@@ -3,8 +3,8 @@ use Prim.Native.Nat.{ℕ, ◌+◌, ◌≤◌, ◌<◌}
 use Rattle.answers.specs.declared.Word.TheVariants.{Pass, Repeat, Bye, Timeout, Idle, Freed, None}
 use Rattle.answers.specs.declared.Word.{Word}
 use Rattle.answers.specs.Answer.{spelling}
-use Rattle.lines.specs.Program.{after_writing, wrote_at}
-use Rattle.lines.specs.declared.answering.Wrote.TheVariants.{End, NoRoom}
+use Rattle.lines.specs.Program.{after_writing, no_room, wrote_at}
+use Rattle.std.proofs.Common.{Ok, Err}
 use Rattle.octets.specs.Splice.{splice, written}
 use borrow.Author.Tests.{le-leb, lt-leb}
 use lib.ListN.{drop, length, take}
@@ -18,11 +18,11 @@ pub front-written : (o w : List ℕ) {t : List ℕ} {n : ℕ} → t ≡ written 
 unfolding written
 front-written o w e k = rw (k, e) (take-append_seam w (drop (length w) o))
 
-pub wrote : (o : List ℕ) (at : ℕ) (w : List ℕ) → at + length w ≤ length o → (End (at + length w) ≡ wrote_at o at w) × (splice o at w ≡ after_writing o at w)
+pub wrote : (o : List ℕ) (at : ℕ) (w : List ℕ) → at + length w ≤ length o → (Ok (at + length w) ≡ wrote_at o at w) × (splice o at w ≡ after_writing o at w)
 unfolding wrote_at after_writing
 wrote o at w h = (simp (le-leb _ _ h), simp (le-leb _ _ h))
 
-pub not-wrote : (o : List ℕ) (at : ℕ) (w : List ℕ) → length o < at + length w → (NoRoom ≡ wrote_at o at w) × (o ≡ after_writing o at w)
+pub not-wrote : (o : List ℕ) (at : ℕ) (w : List ℕ) → length o < at + length w → (Err no_room ≡ wrote_at o at w) × (o ≡ after_writing o at w)
 unfolding wrote_at after_writing
 not-wrote o at w h = (simp (lt-leb _ _ h), simp (lt-leb _ _ h))
 

@@ -7,6 +7,6 @@ mod answering;
 mod reading;
 mod splitting;
 
-pub use answering::{Wrote, write_answer, write_bad};
+pub use answering::{NoRoom, write_answer, write_bad};
 pub use reading::{Line, read};
 pub use splitting::{Next, next_line};

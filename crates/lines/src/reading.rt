@@ -3,7 +3,7 @@ ghost use Rattle.std.specs.Prelude.{◌≡◌, take};
 ghost use Rattle.lines.specs.Program.{line_of};
 ghost use Rattle.octets.specs.Text.{before};
 
-use octets::{Spelt, decimal, find, stands_at};
+use octets::{decimal, find, stands_at};
 
 #[derive(Drop)]
 pub enum Line {
@@ -36,7 +36,7 @@ pub fn read(s: &[u8]) -> Line
     if s.len() <= n {
         return Line::Bad;
     }
-    let Spelt::Value(time) = decimal(&s[0..n]) else {
+    let Some(time) = decimal(&s[0..n]) else {
         return Line::Bad;
     };
     if 32768 < s.len() - (n + 1) {

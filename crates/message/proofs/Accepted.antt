@@ -15,9 +15,8 @@ use Rattle.message.specs.Parties.{call_id_of, caller_address_of, callee_address_
 use Rattle.message.specs.Reading.{reading}
 use Rattle.message.proofs.AcceptedRows.{good-sound, is-there, is-kept, read-tag, read_taken}
 use Rattle.message.specs.inner.Named.{Named}
-use Rattle.message.specs.declared.checking.Check.TheVariants.{Good}
+use Rattle.std.specs.Prelude.{Ok, None, Option, Some}
 use Rattle.message.specs.declared.facts.Message.{Message}
-use Rattle.message.specs.declared.reading.Reading.TheVariants.{Read}
 use Rattle.octets.proofs.TestLaws.{or-none}
 use Rattle.rules.proofs.PartLaws.{caller_address_parts, callee_address_parts}
 use Rattle.rules.proofs.SequenceLaws.{Ranges, sequence_ranges}
@@ -29,10 +28,7 @@ use Rattle.rules.specs.Status.{status_rule, status_of}
 use Rattle.rules.specs.Texts.{fire_rule, user_rule, call_id_rule}
 use Rattle.rules.specs.declared.addresses.Address.TheVariants as addresses
 use Rattle.rules.specs.declared.addresses.Address.{Address}
-use Rattle.rules.specs.declared.sequences.Sequence.TheVariants as sequences
 use Rattle.rules.specs.declared.sequences.Sequence.{Sequence}
-use Rattle.rules.specs.declared.statuses.Status.TheVariants as statuses
-use Rattle.rules.specs.declared.statuses.Status.{Status}
 use lib.ListN.{get_or, length}
 use mathlib.Core.Bool.{Bool, true, false}
 use mathlib.Core.List.{List}
@@ -60,26 +56,26 @@ sides false false e = never e
 -- what texts that keep their rules say
 
 module _ (t : List ℕ) (rule : address_rule t ≡ true) where
-  caller_side : (a : Address) → address_of t ≡ a → caller_in a ≡ true
+  caller_side : (a : Option Address) → address_of t ≡ a → caller_in a ≡ true
       → (user_rule (cut t (user_span a)) ≡ true) × ((fire_rule (cut t (caller_span a)) ≡ true) × ((caller_span a).end + 7 ≡ length t))
   unfolding cut part
-  caller_side (addresses.Caller u f) e h = let p = caller_address_parts t u f e in (p.user, (p.fire, p.ends))
-  caller_side (addresses.Callee f) e h = never (sym h)
-  caller_side addresses.Broken e h = never (sym h)
+  caller_side (Some (addresses.Caller u f)) e h = let p = caller_address_parts t u f e in (p.user, (p.fire, p.ends))
+  caller_side (Some (addresses.Callee f)) e h = never (sym h)
+  caller_side None e h = never (sym h)
 
-  callee_side : (a : Address) → address_of t ≡ a → caller_in a ≡ false → (fire_rule (cut t (callee_span a)) ≡ true) × ((callee_span a).end + 7 ≡ length t)
+  callee_side : (a : Option Address) → address_of t ≡ a → caller_in a ≡ false → (fire_rule (cut t (callee_span a)) ≡ true) × ((callee_span a).end + 7 ≡ length t)
   unfolding cut part
-  callee_side (addresses.Caller u f) e h = never h
-  callee_side (addresses.Callee f) e h = let p = callee_address_parts t f e in (p.fire, p.ends)
-  callee_side addresses.Broken e h = never (sym rule ∙ sym (address_broken t (sym e)))
+  callee_side (Some (addresses.Caller u f)) e h = never h
+  callee_side (Some (addresses.Callee f)) e h = let p = callee_address_parts t f e in (p.fire, p.ends)
+  callee_side None e h = never (sym rule ∙ sym (address_broken t (sym e)))
 
-numbered : (t : List ℕ) → sequence_rule t ≡ true → (q : Sequence) → sequence_of t ≡ q → Ranges (number_in q) (method_in q)
-numbered t rule (sequences.Of n m) e = sequence_ranges t n m e
-numbered t rule sequences.Broken e = never (sym rule ∙ sym (sequence-broken t (sym e)))
+numbered : (t : List ℕ) → sequence_rule t ≡ true → (q : Option Sequence) → sequence_of t ≡ q → Ranges (number_in q) (method_in q)
+numbered t rule (Some q) e = sequence_ranges t q e
+numbered t rule None e = never (sym rule ∙ sym (sequence-broken t (sym e)))
 
-coded : (t : List ℕ) → status_rule t ≡ true → (q : Status) → status_of t ≡ q → (100 ≤ code_in q) × (code_in q ≤ 699)
-coded t rule (statuses.Code n) e = status-range t n e
-coded t rule statuses.Broken e = never (sym rule ∙ sym (status-broken t (sym e)))
+coded : (t : List ℕ) → status_rule t ≡ true → (q : Option ℕ) → status_of t ≡ q → (100 ≤ code_in q) × (code_in q ≤ 699)
+coded t rule (Some n) e = status-range t n e
+coded t rule None e = never (sym rule ∙ sym (status-broken t (sym e)))
 
 -- where the addresses end, how long they are at most, and that what they name keeps its rule
 abbrev Sides : List ℕ → Message → Type 0
@@ -90,7 +86,7 @@ Sides s m =
 
 -- A request or a response that passed the run of its tag, and whose sides differ.
 
-module _ (s : List ℕ) (tag : ℕ) (t : List ℕ) (two : (tag ≡ 1) ⊎ (tag ≡ 2)) (good : checked s true (first_setting tag) t ≡ Good) where
+module _ (s : List ℕ) (tag : ℕ) (t : List ℕ) (two : (tag ≡ 1) ⊎ (tag ≡ 2)) (good : checked s true (first_setting tag) t ≡ Ok tt) where
   -- a field that the tag requires is there and keeps its rule
   kept : (n : ℕ) → 1 ≤ n → n < 27 → tag_asks tag n ≡ 1 → keeps (first_setting tag) n (bytes s (get_or t n 0)) ≡ true
   kept n h g a =
@@ -194,12 +190,12 @@ one-or-two tag l h = by (ℕ_discrete tag 1)
     by (no e) = inr (omega arith)
 
 -- a request or a response that is read
-pub read_named : (c : ℕ) (s : List ℕ) (m : Message) → reading c s ≡ Read m → m.tag ≤ 2 → Named s m
+pub read_named : (c : ℕ) (s : List ℕ) (m : Message) → reading c s ≡ Ok m → m.tag ≤ 2 → Named s m
 read_named c s m e h =
     let a = read_taken c s m e h in
     let two = one-or-two m.tag a.accepted.kind.0 h in
     subst (Named s) a.is (is-named s m.tag a.t two a.accepted.fits (apart s m.tag a.t two a.accepted.fits a.accepted.agrees))
 
 -- THE LAW: what is known of every message that is read
-pub facts : (c : ℕ) (s : List ℕ) (m : Message) → reading c s ≡ Read m → Facts s m
+pub facts : (c : ℕ) (s : List ℕ) (m : Message) → reading c s ≡ Ok m → Facts s m
 facts c s m e = let k = read-tag c s m e in record { tag-low = k.0; tag-high = k.1; named = read_named c s m e }

@@ -12,7 +12,7 @@ use Rattle.fields.specs.Value.{is_array}
 use Rattle.fields.specs.Via.{via_rule}
 use Rattle.message.specs.declared.facts.Message.{Message}
 use Rattle.fields.specs.declared.judging.Setting.{Setting}
-use Rattle.message.specs.declared.reading.Reading.TheVariants.{Read}
+use Rattle.std.specs.Prelude.{Ok}
 use Rattle.rules.specs.Asks.{tag_asks, is_in}
 use borrow.Author.Tests.{eqb-true}
 use lib.Dec.{eqb}
@@ -42,7 +42,7 @@ via-place : (s : List ℕ) (tag : ℕ) (t : List ℕ) → (message_of s (setting
 unfolding message_of
 via-place s tag t = refl
 
-pub via-kept : (c : ℕ) (s : List ℕ) (m : Message) → reading c s ≡ Read m → m.tag ≤ 2 → via_rule (bytes s m.via) ≡ true
+pub via-kept : (c : ℕ) (s : List ℕ) (m : Message) → reading c s ≡ Ok m → m.tag ≤ 2 → via_rule (bytes s m.via) ≡ true
 via-kept c s m e l =
     let a = read_taken c s m e l in
     let t = a.t in
@@ -63,9 +63,9 @@ starts-inside s v e h =
     let z : 0 < length (take (e - v) (drop v s)) = there (take (e - v) (drop v s)) 0 90 h in
     omega (arith, rw (length-take, length-drop) at z)
 
-pub via-inside : (c : ℕ) (s : List ℕ) (m : Message) → reading c s ≡ Read m → m.tag ≤ 2 → m.via < length s
+pub via-inside : (c : ℕ) (s : List ℕ) (m : Message) → reading c s ≡ Ok m → m.tag ≤ 2 → m.via < length s
 via-inside c s m e l = starts-inside s m.via (behind s m.via) (array-byte (bytes s m.via) (via-kept c s m e l))
 
 -- a value of what is read is no longer than a message may be
-pub value-short : (c : ℕ) (s : List ℕ) (m : Message) (v : ℕ) {x : List ℕ} → reading c s ≡ Read m → x ≡ bytes s v → length x ≤ 32768
+pub value-short : (c : ℕ) (s : List ℕ) (m : Message) (v : ℕ) {x : List ℕ} → reading c s ≡ Ok m → x ≡ bytes s v → length x ≤ 32768
 value-short c s m v {x} e f = omega (arith, ap length f, part-short s v (behind s v), read_short c s m e)

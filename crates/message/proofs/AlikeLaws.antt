@@ -3,7 +3,6 @@
 use Prim.Native.Nat.{ℕ, zero, suc, ◌≤◌, ◌<◌}
 use Rattle.json_text.specs.inner.Machine.{answer}
 use Rattle.json_text.specs.Places.{bytes, members}
-use Rattle.json_text.specs.declared.Walked.TheVariants as walked
 use Rattle.message.specs.Checks.{asks, lacks, breaks}
 use Rattle.fields.specs.Field.{keeps}
 use Rattle.fields.specs.Known.{empty, noted, repeated}
@@ -21,7 +20,6 @@ use Rattle.rules.specs.Asks.{is_in, tag_asks, method_asks}
 use Rattle.rules.specs.Names.{fields}
 use Rattle.rules.specs.Status.{status_of}
 use Rattle.utf8.specs.Rfc3629.{verdict}
-use Rattle.utf8.specs.declared.Verdict.TheVariants as verdicts
 use Rattle.message.proofs.AcceptedRows.{Accepted, Sound, good-sound, sound-good, is-there}
 use Rattle.message.proofs.AcceptedVia.{via-keeps}
 use borrow.Author.Tests.{ne_eqb, lt-ltb, le-ltb, eqb-true, eqb-false}
@@ -31,6 +29,7 @@ use mathlib.Core.Bool.{Bool, true, false, ◌&&◌, cond, and-false}
 use mathlib.Core.List.{List}
 use mathlib.Core.Path.{◌≡◌, refl, sym, ap, ◌∙◌}
 use native.Mathlib.Omega.{arith}
+use Rattle.std.specs.Prelude.{Ok}
 
 -- field k is in neither, or in both and, but for Via, with the same value
 pub data AlikeAt (s t s' t' : List ℕ) (k : ℕ) : Type 0 where
@@ -227,7 +226,7 @@ module _ {s t s' t' : List ℕ} {tag : ℕ} (a : Accepted s tag t) (l : Alike s 
   alike-facts = rw same-setting (record { tag = refl; method = refl; number = same_number; status = rw setting-tag same-status; caller = same_from; secure = same-secure })
 
   module _ (via : via_rule (bytes s' (get_or t' 6 0)) ≡ true) where
-    pub alike-accepted : 1 ≤ length s' → length s' ≤ 32768 → verdict s' ≡ verdicts.Good → (e : ℕ) → answer s' ≡ walked.End e → tag_of s' ≡ tag
+    pub alike-accepted : 1 ≤ length s' → length s' ≤ 32768 → verdict s' ≡ Ok tt → (e : ℕ) → answer s' ≡ Ok e → tag_of s' ≡ tag
         → repeated fields s' empty (members s' (object_of s')) ≡ 0 → noted fields s' empty (members s' (object_of s')) ≡ t' → Accepted s' tag t'
     alike-accepted x y u e j g o p = record {
       some = x;

@@ -1,19 +1,21 @@
 -- Rows 8 and 9, one field at a time: what is known of a field, and the search for the lowest. Assumes nothing.
+use Rattle.std.specs.declared.result.Result.{Result}
+use Rattle.std.specs.declared.result.Result.TheVariants.{Ok, Err}
 use Prim.Native.Nat.{ℕ, zero, suc, ◌+◌, ◌-◌, ◌≤◌, ◌<◌}
 use Rattle.json_text.specs.Places.{bytes}
 use Rattle.fields.proofs.LetterLaws.{fault_inside}
 use Rattle.fields.proofs.SpellingLaws.{bytes-short}
 use Rattle.fields.specs.Field.{fault_at, keeps}
 use Rattle.fields.specs.inner.Judging.{judged_value}
-use Rattle.fields.specs.declared.judging.Judged.TheVariants as judgeds
-use Rattle.fields.specs.declared.judging.Judged.{Judged}
-use Rattle.message.specs.Checks.{asks, lacks, breaks, lowest, missing, nine, checked}
-use Rattle.message.specs.inner.Facts.{nine_from, of_field}
+use Rattle.message.specs.Checks.{Check, asks, lacks, breaks, lowest, missing, eight, nine, checked}
+use Rattle.message.specs.inner.Facts.{Fits, placed, nine_from, of_field}
 use Rattle.message.specs.Message.{first_setting}
 use Rattle.rules.specs.Asks.{is_in, method_asks, tag_asks}
-use Rattle.message.specs.declared.checking.Check.TheVariants.{Good, Fault}
+use Rattle.std.specs.Prelude.{Ok, Err}
+use Rattle.message.specs.declared.refusals.Refusal.TheVariants.{Missing, Rule}
+use Rattle.message.specs.declared.refusals.Refusal.{Refusal}
 use Rattle.fields.specs.declared.judging.Setting.{Setting}
-use borrow.Author.Tests.{ne_eqb, lt-ltb, le-ltb}
+use borrow.Author.Tests.{ne_eqb, lt-ltb, le-ltb, ltb-false}
 use lib.Dec.{eqb, ltb}
 use lib.ListN.{get_or, length}
 use mathlib.Core.Bool.{Bool, true, false, not, and-false, and-true, cond}
@@ -22,7 +24,7 @@ use mathlib.Core.Path.{◌≡◌, refl, sym, ap, ◌∙◌}
 use native.Mathlib.Decide.{ℕ_discrete}
 use native.Mathlib.Omega.{arith}
 
-turned : (b : Bool) (x y : Judged) → cond b x y ≡ cond (not b) y x
+turned : (b : Bool) (x y : Result (Unit {0}) ℕ) → cond b x y ≡ cond (not b) y x
 turned true x y = refl
 turned false x y = refl
 
@@ -31,7 +33,7 @@ module _ (run : Bool) (k : Setting) (t : List ℕ) (n : ℕ) where
   unfolding lacks
   not_lacking e = rw (ne_eqb (get_or t n 0) 0 e) (sym (and-false (eqb (asks run k n) 1)))
 
-  pub absent : (s : List ℕ) → get_or t n 0 ≡ 0 → judgeds.Kept ≡ of_field s run k t n
+  pub absent : (s : List ℕ) → get_or t n 0 ≡ 0 → Ok tt ≡ of_field s run k t n
   unfolding of_field breaks
   absent s e = rw (e, and-false (ltb 0 (asks run k n)))
 
@@ -41,15 +43,15 @@ module _ (run : Bool) (k : Setting) (t : List ℕ) (n : ℕ) where
     lacking_if e = rw (is, e) (sym (and-true (eqb (asks run k n) 1)))
 
     module _ (s : List ℕ) where
-      pub unlisted : a ≡ 0 → judgeds.Kept ≡ of_field s run k t n
+      pub unlisted : a ≡ 0 → Ok tt ≡ of_field s run k t n
       unfolding of_field breaks
       unlisted e = rw (le-ltb 0 (asks run k n) (omega arith))
 
-      pub present : {x : List ℕ} {r : Judged} → (a ≡ 0 → ⊥) → (get_or t n 0 ≡ 0 → ⊥) → x ≡ bytes s (get_or t n 0) → r ≡ judged_value k n x → r ≡ of_field s run k t n
+      pub present : {x : List ℕ} {r : Result (Unit {0}) ℕ} → (a ≡ 0 → ⊥) → (get_or t n 0 ≡ 0 → ⊥) → x ≡ bytes s (get_or t n 0) → r ≡ judged_value k n x → r ≡ of_field s run k t n
       unfolding of_field breaks judged_value
       present {x} {r} some e f g =
           g ∙ rw (lt-ltb 0 (asks run k n) (omega arith), lt-ltb 0 (get_or t n 0) (omega arith), f)
-          (turned (keeps k n (bytes s (get_or t n 0))) judgeds.Kept (judgeds.Broken (fault_at k n (bytes s (get_or t n 0)))))
+          (turned (keeps k n (bytes s (get_or t n 0))) (Ok tt) (Err (fault_at k n (bytes s (get_or t n 0)))))
 
 -- a fault inside the value at a is inside the text
 pub fault_there : (s : List ℕ) (k : Setting) (n a : ℕ) {v : List ℕ} {p : ℕ} → v ≡ bytes s a → p ≡ fault_at k n v → 0 < p → a + p ≤ length s
@@ -115,41 +117,78 @@ module _ (s : List ℕ) (run : Bool) (k : Setting) (t : List ℕ) (n : ℕ) wher
   passes h e = ap (nine s k t) (higher (breaks s run k t) n h e)
 
   pub stops : n < 27 → 0 < n → {p r : ℕ} → p ≡ fault_at k n (bytes s (get_or t n 0)) → r ≡ get_or t n 0 + p → breaks s run k t n ≡ true
-      → nine_from s run k t n ≡ Fault 9 r
+      → nine_from s run k t n ≡ Err (Rule r)
   unfolding nine_from
   stops h o z w e = ap (nine s k t) (found (breaks s run k t) n h e) ∙ rw (lt-ltb 0 n o, w, z)
 
-  pub over : 27 ≤ n → nine_from s run k t n ≡ Good
+  pub over : 27 ≤ n → nine_from s run k t n ≡ Ok tt
   unfolding nine_from
   over h = ap (nine s k t) (none_found (breaks s run k t) n h)
 
-  pub field_fault : {p : ℕ} → judgeds.Broken p ≡ of_field s run k t n → (p ≡ fault_at k n (bytes s (get_or t n 0))) × (breaks s run k t n ≡ true)
+  pub field_fault : {p : ℕ} → Err p ≡ of_field s run k t n → (p ≡ fault_at k n (bytes s (get_or t n 0))) × (breaks s run k t n ≡ true)
   unfolding of_field
   field_fault {p} e = go (breaks s run k t n) e
     where
-      go : (b : Bool) → judgeds.Broken p ≡ cond b (judgeds.Broken (fault_at k n (bytes s (get_or t n 0)))) judgeds.Kept
+      go : (b : Bool) → Err p ≡ cond b (Err (fault_at k n (bytes s (get_or t n 0)))) (Ok (tt {0}))
           → (p ≡ fault_at k n (bytes s (get_or t n 0))) × (b ≡ true)
       go true f = (cc, refl)
       go false f = (cc, cc)
 
-  pub field-kept : judgeds.Kept ≡ of_field s run k t n → breaks s run k t n ≡ false
+  pub field-kept : Ok tt ≡ of_field s run k t n → breaks s run k t n ≡ false
   unfolding of_field
   field-kept e = go (breaks s run k t n) e
     where
-      go : (b : Bool) → judgeds.Kept ≡ cond b (judgeds.Broken (fault_at k n (bytes s (get_or t n 0)))) judgeds.Kept → b ≡ false
+      go : (b : Bool) → Ok (tt {0}) ≡ cond b (Err (fault_at k n (bytes s (get_or t n 0)))) (Ok (tt {0})) → b ≡ false
       go true f = cc
       go false f = refl
 
--- The answers of a run.
+-- What a rule says of the value at v, and the refusal of it.
 
-module _ (s : List ℕ) (run : Bool) (k : Setting) (t : List ℕ) {m : ℕ} (is : m ≡ missing run k t) where
-  pub one-missing : (m ≡ 0 → ⊥) → Fault 8 m ≡ checked s run k t
+pub fits : {A : Type 0} (v : ℕ) (said : Result A ℕ) → ((p : ℕ) → Err p ≡ said → 0 < p → v + p < 0x10000000000000000) → Fits v said
+fits v (Ok a) h = tt
+fits v (Err p) h = h p refl
+
+pub kept : {A : Type 0} (v : ℕ) (said : Result A ℕ) {a : A} → Ok a ≡ placed v said → Ok a ≡ said
+kept v (Ok b) e = cc
+kept v (Err p) e = cc
+
+pub unkept : {A : Type 0} (v : ℕ) (said : Result A ℕ) {e : Refusal} → Err e ≡ placed v said → (p : ℕ) × ((Err p ≡ said) × (e ≡ Rule (v + p)))
+unkept v (Ok b) e = cc
+unkept v (Err p) e = (p, (refl, cc))
+
+-- Row 8 on a run, where the lowest field that is missing is sought from n on.
+
+module _ (run : Bool) (k : Setting) (t : List ℕ) (n : ℕ) (from : missing run k t ≡ lowest (lacks run k t) n (27 - n)) where
+  pub missed : 0 < n → n < 27 → lacks run k t n ≡ true → Err (Missing n) ≡ eight (missing run k t)
+  missed o h e = let z : missing run k t ≡ n = from ∙ found (lacks run k t) n h e in rw (z, lt-ltb 0 n o)
+
+  pub there : n < 27 → lacks run k t n ≡ false → missing run k t ≡ lowest (lacks run k t) (n + 1) (27 - (n + 1))
+  there h e = from ∙ higher (lacks run k t) n h e
+
+  pub all_there : 27 ≤ n → Ok tt ≡ eight (missing run k t)
+  all_there h = let z : missing run k t ≡ 0 = from ∙ none_found (lacks run k t) n h in rw z
+
+-- The answers of a run, by row 8's.
+
+module _ (s : List ℕ) (run : Bool) (k : Setting) (t : List ℕ) where
+  pub refused : {e : Refusal} → Err e ≡ eight (missing run k t) → Err e ≡ checked s run k t
   unfolding checked
-  one-missing e = rw (← is, lt-ltb 0 m (omega arith))
+  refused {e} q = by (ltb 0 (missing run k t)) q
+    where
+      by : (b : Bool) → ◌≡◌ {A = Check} (Err e) (cond b (Err (Missing (missing run k t))) (Ok tt))
+          → ◌≡◌ {A = Check} (Err e) (cond b (Err (Missing (missing run k t))) (nine s k t (lowest (breaks s run k t) 1 26)))
+      by true p = p
+      by false p = absurd (let z : ◌≡◌ {A = ℕ} 0 1 = cc in omega arith)
 
-  pub none-missing : m ≡ 0 → checked s run k t ≡ nine_from s run k t 1
+  pub none-missing : {u : Unit {0}} → Ok u ≡ eight (missing run k t) → (missing run k t ≡ 0) × (checked s run k t ≡ nine_from s run k t 1)
   unfolding checked nine_from
-  none-missing e = rw (← is, le-ltb 0 m (omega arith))
+  none-missing {u} q =
+      let z = by (ltb 0 (missing run k t)) refl q in
+      (z, rw z)
+    where
+      by : (b : Bool) → ltb 0 (missing run k t) ≡ b → ◌≡◌ {A = Check} (Ok u) (cond b (Err (Missing (missing run k t))) (Ok tt)) → missing run k t ≡ 0
+      by true e p = absurd (let z : ◌≡◌ {A = ℕ} 0 1 = cc in omega arith)
+      by false e p = let y = ltb-false 0 (missing run k t) e in omega arith
 
 -- No run of a ping, a pong or a method asks for the fields 1 to 3.
 

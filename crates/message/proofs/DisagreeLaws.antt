@@ -4,12 +4,14 @@ use Rattle.message.specs.Message.{caller_in, callback_training, request_disagree
 use Rattle.message.specs.declared.facts.Facts.{Facts}
 use Rattle.message.specs.inner.Facts.{FactsOf}
 use Rattle.fields.specs.declared.judging.Setting.{Setting}
+use Rattle.std.proofs.Math.Bool.{or_assoc}
+use Rattle.std.specs.Prelude.{Some}
 use borrow.Author.Tests.{ne_eqb}
 use lib.Dec.{eqb}
 use lib.ListN.{get_or}
 use mathlib.Core.Bool.{Bool, false, not, ◌&&◌, ◌||◌, or-false}
 use mathlib.Core.List.{List}
-use mathlib.Core.Path.{◌≡◌, sym, ◌∙◌}
+use mathlib.Core.Path.{◌≡◌, ap, sym, ◌∙◌}
 
 -- Row 10, of a request: nothing in a response; by the method in a request.
 
@@ -28,9 +30,9 @@ module _ (s : List ℕ) (k : Setting) (t : List ℕ) (from : Bool) where
 
 -- the whole of it
 module _ (s : List ℕ) (k : Setting) (t : List ℕ) {x : Facts} (h : FactsOf s k.tag t x) where
-  module _ {sent meant both request response second rest all : Bool} where
-    pub row_ten : sent ≡ caller_in x.from → meant ≡ caller_in x.to → both ≡ sides_disagree k.method x.number sent meant
-        → request ≡ (eqb k.tag 1 && request_disagrees s k t sent) → response ≡ response_disagrees x.code k.method
-        → second ≡ (eqb k.tag 2 && response) → rest ≡ (request || second) → all ≡ (both || rest) → all ≡ disagrees s k t
+  module _ {sent meant sides request response : Bool} where
+    pub row_ten : sent ≡ caller_in (Some x.from) → meant ≡ caller_in (Some x.to) → sides ≡ sides_disagree k.method x.number sent meant
+        → request ≡ (eqb k.tag 1 && request_disagrees s k t sent) → response ≡ (eqb k.tag 2 && response_disagrees x.code k.method)
+        → ((sides || request) || response) ≡ disagrees s k t
     unfolding disagrees from_caller to_caller
-    row_ten a b c d e f g i = i ∙ rw (g, f, e, d, c, a, b, h.numbered, h.coded, h.sent, h.meant)
+    row_ten a b c d e = or_assoc sides request response ∙ rw (e, d, c, a, b, h.numbered, h.coded, ap caller_in h.sent, ap caller_in h.meant)

@@ -1,9 +1,9 @@
 -- What is read of a message: the bounds of a method's code, the tag of a setting, and the message by its parts. Assumes nothing.
 use Prim.Native.Nat.{ℕ, ◌+◌, ◌<◌}
 use Rattle.rules.proofs.NameLaws.{place-below}
-use Rattle.message.proofs.PartyLaws.{sorted_is}
+use Rattle.message.proofs.PartyLaws.{side-is, sorted_is}
 use Rattle.message.specs.Message.{method_in, setting_of, caller_in, from_caller}
-use Rattle.message.specs.Message.{secure_of, caller_place, callee_place, message_of}
+use Rattle.message.specs.Message.{secure_of, caller_place, callee_place, message_of, user_span, caller_span, callee_span}
 use Rattle.fields.specs.Trail.{moved}
 use Rattle.fields.specs.Spans.{spelling_span, text_at}
 use Rattle.message.specs.declared.facts.Facts.{Facts}
@@ -16,18 +16,19 @@ use Rattle.fields.specs.declared.judging.Setting.{Setting}
 use Rattle.rules.specs.Address.{address_of}
 use Rattle.rules.specs.Names.{methods}
 use Rattle.rules.specs.Sequence.{sequence_rule, sequence_of, number_end, cseq_number, cseq_method}
-use Rattle.rules.specs.declared.sequences.Sequence.TheVariants.{Of, Broken}
+use Rattle.std.specs.Prelude.{None, Option, Some}
+use Rattle.rules.specs.declared.addresses.Address.{Address}
 use lib.ListN.{drop, get_or}
 use mathlib.Core.Bool.{Bool, true, false, cond}
 use mathlib.Core.List.{List}
-use mathlib.Core.Path.{◌≡◌}
+use mathlib.Core.Path.{◌≡◌, ap, ◌∙◌}
 use native.Mathlib.Omega.{arith}
 
 method-small : (t : List ℕ) → cseq_method t < 9
 unfolding cseq_method
 method-small t = omega (arith, place-below methods (drop (number_end t + 1) t))
 
-by-rule : (b : Bool) (t : List ℕ) → method_in (cond b (Of (cseq_number t) (cseq_method t)) Broken) < 9
+by-rule : (b : Bool) (t : List ℕ) → method_in (cond b (Some (record { number = cseq_number t; method = cseq_method t })) None) < 9
 by-rule true t = method-small t
 by-rule false t = omega arith
 
@@ -44,10 +45,10 @@ setting-tag s tag t e = rw e
 -- The message by its parts.
 module _ (s : List ℕ) (k : Setting) (t : List ℕ) {x : Facts} (h : FactsOf s k.tag t x) where
   module _ {caller secure : Bool} {callid v w : Span} {p : Parties} {trail : Trail} where
-    pub message-is : caller ≡ caller_in x.from → secure ≡ secure_of s k (get_or t 17 0) → callid ≡ spelling_span s (get_or t 5 0)
+    pub message-is : caller ≡ caller_in (Some x.from) → secure ≡ secure_of s k (get_or t 17 0) → callid ≡ spelling_span s (get_or t 5 0)
         → v ≡ spelling_span s (get_or t 3 0) → w ≡ spelling_span s (get_or t 2 0)
-        → PartiesOf (cond (caller_in x.from) v w) (cond (caller_in x.from) x.from x.to)
-        (cond (caller_in x.from) w v) (cond (caller_in x.from) x.to x.from) p
+        → PartiesOf (cond (caller_in (Some x.from)) v w) (cond (caller_in (Some x.from)) x.from x.to)
+        (cond (caller_in (Some x.from)) w v) (cond (caller_in (Some x.from)) x.to x.from) p
         → trail ≡ moved (get_or t 6 0) x.trail
         → ◌≡◌ {A = Message} (record {
           tag = k.tag;
@@ -70,29 +71,28 @@ module _ (s : List ℕ) (k : Setting) (t : List ℕ) {x : Facts} (h : FactsOf s 
           trail = trail;
         }) (message_of s k t)
     unfolding message_of from_caller caller_place callee_place
-    message-is a b c d e q m =
+    message-is a f c d e q m =
         let i = get_or t 3 0 in
         let j = get_or t 2 0 in
-        let y = caller_in (address_of (text_at s i)) in
+        let g : ℕ → Option Address = λ v. address_of (text_at s v) in
+        let y = caller_in (g i) in
+        let n : caller_in (Some x.from) ≡ y = ap caller_in h.sent in
         rw (
           m,
           h.trailed,
           a,
-          b,
+          f,
           c,
           q.caller,
           q.callee,
-          q.users,
-          q.callers,
-          q.callees,
+          q.users ∙ side-is user_span g i i j h.sent h.sent h.meant,
+          q.callers ∙ side-is caller_span g i i j h.sent h.sent h.meant,
+          q.callees ∙ side-is callee_span g i j i h.sent h.meant h.sent,
           d,
           e,
           h.numbered,
           h.coded,
-          h.sent,
-          h.meant,
+          n,
           sorted_is (spelling_span s) y i j,
           sorted_is (spelling_span s) y j i,
-          sorted_is (λ (v : ℕ). address_of (text_at s v)) y i j,
-          sorted_is (λ (v : ℕ). address_of (text_at s v)) y j i,
         )

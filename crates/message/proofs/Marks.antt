@@ -20,8 +20,9 @@ use Rattle.escapes.specs.Rfc7159.{escape_of, is_broken, is_high, is_low, is_surr
 use Rattle.fields.specs.Spans.{spelling_at, text_at}
 use Rattle.fields.specs.Value.{freely, is_array, is_string, ruled, spelling_of, text_of, word_spelled}
 use Rattle.fields.specs.Via.{hop_keeps, hop_places, hop_rule, is_hop, via_rule}
-use Rattle.message.specs.declared.reading.Reading.TheVariants.{Read, Refused}
-use Rattle.message.specs.declared.reading.Reading.{Reading}
+use Rattle.std.specs.Prelude.{Ok, Err}
+use Rattle.message.specs.declared.refusals.Refusal.TheVariants.{Length, Utf8, Json, Deep, Shape, Twice, Missing, Rule, Disagree, Many}
+use Rattle.message.specs.Refusal.{Reading, number, place}
 use Rattle.letters.specs.inner.Reach as letters
 use Rattle.octets.specs.Ascii.{ascii}
 use Rattle.octets.specs.Class.{all, among, is_alnum, is_digit, is_letter, is_lower, is_upper}
@@ -42,8 +43,17 @@ use mathlib.Core.Bool.{Bool, false, true}
 use mathlib.Core.List.{List, [], ◌++◌}
 use mathlib.Core.Path.{◌≡◌, refl}
 
+-- document 01's number and place of each row, and document 02's 11
+pub numbers : (number Length ≡ 2) × (number (Utf8 7) ≡ 3) × (number (Json 7) ≡ 4) × (number (Deep 7) ≡ 5) × (number Shape ≡ 6)
+    × (number (Twice 7) ≡ 7) × (number (Missing 7) ≡ 8) × (number (Rule 7) ≡ 9) × (number Disagree ≡ 10) × (number (Many 7) ≡ 11)
+numbers = (refl, refl, refl, refl, refl, refl, refl, refl, refl, refl)
+
+pub places : (place Length ≡ 0) × (place (Utf8 7) ≡ 7) × (place (Json 7) ≡ 7) × (place (Deep 7) ≡ 7) × (place Shape ≡ 0)
+    × (place (Twice 7) ≡ 7) × (place (Missing 7) ≡ 7) × (place (Rule 7) ≡ 7) × (place Disagree ≡ 0) × (place (Many 7) ≡ 7)
+places = (refl, refl, refl, refl, refl, refl, refl, refl, refl, refl)
+
 -- row 2: no bytes, and over 32,768; as many as that go on to row 4
-pub lengths : (reading 0 [] ≡ Refused 2 0) × (reading 0 (replicate 32768 120) ≡ Refused 4 0) × (reading 0 (replicate 32769 120) ≡ Refused 2 0)
+pub lengths : (reading 0 [] ≡ Err Length) × (reading 0 (replicate 32768 120) ≡ Err (Json 0)) × (reading 0 (replicate 32769 120) ≡ Err Length)
 unfolding reading reporting octets char_at begins goes_on among tour begun json.begins from walk step is_ws begin is_digit
 lengths = (refl, refl, refl)
 
@@ -77,31 +87,31 @@ image = sent (ascii "message/vnd.net119.uri.image")
 
 -- a message is read
 abbrev is_read : Reading → Bool
-is_read (Refused n p) = false
-is_read (Read m) = true
+is_read (Err e) = false
+is_read (Ok m) = true
 
 pub rows :
     -- row 7: a known name twice, at the opening quote of the repeat; `date` is none
-    (reading ample (ascii "[\"ping\",{\"Date\":0,\"date\":0,\"Date\":0}]") ≡ Refused 7 27)
+    (reading ample (ascii "[\"ping\",{\"Date\":0,\"date\":0,\"Date\":0}]") ≡ Err (Twice 27))
     -- row 8: 4 and 25 are missing
-    × (reading ample (ascii "[\"ping\",{\"Via\":0}]") ≡ Refused 8 4)
+    × (reading ample (ascii "[\"ping\",{\"Via\":0}]") ≡ Err (Missing 4))
     -- row 9: none is missing, and all break their rules
-    × (reading ample (ascii "[\"ping\",{\"Via\":0,\"Date\":0,\"Destination\":0}]") ≡ Refused 9 24)
+    × (reading ample (ascii "[\"ping\",{\"Via\":0,\"Date\":0,\"Destination\":0}]") ≡ Err (Rule 24))
     -- row 8 again, on the method's fields: a NOTIFY without 9 and 10
-    × (reading ample (told (ascii "[\"request\",{") (ascii "NOTIFY") caller callee) ≡ Refused 8 9)
+    × (reading ample (told (ascii "[\"request\",{") (ascii "NOTIFY") caller callee) ≡ Err (Missing 9))
     -- row 10: From and To on the same side, in a request and in a response
-    × (reading ample (told (ascii "[\"request\",{") (ascii "BYE") caller (ascii "u2@kita.caller")) ≡ Refused 10 0)
-    × (reading ample (told (ascii "[\"response\",{\"Status\":\"200 OK\",") (ascii "BYE") callee (ascii "fire@nishi.callee")) ≡ Refused 10 0)
+    × (reading ample (told (ascii "[\"request\",{") (ascii "BYE") caller (ascii "u2@kita.caller")) ≡ Err Disagree)
+    × (reading ample (told (ascii "[\"response\",{\"Status\":\"200 OK\",") (ascii "BYE") callee (ascii "fire@nishi.callee")) ≡ Err Disagree)
     -- an image in a caller's MESSAGE, under either name; row 9 where its Body does not start `https://` or is no string
     × (is_read (reading ample (sent (ascii "text/vnd.net119.uri.image") (ascii "\"https://x\"") (ascii "MESSAGE") caller callee)) ≡ true)
     × (is_read (reading ample (image (ascii "\"https://x\"") (ascii "MESSAGE") caller callee)) ≡ true)
-    × (reading ample (image (ascii "\"http://x\"") (ascii "MESSAGE") caller callee) ≡ Refused 9 95)
-    × (reading ample (image (ascii "{}") (ascii "MESSAGE") caller callee) ≡ Refused 9 95)
+    × (reading ample (image (ascii "\"http://x\"") (ascii "MESSAGE") caller callee) ≡ Err (Rule 95))
+    × (reading ample (image (ascii "{}") (ascii "MESSAGE") caller callee) ≡ Err (Rule 95))
     -- row 10: a callee's; row 9 comes first
-    × (reading ample (image (ascii "\"https://x\"") (ascii "MESSAGE") callee caller) ≡ Refused 10 0)
-    × (reading ample (image (ascii "\"http://x\"") (ascii "MESSAGE") callee caller) ≡ Refused 9 95)
+    × (reading ample (image (ascii "\"https://x\"") (ascii "MESSAGE") callee caller) ≡ Err Disagree)
+    × (reading ample (image (ascii "\"http://x\"") (ascii "MESSAGE") callee caller) ≡ Err (Rule 95))
     -- row 9, at Content-Type: one under NOTIFY
-    × (reading ample (image (ascii "\"https://x\"") (ascii "NOTIFY") caller callee) ≡ Refused 9 57)
+    × (reading ample (image (ascii "\"https://x\"") (ascii "NOTIFY") caller callee) ≡ Err (Rule 57))
 unfolding reading reporting octets char_at begins goes_on tour begun json.begins from walk step is_ws begin opens point expo ends stops shaped tag_of tag_at object_of elements
     elements_from more follows past spaces
     behind size left unmarked is_mark is_open is_shut raw closing part word_number_from same stands_at members members_from member_at value_of next known repeated has number_at
@@ -134,19 +144,19 @@ pub spelled :
     (is_read (reading ample (told (ascii "[\"re\\u0071uest\",{") (ascii "\\u0042YE") caller callee)) ≡ true)
     × (is_read (reading ample (called (ascii "A\\u0031"))) ≡ true)
     -- row 9: a lone surrogate in a Call-ID, and a pair
-    × (reading ample (called (ascii "A1\\uD800")) ≡ Refused 9 196)
-    × (reading ample (called (ascii "A1\\uD83D\\uDE00")) ≡ Refused 9 196)
+    × (reading ample (called (ascii "A1\\uD800")) ≡ Err (Rule 196))
+    × (reading ample (called (ascii "A1\\uD83D\\uDE00")) ≡ Err (Rule 196))
     -- row 7: a name spelled two ways, at the opening quote of the second; a broken name is none, so row 8
-    × (reading ample (ascii "[\"ping\",{\"Date\":0,\"D\\u0061te\":0}]") ≡ Refused 7 18)
-    × (reading ample (ascii "[\"ping\",{\"Date\":0,\"Date\\uD800\":0,\"Date\\uD800\":0}]") ≡ Refused 8 6)
+    × (reading ample (ascii "[\"ping\",{\"Date\":0,\"D\\u0061te\":0}]") ≡ Err (Twice 18))
+    × (reading ample (ascii "[\"ping\",{\"Date\":0,\"Date\\uD800\":0,\"Date\\uD800\":0}]") ≡ Err (Missing 6))
     -- `text\/plain`, and a broken Body, which is free
     × (is_read (reading ample (sent (ascii "text\\/plain") (ascii "\"\\uDC00\"") (ascii "MESSAGE") caller callee)) ≡ true)
     -- an image's Body: eight characters are judged, decoded
     × (is_read (reading ample (image (ascii "\"https:\\/\\/\\uDC00\"") (ascii "MESSAGE") caller callee)) ≡ true)
-    × (reading ample (image (ascii "\"https:\\/\\uDC00\"") (ascii "MESSAGE") caller callee) ≡ Refused 9 95)
+    × (reading ample (image (ascii "\"https:\\/\\uDC00\"") (ascii "MESSAGE") caller callee) ≡ Err (Rule 95))
     -- Refer-Memo: a pair is let through, a line break is not
     × (is_read (reading ample (referred (ascii "\\uD83D\\uDE00"))) ≡ true)
-    × (reading ample (referred (ascii "a\\rb")) ≡ Refused 9 64)
+    × (reading ample (referred (ascii "a\\rb")) ≡ Err (Rule 64))
 unfolding reading reporting octets char_at begins goes_on tour begun json.begins from walk step is_ws begin opens point expo ends stops shaped tag_of tag_at object_of elements
     elements_from more follows past spaces
     behind size left unmarked is_mark is_open is_shut raw closing part word_number_from same stands_at members members_from member_at value_of next known repeated has number_at
@@ -172,14 +182,14 @@ dated v = ascii "[\"ping\",{\"Date\":" ++ (v ++ ascii ",\"Via\":0,\"Destination\
 
 pub letter-places :
     -- a method that is none, at the letter where it leaves CALLBACK
-    (reading ample (told (ascii "[\"request\",{") (ascii "CALX") caller callee) ≡ Refused 9 25)
+    (reading ample (told (ascii "[\"request\",{") (ascii "CALX") caller callee) ≡ Err (Rule 25))
     -- the 29th of a February that has 28 days; a month of 13, behind an escape; a month's second digit that is an escape
-    × (reading ample (dated (ascii "\"2023-02-29T00:00:00+0000\"")) ≡ Refused 9 26)
-    × (reading ample (dated (ascii "\"2023\\u002D13\"")) ≡ Refused 9 28)
-    × (reading ample (dated (ascii "\"2023-1\\u0033\"")) ≡ Refused 9 23)
+    × (reading ample (dated (ascii "\"2023-02-29T00:00:00+0000\"")) ≡ Err (Rule 26))
+    × (reading ample (dated (ascii "\"2023\\u002D13\"")) ≡ Err (Rule 28))
+    × (reading ample (dated (ascii "\"2023-1\\u0033\"")) ≡ Err (Rule 23))
     -- the closing quote where the text stops short; the first byte of a value that is no string
-    × (reading ample (dated (ascii "\"2023-02\"")) ≡ Refused 9 24)
-    × (reading ample (dated (ascii "20230229")) ≡ Refused 9 16)
+    × (reading ample (dated (ascii "\"2023-02\"")) ≡ Err (Rule 24))
+    × (reading ample (dated (ascii "20230229")) ≡ Err (Rule 16))
 unfolding reading reporting octets char_at begins goes_on tour begun json.begins from walk step is_ws begin opens point expo ends stops shaped tag_of tag_at object_of elements
     elements_from more follows past spaces
     behind size left unmarked is_mark is_open is_shut raw closing part word_number_from same stands_at members members_from member_at value_of next known repeated has number_at
@@ -197,7 +207,7 @@ unfolding reading reporting octets char_at begins goes_on tour begun json.begins
     message_id_rule content_field one_of body_field names_image image_rule wrong_side wrong_number request_disagrees fault_at letter_at letter_reach place_of places_from
     letters.sequence_reach
     letters.date_reach letters.month_reach letters.day_reach letters.call_id_reach letters.reach_of letters.count_reach letters.fixed_reach
-    letters.words_reach letters.higher letters.common letters.number_reach letters.meets letters.low letters.top letters.run_reach letters.follows letters.end_reach
+    letters.words_reach letters.common letters.number_reach letters.meets letters.low letters.top letters.run_reach letters.follows letters.end_reach
 letter-places = (refl, refl, refl, refl, refl, refl)
 
 -- 02 §9: six values, an array, its tag, its object and the object's three; the count stands with an 8, and is 0 with an 11, at the first value too many
@@ -205,9 +215,9 @@ abbrev six : List ℕ
 six = ascii "[\"ping\",{\"Via\":0,\"Date\":0,\"x\":[]}]"
 
 pub counts :
-    (reporting 6 six ≡ record { reading = Refused 8 25; count = 6 })
-    × (reporting 5 six ≡ record { reading = Refused 11 30; count = 0 })
-    × (reporting 2 six ≡ record { reading = Refused 11 8; count = 0 })
+    (reporting 6 six ≡ record { reading = Err (Missing 25); count = 6 })
+    × (reporting 5 six ≡ record { reading = Err (Many 30); count = 0 })
+    × (reporting 2 six ≡ record { reading = Err (Many 8); count = 0 })
 unfolding reporting octets char_at begins goes_on tour begun json.begins from walk step is_ws begin opens point expo ends stops shaped tag_of tag_at object_of elements
     elements_from more
     follows past spaces

@@ -1,6 +1,6 @@
 -- Row 6: what the elements of the outer array are, one law for each way that `shape_of` goes. Assumes nothing.
 use Rattle.json_text.proofs.TurnLaws.{no-elements, some-elements, one_element, comma, no-comma}
-use Rattle.message.specs.inner.Shaping.{open_at, open_of, Shaped}
+use Rattle.message.specs.inner.Shaping.{Shaped}
 use Prim.Native.Nat.{ℕ, ◌+◌, ◌-◌, ◌≤◌, ◌<◌}
 use Rattle.json_text.specs.Places.{past, follows, more, raw, elements, elements_from}
 use Rattle.fields.proofs.GatherLaws.{spelled_few}
@@ -17,13 +17,8 @@ use native.Mathlib.Decide.{ℕ_discrete}
 use native.Mathlib.Omega.{arith}
 
 -- not this shape
-pub record Shapeless (s : List ℕ) : Type 0 where
-  pub untagged : 0 ≡ tag_of s
-  pub unopened : 0 ≡ open_of s
-
-pub shapeless : (s : List ℕ) {tag object : ℕ} → Shapeless s → (tag ≡ 0) × (object ≡ 0) → Shaped s tag object
-shapeless s e f =
-    record { is = f.0 ∙ e.untagged; few = omega (arith, f.0); opens = f.1 ∙ e.unopened; inside = λ h. absurd (omega (arith, f.0)) }
+abbrev pub Shapeless : List ℕ → Type 0
+Shapeless s = 0 ≡ tag_of s
 
 pick_pair : (ps : List ℕ) (f : ℕ → ℕ → ℕ) (b : Bool) → ((x y : ℕ) → ps ≡ x ∷ y ∷ [] → f x y ≡ 0) → 0 ≡ cond b (pair ps f) 0
 pick_pair ps f false h = refl
@@ -34,25 +29,21 @@ pick_pair (x ∷ y ∷ z ∷ zs) f true h = refl
 
 module _ (s : List ℕ) {o : ℕ} (at-o : o ≡ past s 0) where
   pub no-array : (get_or s o 0 ≡ 91 → ⊥) → Shapeless s
-  unfolding tag_of open_of
-  no-array ne = record { untagged = rw (← at-o, ne_eqb _ _ ne); unopened = rw (← at-o, ne_eqb _ _ ne) }
+  unfolding tag_of
+  no-array ne = rw (← at-o, ne_eqb _ _ ne)
 
   -- by the elements
   abbrev Unlike : ℕ → ℕ → Type 0
-  Unlike x y = (tag_at s x y ≡ 0) × (open_at s x y ≡ 0)
+  Unlike x y = tag_at s x y ≡ 0
 
   by-pair : ((x y : ℕ) → elements s o ≡ x ∷ y ∷ [] → Unlike x y) → Shapeless s
-  unfolding tag_of open_of
-  by-pair h =
-      record {
-        untagged = rw (← at-o) (pick_pair (elements s o) (tag_at s) (eqb (get_or s o 0) 91) (λ x y e. (h x y e).0));
-        unopened = rw (← at-o) (pick_pair (elements s o) (open_at s) (eqb (get_or s o 0) 91) (λ x y e. (h x y e).1));
-      }
+  unfolding tag_of
+  by-pair h = rw (← at-o) (pick_pair (elements s o) (tag_at s) (eqb (get_or s o 0) 91) h)
 
   module _ {x : ℕ} (at_x : x ≡ past s (o + 1)) where
     not-string : (a y : ℕ) → (get_or s a 0 ≡ 34 → ⊥) → Unlike a y
-    unfolding tag_at open_at
-    not-string a y ne = (rw (ne_eqb _ _ ne), rw (ne_eqb _ _ ne))
+    unfolding tag_at
+    not-string a y ne = rw (ne_eqb _ _ ne)
 
     head_of : {a b : ℕ} {u v : List ℕ} → ◌≡◌ {A = List ℕ} (a ∷ u) (b ∷ v) → a ≡ b
     head_of e = cc
@@ -89,12 +80,12 @@ module _ (s : List ℕ) {o : ℕ} (at-o : o ≡ past s 0) where
                 (comma s (elements_from (n - 1) s) x at_c more-one ∙ one_element s (n - 1) (c + 1) more-fuel at_y)
 
             pub no-object : (get_or s y 0 ≡ 123 → ⊥) → Shapeless s
-            unfolding tag_at open_at
+            unfolding tag_at
             no-object ne =
                 by-pair (λ a b e.
                 let h : x ≡ a = head_of (sym two-listed ∙ e) in
                 let g : y ≡ b = head_of (tail_of (sym two-listed ∙ e)) in
-                (rw (← h, ← g, eq-eqb _ _ string, ne_eqb _ _ ne), rw (← h, ← g, eq-eqb _ _ string, ne_eqb _ _ ne)))
+                rw (← h, ← g, eq-eqb _ _ string, ne_eqb _ _ ne))
 
             module _ {z : ℕ} (at-z : z ≡ follows s y) where
               pub three : get_or s z 0 ≡ 44 → 0 < n - 1 - 1 → Shapeless s
@@ -106,35 +97,15 @@ module _ (s : List ℕ) {o : ℕ} (at-o : o ≡ past s 0) where
               pub a_pair : get_or s o 0 ≡ 91 → get_or s y 0 ≡ 123 → (get_or s z 0 ≡ 44 → ⊥) → y < length s → {name : List ℕ} {tag : ℕ} → name ≡ raw s x
                   → tag ≡ word_spelled tags name
                   → Shaped s tag y
-              unfolding tag_of tag_at open_of open_at
+              unfolding tag_of tag_at object_of
               a_pair array object ne inside {name} {tag} e f =
                   let two : elements s o ≡ x ∷ y ∷ [] = two-listed ∙ ap (λ (l : List ℕ). x ∷ y ∷ l) (no-comma s (elements_from (n - 1 - 1) s) y at-z ne) in
                   record {
                     is = f ∙ rw (← at-o, eq-eqb _ _ array, two, eq-eqb _ _ string, eq-eqb _ _ object, e);
                     few = omega (arith, f, spelled_few tags name);
-                    opens = rw (← at-o, eq-eqb _ _ array, two, eq-eqb _ _ string, eq-eqb _ _ object);
-                    inside = λ h. inside;
+                    opens = rw (← at-o, two);
+                    inside = inside;
                   }
-
--- where there is a tag, the object that opens is the message's
-pair-opens : (s ps : List ℕ) → 0 < pair ps (tag_at s) → pair ps (open_at s) ≡ pair ps (λ x y. y)
-unfolding tag_at open_at
-pair-opens s [] h = refl
-pair-opens s (x ∷ []) h = refl
-pair-opens s (x ∷ y ∷ []) h = by (eqb (get_or s x 0) 34 && eqb (get_or s y 0) 123) h
-  where
-    by : (b : Bool) → 0 < cond b (word_spelled tags (raw s x)) 0 → cond b y 0 ≡ y
-    by true g = refl
-    by false g = absurd (omega arith)
-pair-opens s (x ∷ y ∷ z ∷ zs) h = refl
-
-pub object-opens : (s : List ℕ) {tag object : ℕ} → Shaped s tag object → 0 < tag → object ≡ object_of s
-unfolding tag_of open_of object_of
-object-opens s f h = f.opens ∙ by (eqb (get_or s (past s 0) 0) 91) (omega (arith, f.is))
-  where
-    by : (b : Bool) → 0 < cond b (pair (elements s (past s 0)) (tag_at s)) 0 → cond b (pair (elements s (past s 0)) (open_at s)) 0 ≡ pair (elements s (past s 0)) (λ x y. y)
-    by true g = pair-opens s (elements s (past s 0)) g
-    by false g = absurd (omega arith)
 
 -- the tag is one of four
 few-pair : (ps : List ℕ) (f : ℕ → ℕ → ℕ) → ((x y : ℕ) → f x y ≤ 4) → pair ps f ≤ 4

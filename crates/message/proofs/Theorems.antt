@@ -13,8 +13,6 @@ use Rattle.json_text.specs.Values.{count}
 use Rattle.json_text.specs.Verdict as grammar
 use Rattle.json_text.specs.Verdict.{Few, TooMany, Verdict}
 use Rattle.json_text.specs.inner.Tour.{visited}
-use Rattle.json_text.specs.declared.Visited.TheVariants as visits
-use Rattle.json_text.specs.declared.Visited.{Visited}
 use Rattle.letters.specs.BadLetter.{BadLetter}
 use Rattle.message.proofs.ReadingLaws.{too_short, too_long, in_bounds, read_of}
 use Rattle.message.specs.Checks.{asks, breaks, missing, broken, broken_place, checked}
@@ -22,17 +20,15 @@ use Rattle.fields.specs.Known.{empty, noted, repeated}
 use Rattle.message.specs.Message.{setting_of, disagrees}
 use Rattle.message.specs.Reading.{unless, agreed, ample, settled, judged, known, shaped, on_json, on_utf8, reading, reporting, uncounted}
 use Rattle.message.specs.Shape.{tag_of, object_of}
-use Rattle.message.specs.declared.checking.Check.TheVariants.{Good, Fault}
+use Rattle.message.specs.declared.refusals.Refusal.TheVariants.{Length, Utf8, Json, Deep, Shape, Twice, Missing, Rule, Disagree, Many}
+use Rattle.message.specs.declared.refusals.Refusal.{Refusal}
 use Rattle.message.specs.declared.facts.Message.{Message}
 use Rattle.fields.specs.declared.judging.Setting.{Setting}
-use Rattle.message.specs.declared.reading.Reading.TheVariants.{Refused, Read}
-use Rattle.message.specs.declared.reading.Reading.{Reading}
+use Rattle.message.specs.Refusal.{Reading, number}
 use Rattle.message.specs.declared.reading.Report.{Report}
 use Rattle.octets.proofs.TestLaws.{and_parts, picked}
 use Rattle.rules.specs.Names.{fields}
-use Rattle.utf8.specs.Rfc3629.{verdict}
-use Rattle.utf8.specs.declared.Verdict.TheVariants as utf8
-use Rattle.utf8.specs.declared.Verdict.{Verdict as Utf8}
+use Rattle.utf8.specs.Rfc3629.{verdict, Verdict as Utf8Verdict}
 use borrow.Author.Tests.{not-true}
 use lib.Dec.{eqb, ltb}
 use lib.ListN.{get_or, length}
@@ -42,30 +38,33 @@ use mathlib.Core.Logic.{◌↔◌, ◌⊎◌, inl, inr}
 use mathlib.Core.Path.{◌≡◌, refl, sym, ap, subst, ◌∙◌}
 use native.Mathlib.Decide.{ℕ_discrete, dec_lt}
 use native.Mathlib.Omega.{arith}
+use Rattle.json_text.specs.declared.Fault.{Fault as JsonFault}
+use Rattle.json_text.specs.declared.Fault.TheVariants as faults
+use Rattle.std.specs.Prelude.{Result, Ok, Err}
 
 -- rows 2 and 3 pass
 pub record Passes (s : List ℕ) : Type 0 where
   pub some : 1 ≤ length s
   pub short : length s ≤ 32768
-  pub utf8 : verdict s ≡ utf8.Good
+  pub utf8 : verdict s ≡ Ok tt
 
 -- where they do, the reading goes by RFC 7159's own verdict
-by-verdict : (c : ℕ) (s : List ℕ) → Passes s → (g : Visited) → Verdict c s g → reporting c s ≡ on_json s g
+by-verdict : (c : ℕ) (s : List ℕ) → Passes s → (g : Result ℕ JsonFault) → Verdict c s g → reporting c s ≡ on_json s g
 by-verdict c s p g v =
     in_bounds c s (λ e. omega (arith, p.some)) p.short ∙ ap (on_utf8 c s) p.utf8 ∙ ap (on_json s) (sym (verdict-answer c s g v))
 
 -- an answer of the rows from 6 on: one of their numbers, or what is read
 pub data Late : Reading → Type 0 where
-  refused : {n p : ℕ} → 6 ≤ n → n ≤ 10 → Late (Refused n p)
-  read : {m : Message} → Late (Read m)
+  refused : {e : Refusal} → 6 ≤ number e → number e ≤ 10 → Late (Err e)
+  read : {m : Message} → Late (Ok m)
 
 late_choose : (b : Bool) {x y : Reading} → Late x → Late y → Late (cond b x y)
 late_choose b = picked Late b
 
 -- a run of rows 8 and 9
-late-run : (a b : Bool) (p q : ℕ) {r : Reading} → Late r → Late (unless (cond a (Fault 8 p) (cond b (Fault 9 q) Good)) r)
-late-run true b p q r = refused {n = 8} (omega arith) (omega arith)
-late-run false true p q r = refused {n = 9} (omega arith) (omega arith)
+late-run : (a b : Bool) (p q : ℕ) {r : Reading} → Late r → Late (unless (cond a (Err (Missing p)) (cond b (Err (Rule q)) (Ok tt))) r)
+late-run true b p q r = refused {e = Missing p} (omega arith) (omega arith)
+late-run false true p q r = refused {e = Rule q} (omega arith) (omega arith)
 late-run false false p q r = r
 
 module _ (s : List ℕ) where
@@ -76,7 +75,7 @@ module _ (s : List ℕ) where
 
   late-agreed : (k : Setting) (t : List ℕ) → Late (agreed s k t)
   unfolding agreed
-  late-agreed k t = late_choose (disagrees s k t) (refused {n = 10} (omega arith) (omega arith)) read
+  late-agreed k t = late_choose (disagrees s k t) (refused {e = Disagree} (omega arith) (omega arith)) read
 
   late-settled : (k : Setting) (t : List ℕ) → Late (settled s k t)
   unfolding settled
@@ -90,32 +89,32 @@ module _ (s : List ℕ) where
   late-known : (tag : ℕ) (qs : List ℕ) → Late (known s tag qs)
   unfolding known
   late-known tag qs =
-      late_choose (ltb 0 (repeated fields s empty qs)) (refused {n = 7} (omega arith) (omega arith)) (late-judged tag (noted fields s empty qs))
+      late_choose (ltb 0 (repeated fields s empty qs)) (refused {e = Twice (repeated fields s empty qs)} (omega arith) (omega arith)) (late-judged tag (noted fields s empty qs))
 
   late-shaped : Late (shaped s)
   unfolding shaped
-  late-shaped = late_choose (eqb (tag_of s) 0) (refused {n = 6} (omega arith) (omega arith)) (late-known (tag_of s) (members s (object_of s)))
+  late-shaped = late_choose (eqb (tag_of s) 0) (refused {e = Shape} (omega arith) (omega arith)) (late-known (tag_of s) (members s (object_of s)))
 
-not_late : {r : Reading} (k q : ℕ) → Late r → r ≡ Refused k q → (k < 6) ⊎ (10 < k) → ⊥
-not_late k q (refused {n} a b) e (inl h) = let z : n ≡ k = cc in omega arith
-not_late k q (refused {n} a b) e (inr h) = let z : n ≡ k = cc in omega arith
-not_late k q read e h = let z : ◌≡◌ {A = ℕ} 0 1 = cc in omega arith
+not_late : {r : Reading} (e : Refusal) → Late r → r ≡ Err e → (number e < 6) ⊎ (10 < number e) → ⊥
+not_late e (refused {e = d} a b) q (inl h) = let z : d ≡ e = cc in let w : number d ≡ number e = ap number z in omega arith
+not_late e (refused {e = d} a b) q (inr h) = let z : d ≡ e = cc in let w : number d ≡ number e = ap number z in omega arith
+not_late e read q h = let z : ◌≡◌ {A = ℕ} 0 1 = cc in omega arith
 
 -- which row answers, of 2 and 3 and those behind them, and what is reported
 data Row (c : ℕ) (s : List ℕ) : Type 0 where
-  second : reporting c s ≡ uncounted 2 0 → Row c s
-  third : (p : ℕ) → reporting c s ≡ uncounted 3 p → Row c s
-  behind : Passes s → (g : Visited) → Verdict c s g → reporting c s ≡ on_json s g → Row c s
+  second : reporting c s ≡ uncounted Length → Row c s
+  third : (p : ℕ) → reporting c s ≡ uncounted (Utf8 p) → Row c s
+  behind : Passes s → (g : Result ℕ JsonFault) → Verdict c s g → reporting c s ≡ on_json s g → Row c s
 
 row : (c : ℕ) (s : List ℕ) → Row c s
 row c s = sized (ℕ_discrete (length s) 0) (dec_lt 32768 (length s))
   where
-    passing : 1 ≤ length s → length s ≤ 32768 → (u : Utf8) → verdict s ≡ u → Row c s
-    passing a b utf8.Good e =
+    passing : 1 ≤ length s → length s ≤ 32768 → (u : Utf8Verdict) → verdict s ≡ u → Row c s
+    passing a b (Ok _) e =
         let p : Passes s = record { some = a; short = b; utf8 = e } in
         let v = one-verdict c s in
         behind p v.0 v.1.0 (by-verdict c s p v.0 v.1.0)
-    passing a b (utf8.Bad p) e = third p (in_bounds c s (λ z. omega arith) b ∙ ap (on_utf8 c s) e)
+    passing a b (Err p) e = third p (in_bounds c s (λ z. omega arith) b ∙ ap (on_utf8 c s) e)
 
     sized : Dec (length s ≡ 0) → Dec (32768 < length s) → Row c s
     sized (yes a) b = second (sym (too_short c s a))
@@ -132,97 +131,97 @@ module _ (c : ℕ) (s : List ℕ) where
 
 -- what the grammar says of a text, by what the rows behind 3 answer
 module _ (c : ℕ) (s : List ℕ) where
-  is-four : (p : ℕ) (g : Visited) → Verdict c s g → (on_json s g).reading ≡ Refused 4 p → grammar.Refused 8 s p × Few c s p
-  is-four p (visits.Text n) v q = absurd (not_late 4 p (late-shaped s) q (inl (omega arith)))
-  is-four p (visits.Bad k) v q = let z : k ≡ p = cc in subst (λ (i : ℕ). grammar.Refused 8 s i × Few c s i) z v
-  is-four p (visits.Deep k) v q = absurd (let z : ◌≡◌ {A = ℕ} 5 4 = cc in omega arith)
-  is-four p (visits.Many k) v q = absurd (let z : ◌≡◌ {A = ℕ} 11 4 = cc in omega arith)
+  is-four : (p : ℕ) (g : Result ℕ JsonFault) → Verdict c s g → (on_json s g).reading ≡ Err (Json p) → grammar.Refused 8 s p × Few c s p
+  is-four p (Ok n) v q = absurd (not_late (Json p) (late-shaped s) q (inl (omega arith)))
+  is-four p (Err (faults.Bad k)) v q = let z : k ≡ p = cc in subst (λ (i : ℕ). grammar.Refused 8 s i × Few c s i) z v
+  is-four p (Err (faults.Deep k)) v q = absurd (let z : ◌≡◌ {A = ℕ} 0 1 = cc in omega arith)
+  is-four p (Err (faults.Many k)) v q = absurd (let z : ◌≡◌ {A = ℕ} 0 1 = cc in omega arith)
 
-  is-five : (p : ℕ) (g : Visited) → Verdict c s g → (on_json s g).reading ≡ Refused 5 p → grammar.TooDeep 8 s p × Few c s p
-  is-five p (visits.Text n) v q = absurd (not_late 5 p (late-shaped s) q (inl (omega arith)))
-  is-five p (visits.Bad k) v q = absurd (let z : ◌≡◌ {A = ℕ} 4 5 = cc in omega arith)
-  is-five p (visits.Deep k) v q = let z : k ≡ p = cc in subst (λ (i : ℕ). grammar.TooDeep 8 s i × Few c s i) z v
-  is-five p (visits.Many k) v q = absurd (let z : ◌≡◌ {A = ℕ} 11 5 = cc in omega arith)
+  is-five : (p : ℕ) (g : Result ℕ JsonFault) → Verdict c s g → (on_json s g).reading ≡ Err (Deep p) → grammar.TooDeep 8 s p × Few c s p
+  is-five p (Ok n) v q = absurd (not_late (Deep p) (late-shaped s) q (inl (omega arith)))
+  is-five p (Err (faults.Bad k)) v q = absurd (let z : ◌≡◌ {A = ℕ} 0 1 = cc in omega arith)
+  is-five p (Err (faults.Deep k)) v q = let z : k ≡ p = cc in subst (λ (i : ℕ). grammar.TooDeep 8 s i × Few c s i) z v
+  is-five p (Err (faults.Many k)) v q = absurd (let z : ◌≡◌ {A = ℕ} 0 1 = cc in omega arith)
 
-  is-eleven : (p : ℕ) (g : Visited) → Verdict c s g → (on_json s g).reading ≡ Refused 11 p → TooMany c s p
-  is-eleven p (visits.Text n) v q = absurd (not_late 11 p (late-shaped s) q (inr (omega arith)))
-  is-eleven p (visits.Bad k) v q = absurd (let z : ◌≡◌ {A = ℕ} 4 11 = cc in omega arith)
-  is-eleven p (visits.Deep k) v q = absurd (let z : ◌≡◌ {A = ℕ} 5 11 = cc in omega arith)
-  is-eleven p (visits.Many k) v q = let z : k ≡ p = cc in subst (TooMany c s) z v
+  is-eleven : (p : ℕ) (g : Result ℕ JsonFault) → Verdict c s g → (on_json s g).reading ≡ Err (Many p) → TooMany c s p
+  is-eleven p (Ok n) v q = absurd (not_late (Many p) (late-shaped s) q (inr (omega arith)))
+  is-eleven p (Err (faults.Bad k)) v q = absurd (let z : ◌≡◌ {A = ℕ} 0 1 = cc in omega arith)
+  is-eleven p (Err (faults.Deep k)) v q = absurd (let z : ◌≡◌ {A = ℕ} 0 1 = cc in omega arith)
+  is-eleven p (Err (faults.Many k)) v q = let z : k ≡ p = cc in subst (TooMany c s) z v
 
-  is-text : (g : Visited) → Verdict c s g → Late (on_json s g).reading → (x : JSON-text 8 s) × (count 8 s x ≤ c)
-  is-text (visits.Text n) v l = (v.0, omega (arith, v.1))
-  is-text (visits.Bad k) v l = absurd (not_late 4 k l refl (inl (omega arith)))
-  is-text (visits.Deep k) v l = absurd (not_late 5 k l refl (inl (omega arith)))
-  is-text (visits.Many k) v l = absurd (not_late 11 k l refl (inr (omega arith)))
+  is-text : (g : Result ℕ JsonFault) → Verdict c s g → Late (on_json s g).reading → (x : JSON-text 8 s) × (count 8 s x ≤ c)
+  is-text (Ok n) v l = (v.0, omega (arith, v.1))
+  is-text (Err (faults.Bad k)) v l = absurd (not_late (Json k) l refl (inl (omega arith)))
+  is-text (Err (faults.Deep k)) v l = absurd (not_late (Deep k) l refl (inl (omega arith)))
+  is-text (Err (faults.Many k)) v l = absurd (not_late (Many k) l refl (inr (omega arith)))
 
-  its_count : (g : Visited) → g ≡ visited c s → Late (on_json s g).reading → (x : JSON-text 8 s) → (on_json s g).count ≡ count 8 s x
-  its_count (visits.Text n) v l x = text-counts c s (sym v) x
-  its_count (visits.Bad k) v l x = absurd (not_late 4 k l refl (inl (omega arith)))
-  its_count (visits.Deep k) v l x = absurd (not_late 5 k l refl (inl (omega arith)))
-  its_count (visits.Many k) v l x = absurd (not_late 11 k l refl (inr (omega arith)))
+  its_count : (g : Result ℕ JsonFault) → g ≡ visited c s → Late (on_json s g).reading → (x : JSON-text 8 s) → (on_json s g).count ≡ count 8 s x
+  its_count (Ok n) v l x = text-counts c s (sym v) x
+  its_count (Err (faults.Bad k)) v l x = absurd (not_late (Json k) l refl (inl (omega arith)))
+  its_count (Err (faults.Deep k)) v l x = absurd (not_late (Deep k) l refl (inl (omega arith)))
+  its_count (Err (faults.Many k)) v l x = absurd (not_late (Many k) l refl (inr (omega arith)))
 
-  no-count : (g : Visited) (n p : ℕ) → (on_json s g).reading ≡ Refused n p → (n < 6) ⊎ (10 < n) → (on_json s g).count ≡ 0
-  no-count (visits.Text m) n p q h = absurd (not_late n p (late-shaped s) q h)
-  no-count (visits.Bad k) n p q h = refl
-  no-count (visits.Deep k) n p q h = refl
-  no-count (visits.Many k) n p q h = refl
+  no-count : (g : Result ℕ JsonFault) (r : Refusal) → (on_json s g).reading ≡ Err r → (number r < 6) ⊎ (10 < number r) → (on_json s g).count ≡ 0
+  no-count (Ok m) r q h = absurd (not_late r (late-shaped s) q h)
+  no-count (Err (faults.Bad k)) r q h = refl
+  no-count (Err (faults.Deep k)) r q h = refl
+  no-count (Err (faults.Many k)) r q h = refl
 
-  to-four : (p : ℕ) → Row c s → reading c s ≡ Refused 4 p → Passes s × (grammar.Refused 8 s p × Few c s p)
-  to-four p (second e) q = absurd (let y = told c s e q in let z : ◌≡◌ {A = ℕ} 2 4 = cc in omega arith)
-  to-four p (third k e) q = absurd (let y = told c s e q in let z : ◌≡◌ {A = ℕ} 3 4 = cc in omega arith)
+  to-four : (p : ℕ) → Row c s → reading c s ≡ Err (Json p) → Passes s × (grammar.Refused 8 s p × Few c s p)
+  to-four p (second e) q = absurd (let y = told c s e q in let z : ◌≡◌ {A = ℕ} 0 1 = cc in omega arith)
+  to-four p (third k e) q = absurd (let y = told c s e q in let z : ◌≡◌ {A = ℕ} 0 1 = cc in omega arith)
   to-four p (behind a g v e) q = (a, is-four p g v (told c s e q))
 
-  to-five : (p : ℕ) → Row c s → reading c s ≡ Refused 5 p → Passes s × (grammar.TooDeep 8 s p × Few c s p)
-  to-five p (second e) q = absurd (let y = told c s e q in let z : ◌≡◌ {A = ℕ} 2 5 = cc in omega arith)
-  to-five p (third k e) q = absurd (let y = told c s e q in let z : ◌≡◌ {A = ℕ} 3 5 = cc in omega arith)
+  to-five : (p : ℕ) → Row c s → reading c s ≡ Err (Deep p) → Passes s × (grammar.TooDeep 8 s p × Few c s p)
+  to-five p (second e) q = absurd (let y = told c s e q in let z : ◌≡◌ {A = ℕ} 0 1 = cc in omega arith)
+  to-five p (third k e) q = absurd (let y = told c s e q in let z : ◌≡◌ {A = ℕ} 0 1 = cc in omega arith)
   to-five p (behind a g v e) q = (a, is-five p g v (told c s e q))
 
-  to-eleven : (p : ℕ) → Row c s → reading c s ≡ Refused 11 p → Passes s × TooMany c s p
-  to-eleven p (second e) q = absurd (let y = told c s e q in let z : ◌≡◌ {A = ℕ} 2 11 = cc in omega arith)
-  to-eleven p (third k e) q = absurd (let y = told c s e q in let z : ◌≡◌ {A = ℕ} 3 11 = cc in omega arith)
+  to-eleven : (p : ℕ) → Row c s → reading c s ≡ Err (Many p) → Passes s × TooMany c s p
+  to-eleven p (second e) q = absurd (let y = told c s e q in let z : ◌≡◌ {A = ℕ} 0 1 = cc in omega arith)
+  to-eleven p (third k e) q = absurd (let y = told c s e q in let z : ◌≡◌ {A = ℕ} 0 1 = cc in omega arith)
   to-eleven p (behind a g v e) q = (a, is-eleven p g v (told c s e q))
 
   to-text : Row c s → Late (reading c s) → Passes s × ((x : JSON-text 8 s) × (count 8 s x ≤ c))
-  to-text (second e) l = absurd (not_late 2 0 l (tells c s e) (inl (omega arith)))
-  to-text (third k e) l = absurd (not_late 3 k l (tells c s e) (inl (omega arith)))
+  to-text (second e) l = absurd (not_late Length l (tells c s e) (inl (omega arith)))
+  to-text (third k e) l = absurd (not_late (Utf8 k) l (tells c s e) (inl (omega arith)))
   to-text (behind a g v e) l = (a, is-text g v (subst Late (tells c s e) l))
 
   to-count : Row c s → Late (reading c s) → (x : JSON-text 8 s) → (reporting c s).count ≡ count 8 s x
-  to-count (second e) l x = absurd (not_late 2 0 l (tells c s e) (inl (omega arith)))
-  to-count (third k e) l x = absurd (not_late 3 k l (tells c s e) (inl (omega arith)))
+  to-count (second e) l x = absurd (not_late Length l (tells c s e) (inl (omega arith)))
+  to-count (third k e) l x = absurd (not_late (Utf8 k) l (tells c s e) (inl (omega arith)))
   to-count (behind a g v e) l x = ap (λ (r : Report). r.count) e ∙ its_count g (verdict-answer c s g v) (subst Late (tells c s e) l) x
 
-  to_none : Row c s → (n p : ℕ) → reading c s ≡ Refused n p → (n < 6) ⊎ (10 < n) → (reporting c s).count ≡ 0
-  to_none (second e) n p q h = ap (λ (r : Report). r.count) e
-  to_none (third k e) n p q h = ap (λ (r : Report). r.count) e
-  to_none (behind a g v e) n p q h = ap (λ (r : Report). r.count) e ∙ no-count g n p (told c s e q) h
+  to_none : Row c s → (r : Refusal) → reading c s ≡ Err r → (number r < 6) ⊎ (10 < number r) → (reporting c s).count ≡ 0
+  to_none (second e) r q h = ap (λ (x : Report). x.count) e
+  to_none (third k e) r q h = ap (λ (x : Report). x.count) e
+  to_none (behind a g v e) r q h = ap (λ (x : Report). x.count) e ∙ no-count g r (told c s e q) h
 
   from-text : Passes s × ((x : JSON-text 8 s) × (count 8 s x ≤ c)) → reading c s ≡ shaped s
-  from-text (a, (x, l)) = tells c s (by-verdict c s a (visits.Text (count 8 s x)) (x, (refl, l)))
+  from-text (a, (x, l)) = tells c s (by-verdict c s a (Ok (count 8 s x)) (x, (refl, l)))
 
 -- THEOREM: 4, 5 and 11, and whether row 6 is reached, go by RFC 7159's grammar, both ways; and so does the count. The rows from 6 on have other numbers.
 pub record ByTheGrammar (c : ℕ) (s : List ℕ) : Type 0 where
   -- 4 at p exactly if the grammar refuses the text at p, and no value before p is too many
-  pub four : (p : ℕ) → (reading c s ≡ Refused 4 p) ↔ (Passes s × (grammar.Refused 8 s p × Few c s p))
+  pub four : (p : ℕ) → (reading c s ≡ Err (Json p)) ↔ (Passes s × (grammar.Refused 8 s p × Few c s p))
   -- 5 at p exactly if the text nests too deep at p, and no value before p is too many
-  pub five : (p : ℕ) → (reading c s ≡ Refused 5 p) ↔ (Passes s × (grammar.TooDeep 8 s p × Few c s p))
+  pub five : (p : ℕ) → (reading c s ≡ Err (Deep p)) ↔ (Passes s × (grammar.TooDeep 8 s p × Few c s p))
   -- 11 at p exactly if the value that begins at p is one too many
-  pub eleven : (p : ℕ) → (reading c s ≡ Refused 11 p) ↔ (Passes s × TooMany c s p)
+  pub eleven : (p : ℕ) → (reading c s ≡ Err (Many p)) ↔ (Passes s × TooMany c s p)
   -- on to row 6 exactly if it is a text of the grammar, nested at most eight deep, with no more values than the ceiling
   pub six : (reading c s ≡ shaped s) ↔ (Passes s × ((x : JSON-text 8 s) × (count 8 s x ≤ c)))
   pub late : Late (shaped s)
   -- accepted, or refused by 6 to 10: the count is that of the text, by every derivation
   pub counted : Late (reading c s) → JSON-text 8 s × ((x : JSON-text 8 s) → (reporting c s).count ≡ count 8 s x)
   -- refused by 2 to 5 or 11: the count is 0
-  pub none : (n p : ℕ) → reading c s ≡ Refused n p → (n < 6) ⊎ (10 < n) → (reporting c s).count ≡ 0
+  pub none : (r : Refusal) → reading c s ≡ Err r → (number r < 6) ⊎ (10 < number r) → (reporting c s).count ≡ 0
 
 pub by_the_grammar : (c : ℕ) (s : List ℕ) → ByTheGrammar c s
 by_the_grammar c s =
     record {
-      four = λ p. (to-four c s p (row c s), λ h. tells c s (by-verdict c s h.0 (visits.Bad p) h.1));
-      five = λ p. (to-five c s p (row c s), λ h. tells c s (by-verdict c s h.0 (visits.Deep p) h.1));
-      eleven = λ p. (to-eleven c s p (row c s), λ h. tells c s (by-verdict c s h.0 (visits.Many p) h.1));
+      four = λ p. (to-four c s p (row c s), λ h. tells c s (by-verdict c s h.0 (Err (faults.Bad p)) h.1));
+      five = λ p. (to-five c s p (row c s), λ h. tells c s (by-verdict c s h.0 (Err (faults.Deep p)) h.1));
+      eleven = λ p. (to-eleven c s p (row c s), λ h. tells c s (by-verdict c s h.0 (Err (faults.Many p)) h.1));
       six = (λ q. to-text c s (row c s) (subst Late (sym q) (late-shaped s)), from-text c s);
       late = late-shaped s;
       counted = λ l. ((to-text c s (row c s) l).1.0, to-count c s (row c s) l);
@@ -233,11 +232,11 @@ by_the_grammar c s =
 pub counts-few : (c : ℕ) (s : List ℕ) → ((reporting c s).count ≤ c) × (2 * (reporting c s).count ≤ length s + 1)
 counts-few c s = by (row c s)
   where
-    on : (g : Visited) → Verdict c s g → ((on_json s g).count ≤ c) × (2 * (on_json s g).count ≤ length s + 1)
-    on (visits.Text n) (x, (e, l)) = (l, omega (arith, bound 8 s x))
-    on (visits.Bad p) v = (omega arith, omega arith)
-    on (visits.Deep p) v = (omega arith, omega arith)
-    on (visits.Many p) v = (omega arith, omega arith)
+    on : (g : Result ℕ JsonFault) → Verdict c s g → ((on_json s g).count ≤ c) × (2 * (on_json s g).count ≤ length s + 1)
+    on (Ok n) (x, (e, l)) = (l, omega (arith, bound 8 s x))
+    on (Err (faults.Bad p)) v = (omega arith, omega arith)
+    on (Err (faults.Deep p)) v = (omega arith, omega arith)
+    on (Err (faults.Many p)) v = (omega arith, omega arith)
 
     by : Row c s → ((reporting c s).count ≤ c) × (2 * (reporting c s).count ≤ length s + 1)
     by (second e) = rw e (omega arith, omega arith)
@@ -248,7 +247,7 @@ counts-few c s = by (row c s)
 pub never-more : (d : ℕ) (s : List ℕ) (x : JSON-text d s) → length s ≤ 32768 → count d s x ≤ ample
 never-more d s x h = omega (arith, bound d s x)
 
-pub never-eleven : (s : List ℕ) (p : ℕ) → JSON s → reading ample s ≡ Refused 11 p → ⊥
+pub never-eleven : (s : List ℕ) (p : ℕ) → JSON s → reading ample s ≡ Err (Many p) → ⊥
 never-eleven s p x e = let q = ((by_the_grammar ample s).eleven p).0 e in never-many ample s p x (omega (arith, q.0.short)) q.1
 
 -- two answers that the contract of `read_and_count` allows are equal

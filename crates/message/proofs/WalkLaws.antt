@@ -20,38 +20,33 @@ use Rattle.json_text.proofs.StepLaws.{obj-comma, obj_close}
 use Rattle.json_text.proofs.TourLaws.{tour-is, tour-moves, tour-alike, first_alike, opens-some, places_halt, alone-stops}
 use Rattle.json_text.specs.inner.Machine.{alone, text, arr, obj, value, first, name, name₁, after, live, one}
 use Rattle.json_text.specs.inner.Passing.{is_end, passed}
-use Rattle.json_text.specs.inner.Tour.{lone, resume, spot, total, tour, visited}
+use Rattle.json_text.specs.inner.Tour.{lone, resume, total, tour, visited}
 use Rattle.json_text.specs.Places.{past, behind, part, value_of, follows, more, members, members_from, is_ws}
-use Rattle.json_text.specs.declared.Toured.TheVariants.{End, Bad, Deep, Many}
-use Rattle.json_text.specs.declared.Toured.{Toured}
-use Rattle.json_text.specs.declared.Walked.TheVariants as walked
+use Rattle.json_text.specs.inner.Tour.{Toured, room_in}
 use Rattle.fields.proofs.GatherLaws.{Sofar, started, over, repeats, goes_on, has-is, note-is, number_is, no-ends, note-ends, ends-known}
-use Rattle.message.proofs.ShapeLaws.{no-array, no-tag, one-alone, no-object, three, a_pair, object-opens, tag-few}
+use Rattle.message.proofs.ShapeLaws.{no-array, no-tag, one-alone, no-object, three, a_pair, tag-few}
 use Rattle.fields.specs.Known.{number_at, empty, noted, repeated}
 use Rattle.message.specs.Reading.{judged, known, shaped, on_json}
 use Rattle.message.specs.Shape.{tag_of, object_of}
-use Rattle.message.specs.declared.reading.Reading.{Reading}
+use Rattle.message.specs.Refusal.{Reading}
 use Rattle.message.specs.declared.reading.Report.{Report}
-use Rattle.message.specs.inner.Walk.{is_once, is_usual, room_in, field_places, is_listed, Opening, Begun, Listed, Usual}
+use Rattle.message.specs.inner.Walk.{is_once, is_usual, field_places, is_listed, Begun, Listed, Usual}
 use Rattle.rules.specs.Names.{fields, tags}
 use Rattle.fields.specs.Value.{word_spelled}
-use borrow.Author.Tests.{ne_eqb, lt-ltb, lt-leb, le-leb, eqb-true}
+use borrow.Author.Tests.{ne_eqb, lt-ltb, lt-leb, le-leb, eqb-true, ltb-true}
 use lib.Dec.{eqb, leb, ltb}
 use lib.ListN.{length, get_or, set}
 use mathlib.Core.Bool.{Bool, true, false, ◌&&◌, and-false, cond}
 use mathlib.Core.List.{List, [], ◌∷◌}
 use mathlib.Core.Logic.{◌⊎◌, inl, inr}
-use mathlib.Core.Path.{◌≡◌, refl, sym, ap, ◌∙◌}
+use mathlib.Core.Path.{◌≡◌, refl, subst, sym, ap, ◌∙◌}
 use native.Mathlib.Decide.{dec_lt, ℕ_discrete}
 use native.Mathlib.Omega.{arith}
+use Rattle.std.specs.Prelude.{Ok, Err, Some, None}
 
 -- The members of the object at o.
 
 module _ (s : List ℕ) (o room : ℕ) where
-  -- the walk breaks off
-  pub unlisted : {e left : ℕ} {at end : List ℕ} → is_listed s o room ≡ false → (e ≡ 0) × (left ≡ 0) → Listed s o room e left at end
-  unlisted u z = record { behind = rw u z.0; spare = rw u z.1; places = λ h. absurd (omega (arith, z.0)); ends = λ h. absurd (omega (arith, z.0)) }
-
   stuck : is_end (lone 7 (suc room) s o) ≡ false → is_listed s o room ≡ false
   unfolding is_listed
   stuck e = rw e refl
@@ -73,21 +68,22 @@ pub record Walking (s : List ℕ) (o room : ℕ) (at end : List ℕ) (n p spare 
   pub json : lone 7 (suc room) s o ≡ tour s (past s p) name (obj (alone 7)) spare
   pub turns : length s < n + p
 
-pub walk-starts : (s : List ℕ) (o room : ℕ) {q : ℕ} → get_or s o 0 ≡ 123 → q ≡ past s (o + 1) → get_or s q 0 ≡ 34 → Walking s o room empty empty (length s) (o + 1) room
+pub walk-starts : (s : List ℕ) (o room : ℕ) {q : ℕ} → get_or s o 0 ≡ 123 → q ≡ past s (o + 1) → get_or s q 0 ≡ 34 → {n : ℕ} → length s ≡ n
+    → Walking s o room empty empty n (o + 1) room
 unfolding members
-walk-starts s o room {q} brace e quote =
+walk-starts s o room {q} brace e quote all =
     let h = there s q 33 quote in
     let b : get_or s (past s (o + 1)) 0 ≡ 34 = ap (λ (i : ℕ). get_or s i 0) (sym e) ∙ quote in
     record {
       some = rw (one_more s (length s) (o + 1) (omega arith) e quote) (omega arith);
-      sofar = started fields s o;
+      sofar = subst (λ (k : ℕ). Sofar fields s o empty (members_from k s (o + 1))) all (started fields s o);
       ends = no-ends s;
       json =
           opens-some s o (alone 7) (obj (alone 7)) name₁ (there s o 122 brace) (not-ws (get_or s o 0) (omega arith)) (value-obj (alone 7) (get_or s o 0) brace (omega arith)) room
           ∙ past-tour name₁ (obj (alone 7)) (ws-name₁ (obj (alone 7))) (λ b w. refl) s (o + 1) room
           ∙ tour-alike s (past s (o + 1)) name₁ name (obj (alone 7)) room (omega (arith, e)) refl
           (name₁-name (alone 7) (get_or s (past s (o + 1)) 0) (past-ink s (o + 1) (omega (arith, e))) (λ z. omega (arith, b, z)));
-      turns = omega arith;
+      turns = omega (arith, all);
     }
 
 module _ {s : List ℕ} {o room : ℕ} {at end : List ℕ} {n p spare : ℕ} (f : Walking s o room at end n p spare) where
@@ -154,34 +150,34 @@ module _ {s : List ℕ} {o room : ℕ} {at end : List ℕ} {n p spare : ℕ} (f 
         next-json = to-name ∙ m.same (alone 7) refl
 
         -- a comma follows
-        pub walk-again : get_or s t 0 ≡ 44 → Walking s o room at' end' (n - 1) (t + 1) spare'
-        walk-again b =
+        pub walk-again : get_or s t 0 ≡ 44 → {left : ℕ} → n - 1 ≡ left → Walking s o room at' end' left (t + 1) spare'
+        walk-again b {left} less =
             let l = q-late in
             record {
               some = f.some;
-              sofar = next-sofar (members_from (n - 1) s (t + 1)) (comma s (members_from (n - 1) s) (value_of s q) m.row.goes.is b);
+              sofar = next-sofar (members_from left s (t + 1)) (
+                  comma s (members_from (n - 1) s) (value_of s q) m.row.goes.is b ∙ ap (λ (k : ℕ). members_from k s (t + 1)) less);
               ends = next-ends;
               json =
                   next-json
                   ∙ tour-moves s t after (obj (alone 7)) spare' false (live name (obj (alone 7))) m.inside refl (obj-comma (alone 7) (get_or s t 0) b)
                   ∙ past-tour name (obj (alone 7)) (ws-name (obj (alone 7))) (λ b w. refl) s (t + 1) spare';
-              turns = omega (arith, f.turns, m.row.named.low, m.row.begins.low, m.row.ends.low, m.row.goes.low);
+              turns = omega (arith, less, f.turns, m.row.named.low, m.row.begins.low, m.row.ends.low, m.row.goes.low);
             }
 
         -- the brace follows
         pub walk-shut : get_or s t 0 ≡ 125 → Listed s o room (t + 1) spare' at' end'
-        unfolding is_listed is_once
+        unfolding is_once
         walk-shut b =
             let g = over (next-sofar [] (no-comma s (members_from (n - 1) s) (value_of s q) m.row.goes.is (λ z. omega (arith, b, z)))) refl in
-            let shut : lone 7 (suc room) s o ≡ End (t + 1) spare' =
-            next-json
-            ∙ tour-moves s t after (obj (alone 7)) spare' false (live after (alone 7)) m.inside refl (obj_close (alone 7) (get_or s t 0) b)
-            ∙ alone-stops s 7 (End (t + 1) spare') (omega (arith, m.inside)) in
             record {
-              behind = rw (shut, lt-ltb 0 (length (members s o)) f.some, ← g.first);
-              spare = rw (shut, lt-ltb 0 (length (members s o)) f.some, ← g.first);
-              places = λ h. g.all refl;
-              ends = λ h. next-ends;
+              json =
+                  next-json
+                  ∙ tour-moves s t after (obj (alone 7)) spare' false (live after (alone 7)) m.inside refl (obj_close (alone 7) (get_or s t 0) b)
+                  ∙ alone-stops s 7 (Ok ((t + 1), spare')) (omega (arith, m.inside));
+              once = rw (lt-ltb 0 (length (members s o)) f.some, ← g.first);
+              places = g.all refl;
+              ends = next-ends;
             }
 
 -- A text that has not the usual shape, whatever the ceiling, or under c.
@@ -189,7 +185,7 @@ abbrev Unusual : List ℕ → Type 0
 Unusual s = (c : ℕ) → is_usual c s ≡ false
 
 module _ (s : List ℕ) where
-  untagged : 0 ≡ tag_of s → Unusual s
+  pub untagged : 0 ≡ tag_of s → Unusual s
   unfolding is_usual
   untagged e c = rw (← e) (ap (λ (b : Bool). leb 3 c && b) (and-false (is_end (tour s 0 value (text 8) c))) ∙ and-false (leb 3 c))
 
@@ -214,20 +210,14 @@ module _ (s : List ℕ) where
   not_listed e c =
       rw (e, and-false (ltb 0 (tag_of s))) (ap (λ (b : Bool). leb 3 c && b) (and-false (is_end (tour s 0 value (text 8) c))) ∙ and-false (leb 3 c))
 
-  pub no_beginning : {tag o : ℕ} → Unusual s → tag ≡ 0 → Opening s tag o
-  no_beginning e z = record { known = λ h. absurd (omega arith); unknown = λ h. e }
-
-  pub no_walk : (c : ℕ) {tag room : ℕ} {at end : List ℕ} → is_usual c s ≡ false → (tag ≡ 0) × ((room ≡ 0) × ((at ≡ empty) × (end ≡ empty))) → Usual c s tag room at end
-  no_walk c e f = record { tagged = f.0 ∙ rw e; spare = f.1.0 ∙ rw e; places = f.1.1.0 ∙ rw e; ends = f.1.1.1 ∙ rw e }
-
 -- The beginning: the bracket at o, the tag at x to e, the comma at c, the brace at y.
 module _ (s : List ℕ) {o : ℕ} (at-o : o ≡ past s 0) where
   pub begins-no-array : (get_or s o 0 ≡ 91 → ⊥) → Unusual s
-  begins-no-array ne = untagged s (no-array s at-o ne).untagged
+  begins-no-array ne = untagged s (no-array s at-o ne)
 
   module _ (array : get_or s o 0 ≡ 91) {x : ℕ} (at_x : x ≡ past s (o + 1)) where
     pub begins-no-string : (get_or s x 0 ≡ 34 → ⊥) → Unusual s
-    begins-no-string ne = let h = there s o 90 array in untagged s (no-tag s at-o at_x (length s) refl (omega arith) ne).untagged
+    begins-no-string ne = let h = there s o 90 array in untagged s (no-tag s at-o at_x (length s) refl (omega arith) ne)
 
     module _ (quote : get_or s x 0 ≡ 34) where
       to-string : (n : ℕ) → tour s 0 value (text 8) (suc n) ≡ tour s x value (arr (text 8)) n
@@ -241,32 +231,32 @@ module _ (s : List ℕ) {o : ℕ} (at-o : o ≡ past s 0) where
           ∙ tour-alike s x first value (arr (text 8)) n (there s x 33 quote) (first_alike (get_or s x 0) ink (λ z. omega (arith, quote, z)))
           (first-value (text 8) (get_or s x 0) ink (λ z. omega (arith, quote, z)))
 
-      module _ {e : ℕ} (at-e : e ≡ passed s x) where
-        pub begins-broken : e ≡ 0 → Unusual s
-        begins-broken z = roomy s (λ n. ap is_end (to-string (suc (suc n))) ∙ string-stuck s x (there s x 33 quote) quote (sym at-e ∙ z) (arr (text 8)) (suc n))
+      pub begins-broken : passed s x ≡ None → Unusual s
+      begins-broken z = roomy s (λ n. ap is_end (to-string (suc (suc n))) ∙ string-stuck s x (there s x 33 quote) quote z (arr (text 8)) (suc n))
 
-        module _ (some : 0 < e) {c : ℕ} (at_c : c ≡ past s e) where
-          tag-string : PassedString s x e
-          tag-string = rw at-e (string-passed s x (there s x 33 quote) quote (rw at-e at some))
+      module _ {e : ℕ} (at-e : passed s x ≡ Some e) where
+        pub tag-string : PassedString s x e
+        tag-string = string-passed s x (there s x 33 quote) quote at-e
 
+        module _ {c : ℕ} (at_c : c ≡ past s e) where
           at-follow : c ≡ follows s x
           unfolding follows
           at-follow = at_c ∙ ap (past s) tag-string.ends.is
 
           pub begins-alone : (get_or s c 0 ≡ 44 → ⊥) → Unusual s
-          begins-alone ne = let h = there s o 90 array in untagged s (one-alone s at-o at_x (length s) refl (omega arith) quote at-follow ne).untagged
+          begins-alone ne = let h = there s o 90 array in untagged s (one-alone s at-o at_x (length s) refl (omega arith) quote at-follow ne)
 
           module _ (more-one : get_or s c 0 ≡ 44) {y : ℕ} (at_y : y ≡ past s (c + 1)) where
             early : 0 < c
-            early = omega (arith, at_c, past-low s e, some)
+            early = omega (arith, at_c, past-low s e, tag-string.beyond)
 
             pub begins-no-object : (get_or s y 0 ≡ 123 → ⊥) → Unusual s
             begins-no-object ne =
                 let h = there s c 43 more-one in
-                untagged s (no-object s at-o at_x (length s) refl (omega arith) quote at-follow more-one (let l = early in omega arith) at_y ne).untagged
+                untagged s (no-object s at-o at_x (length s) refl (omega arith) quote at-follow more-one (let l = early in omega arith) at_y ne)
 
             module _ (object : get_or s y 0 ≡ 123) {u : List ℕ} {tag : ℕ} (called : u ≡ part s (x + 1) (e - 1)) (numbered : tag ≡ word_spelled tags u) where
-              begun : Begun s tag y
+              pub begun : Begun s tag y
               begun =
                   let h = there s c 43 more-one in
                   let i = there s y 122 object in
@@ -284,18 +274,18 @@ module _ (s : List ℕ) {o : ℕ} (at-o : o ≡ past s 0) where
                     two = λ ne.
                         a_pair s at-o at_x (length s) refl (omega arith) quote at-follow more-one (omega arith) at_y refl array object ne i
                         (called ∙ raw-is s x (closing-is s x tag-string.ends)) numbered;
-                    three = λ z. (three s at-o at_x (length s) refl (omega arith) quote at-follow more-one (omega arith) at_y refl z (omega arith)).untagged;
+                    three = λ z. (three s at-o at_x (length s) refl (omega arith) quote at-follow more-one (omega arith) at_y refl z (omega arith));
                   }
 
-              pub begins : Opening s tag y
-              begins = record { known = λ h. begun; unknown = λ z. untagged s (by z (ℕ_discrete (get_or s (follows s y) 0) 44)) }
+              pub no-such-tag : tag ≡ 0 → Unusual s
+              no-such-tag z = untagged s (by (ℕ_discrete (get_or s (follows s y) 0) 44))
                 where
-                  by : tag ≡ 0 → Dec (get_or s (follows s y) 0 ≡ 44) → 0 ≡ tag_of s
-                  by z (yes g) = begun.three g
-                  by z (no g) = sym z ∙ (begun.two g).is
+                  by : Dec (get_or s (follows s y) 0 ≡ 44) → 0 ≡ tag_of s
+                  by (yes g) = begun.three g
+                  by (no g) = sym z ∙ (begun.two g).is
 
 -- The end, under a ceiling that leaves room for n values inside the object.
-module _ {s : List ℕ} {c n tag o e room : ℕ} {t es : List ℕ} (big : c ≡ suc (suc (suc n))) (some : 0 < tag) (b : Begun s tag o) (l : Listed s o n e room t es) where
+module _ {s : List ℕ} {c n tag o : ℕ} (big : c ≡ suc (suc (suc n))) (some : 0 < tag) (b : Begun s tag o) where
   to-object : tour s 0 value (text 8) c ≡ resume s after (arr (text 8)) (lone 7 (suc n) s o)
   to-object = ap (tour s 0 value (text 8)) big ∙ b.json (suc n) ∙ tour-around s 7 (arr (text 8)) refl o (suc n)
 
@@ -312,41 +302,18 @@ module _ {s : List ℕ} {c n tag o e room : ℕ} {t es : List ℕ} (big : c ≡ 
         by (no g) = pair (b.two g)
 
   -- the object is not listed
-  pub fields_unusual : e ≡ 0 → is_usual c s ≡ false
+  pub fields_unusual : is_listed s o n ≡ false → is_usual c s ≡ false
   unfolding is_listed
-  fields_unusual z = by (lone 7 (suc n) s o) (is_once s (members s o)) refl refl (sym l.behind ∙ z)
+  fields_unusual z = by (lone 7 (suc n) s o) (is_once s (members s o)) refl refl z
     where
-      late : (w m : ℕ) → lone 7 (suc n) s o ≡ End w m → w ≡ 0 → ⊥
-      late w m g k = let i = o_in in omega (arith, (one-ends 7 s o w (omega arith) (lone-ends 7 (suc n) s o w m g)).0)
+      by : (r : Toured) (y : Bool) → lone 7 (suc n) s o ≡ r → is_once s (members s o) ≡ y → (is_end r && y) ≡ false → is_usual c s ≡ false
+      by (Ok (w, m)) true g h k = cc
+      by (Ok (w, m)) false g h k = by-comma (is_usual c s ≡ false) (λ u. untagged s u c) (λ p. not_listed s (rw (← p.opens) h) c)
+      by (Err f) y g h k = no-json s c (ap is_end to-object ∙ stuck-on s after (arr (text 8)) (lone 7 (suc n) s o) (ap is_end g))
 
-      by : (r : Toured) (y : Bool) → lone 7 (suc n) s o ≡ r → is_once s (members s o) ≡ y
-          → cond (is_end (lone 7 (suc n) s o) && is_once s (members s o)) (spot (lone 7 (suc n) s o)) 0 ≡ 0 → is_usual c s ≡ false
-      by (End w m) true g h k = absurd (late w m g (rw (g, h) at k))
-      by (End w m) false g h k = by-comma (is_usual c s ≡ false) (λ u. untagged s u c) (λ p. not_listed s (let q = object-opens s p some in rw (← q) h) c)
-      by (Bad p) y g h k = no-json s c (ap is_end to-object ∙ stuck-on s after (arr (text 8)) (lone 7 (suc n) s o) (ap is_end g))
-      by (Deep p) y g h k = no-json s c (ap is_end to-object ∙ stuck-on s after (arr (text 8)) (lone 7 (suc n) s o) (ap is_end g))
-      by (Many p) y g h k = no-json s c (ap is_end to-object ∙ stuck-on s after (arr (text 8)) (lone 7 (suc n) s o) (ap is_end g))
-
-  module _ (listed : 0 < e) where
-    is-listed : (lone 7 (suc n) s o ≡ End e room) × (is_once s (members s o) ≡ true)
-    unfolding is_listed
-    is-listed = by (lone 7 (suc n) s o) (is_once s (members s o)) refl refl l.behind l.spare
-      where
-        by : (r : Toured) (y : Bool) → lone 7 (suc n) s o ≡ r → is_once s (members s o) ≡ y
-            → e ≡ cond (is_end (lone 7 (suc n) s o) && is_once s (members s o)) (spot (lone 7 (suc n) s o)) 0
-            → room ≡ cond (is_end (lone 7 (suc n) s o) && is_once s (members s o)) (room_in (lone 7 (suc n) s o)) 0
-            → (lone 7 (suc n) s o ≡ End e room) × (is_once s (members s o) ≡ true)
-        by (End w m) true g h k j =
-            let u : e ≡ w = rw (g, h) at k in
-            let v : room ≡ m = rw (g, h) at j in
-            (g ∙ ap (λ (x : ℕ). End x m) (sym u) ∙ ap (End e) (sym v), h)
-        by (End w m) false g h k j = absurd (let u : e ≡ 0 = rw (g, h) at k in omega arith)
-        by (Bad p) y g h k j = absurd (let u : e ≡ 0 = rw g at k in omega arith)
-        by (Deep p) y g h k j = absurd (let u : e ≡ 0 = rw g at k in omega arith)
-        by (Many p) y g h k j = absurd (let u : e ≡ 0 = rw g at k in omega arith)
-
-    object-end : one 7 s o ≡ walked.End e
-    object-end = lone-ends 7 (suc n) s o e room is-listed.0
+  module _ {e room : ℕ} {t es : List ℕ} (l : Listed s o n e room t es) where
+    object-end : one 7 s o ≡ Ok e
+    object-end = lone-ends 7 (suc n) s o e room l.json
 
     module _ {z : ℕ} (at-z : z ≡ past s e) where
       z-follows : z ≡ follows s o
@@ -355,7 +322,7 @@ module _ {s : List ℕ} {c n tag o e room : ℕ} {t es : List ℕ} (big : c ≡ 
 
       to_end : tour s 0 value (text 8) c ≡ tour s z after (arr (text 8)) room
       to_end =
-          to-object ∙ ap (resume s after (arr (text 8))) is-listed.0
+          to-object ∙ ap (resume s after (arr (text 8))) l.json
           ∙ past-tour after (arr (text 8)) (λ x g. ws-arr x g (text 8)) (λ x w. refl) s e room
           ∙ ap (λ (i : ℕ). tour s i after (arr (text 8)) room) (sym at-z)
 
@@ -393,66 +360,59 @@ module _ {s : List ℕ} {c n tag o e room : ℕ} {t es : List ℕ} (big : c ≡ 
         unfolding is_usual field_places
         usual low high =
             let shape : Shaped s tag o = b.two (λ g. let y = ap (λ (i : ℕ). get_or s i 0) z-follows in omega (arith, array)) in
-            let at : o ≡ object_of s = object-opens s shape some in
-            let json : tour s 0 value (text 8) c ≡ End w room =
-            to_last ∙ tour-is s w after (text 8) room (walked.End w) [] (whole s w high low) (places_halt s w after (text 8) (omega arith)) in
+            let at : o ≡ object_of s = shape.opens in
+            let json : tour s 0 value (text 8) c ≡ Ok (w, room) =
+            to_last ∙ tour-is s w after (text 8) room (Ok w) [] (whole s w high low) (places_halt s w after (text 8) (omega arith)) in
             let three : leb 3 c ≡ true = le-leb 3 c (omega arith) in
-            let once : is_once s (members s (object_of s)) ≡ true = rw (← at) is-listed.1 in
+            let once : is_once s (members s (object_of s)) ≡ true = rw (← at) l.once in
             let tagged : ltb 0 (tag_of s) ≡ true = lt-ltb 0 (tag_of s) (omega (arith, shape.is)) in
             record {
-              tagged = rw (three, json, tagged, once) shape.is;
-              spare = rw (three, json, tagged, once);
-              places = rw (three, json, tagged, once, ← at) (l.places listed);
-              ends = rw (three, json, tagged, once, ← at, ← (l.places listed)) (l.ends listed);
+              is = rw (three, json, tagged, once);
+              tagged = shape.is;
+              spare = rw json;
+              places = rw (← at) l.places;
+              ends = l.ends;
             }
 
 -- rows 4 to 7 and 11 on a text of the usual shape
-module _ {c : ℕ} {s : List ℕ} {tag room : ℕ} {t es : List ℕ} (u : Usual c s tag room t es) (some : 0 < tag) where
-  is-usual : is_usual c s ≡ true
-  is-usual = by (is_usual c s) refl u.tagged
-    where
-      by : (x : Bool) → is_usual c s ≡ x → tag ≡ cond x (tag_of s) 0 → is_usual c s ≡ true
-      by true e f = e
-      by false e f = absurd (omega arith)
-
-  is-tag : tag ≡ tag_of s
-  is-tag = let e = is-usual in rw e at u.tagged
-
+module _ {c : ℕ} {s : List ℕ} {tag room : ℕ} {t es : List ℕ} (u : Usual c s tag room t es) where
   pub usual-few : tag < 5
-  usual-few = omega (arith, is-tag, tag-few s)
+  usual-few = omega (arith, u.tagged, tag-few s)
 
   pub usual-ends : Ended s t es
-  usual-ends =
-      let e = is-usual in
-      let f : t ≡ field_places s = rw e at u.places in
-      ends-known s t (let g : es ≡ ends_of s (field_places s) = rw e at u.ends in rw f g)
+  usual-ends = ends-known s t u.ends
 
-  usual-end : (e : ℕ) × (tour s 0 value (text 8) c ≡ End e room)
+  usual-end : (e : ℕ) × (tour s 0 value (text 8) c ≡ Ok (e, room))
   unfolding is_usual
   usual-end =
-      let g : room ≡ room_in (tour s 0 value (text 8) c) = let e = is-usual in rw e at u.spare in
-      let h = (and_parts (leb 3 c) (is_end (tour s 0 value (text 8) c) && (ltb 0 (tag_of s) && is_once s (members s (object_of s)))) is-usual).1 in
-      by (tour s 0 value (text 8) c) refl g (and_parts (is_end (tour s 0 value (text 8) c)) (ltb 0 (tag_of s) && is_once s (members s (object_of s))) h).0
+      let h = (and_parts (leb 3 c) (is_end (tour s 0 value (text 8) c) && (ltb 0 (tag_of s) && is_once s (members s (object_of s)))) u.is).1 in
+      by (tour s 0 value (text 8) c) refl u.spare (and_parts (is_end (tour s 0 value (text 8) c)) (ltb 0 (tag_of s) && is_once s (members s (object_of s))) h).0
     where
-      by : (r : Toured) → tour s 0 value (text 8) c ≡ r → room ≡ room_in r → is_end r ≡ true → (e : ℕ) × (tour s 0 value (text 8) c ≡ End e room)
-      by (End w m) f g h = (w, f ∙ ap (End w) (sym g))
-      by (Bad w) f g h = clash h refl
-      by (Deep w) f g h = clash h refl
-      by (Many w) f g h = clash h refl
+      by : (r : Toured) → tour s 0 value (text 8) c ≡ r → room ≡ room_in r → is_end r ≡ true → (e : ℕ) × (tour s 0 value (text 8) c ≡ Ok (e, room))
+      by (Ok (w, m)) f g h = (w, f ∙ ap (λ (n : ℕ). Ok (w, n)) (sym g))
+      by (Err x) f g h = clash h refl
 
   pub usual-room : room ≤ c
   usual-room = tour-room c s usual-end.0 room usual-end.1
 
-  usual-shaped : judged s tag t ≡ shaped s
-  unfolding shaped known is_usual is_once field_places
-  usual-shaped =
-      let d = and_parts (leb 3 c) (is_end (tour s 0 value (text 8) c) && (ltb 0 (tag_of s) && is_once s (members s (object_of s)))) is-usual in
+  -- its parts: a tag, and no name twice
+  usual-parts : (0 < tag) × (repeated fields s empty (members s (object_of s)) ≡ 0)
+  unfolding is_usual is_once
+  usual-parts =
+      let d = and_parts (leb 3 c) (is_end (tour s 0 value (text 8) c) && (ltb 0 (tag_of s) && is_once s (members s (object_of s)))) u.is in
       let e = and_parts (is_end (tour s 0 value (text 8) c)) (ltb 0 (tag_of s) && is_once s (members s (object_of s))) d.1 in
-      let once = (and_parts (ltb 0 (tag_of s)) (is_once s (members s (object_of s))) e.1).1 in
-      let o = and_parts (ltb 0 (length (members s (object_of s)))) (eqb (repeated fields s empty (members s (object_of s))) 0) once in
-      let z = eqb-true (repeated fields s empty (members s (object_of s))) 0 o.1 in
-      let f : t ≡ noted fields s empty (members s (object_of s)) = rw is-usual at u.places in
-      sym (rw (← is-tag, ne_eqb tag 0 (λ y. omega arith), z, ← f))
+      let f = and_parts (ltb 0 (tag_of s)) (is_once s (members s (object_of s))) e.1 in
+      let o = and_parts (ltb 0 (length (members s (object_of s)))) (eqb (repeated fields s empty (members s (object_of s))) 0) f.1 in
+      (omega (arith, u.tagged, ltb-true 0 (tag_of s) f.0), eqb-true (repeated fields s empty (members s (object_of s))) 0 o.1)
+
+  pub usual-some : 0 < tag
+  usual-some = usual-parts.0
+
+  usual-shaped : judged s tag t ≡ shaped s
+  unfolding shaped known field_places
+  usual-shaped =
+      let f : t ≡ noted fields s empty (members s (object_of s)) = u.places in
+      sym (rw (← u.tagged, ne_eqb tag 0 (λ y. let h = usual-some in omega arith), usual-parts.1, ← f))
 
   pub usual-read : {r : Reading} → r ≡ judged s tag t → ◌≡◌ {A = Report} (record { reading = r; count = c - room }) (on_json s (visited c s))
   usual-read {r} e =

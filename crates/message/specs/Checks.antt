@@ -1,13 +1,17 @@
 -- 01 Reading, rows 8 and 9: the fields that a tag or a method asks for, first what is missing, then what breaks its rule. A run of both rows
 -- goes by the tag, and for a request a second one by its method. Assumes nothing.
-use Rattle.std.specs.Prelude.{ℕ, zero, suc, ◌+◌, eqb, ltb, get_or, Bool, true, false, not, ◌&&◌, cond, List}
+use Rattle.std.specs.Prelude.{ℕ, zero, suc, ◌+◌, eqb, ltb, get_or, Bool, true, false, not, ◌&&◌, cond, List, Result, Ok, Err}
 use Rattle.json_text.specs.Places.{bytes}
 use Rattle.fields.specs.Field.{keeps, fault_at}
-use Rattle.message.specs.declared.checking.Check.TheVariants.{Good, Fault}
-use Rattle.message.specs.declared.checking.Check.{Check}
+use Rattle.message.specs.declared.refusals.Refusal.TheVariants.{Missing, Rule}
+use Rattle.message.specs.declared.refusals.Refusal.{Refusal}
 use Rattle.fields.specs.declared.judging.Setting.{Setting}
 use Rattle.rules.specs.Asks.{tag_asks, method_asks}
 use Rattle.rules.specs.Numbers.{required, unlisted}
+
+-- what a row says: nothing, or that it refuses
+abbrev pub Check : Type 0
+Check = Result (Unit {0}) Refusal
 
 -- what the run asks of field n: required, optional, or not listed; by the tag, or by a request's method
 abbrev pub asks : Bool → Setting → ℕ → ℕ
@@ -39,10 +43,13 @@ broken s run k t = lowest (breaks s run k t) 1 26
 abbrev pub broken_place : List ℕ → Setting → List ℕ → ℕ → ℕ
 broken_place s k t n = get_or t n 0 + fault_at k n (bytes s (get_or t n 0))
 
--- row 9 on a run, where b is the lowest field that breaks its rule
+-- row 8 on a run, where m is the lowest field that is missing, and row 9, where b is the lowest that breaks its rule
+abbrev pub eight : ℕ → Check
+eight m = cond (ltb 0 m) (Err (Missing m)) (Ok tt)
+
 abbrev pub nine : List ℕ → Setting → List ℕ → ℕ → Check
-nine s k t b = cond (ltb 0 b) (Fault 9 (broken_place s k t b)) Good
+nine s k t b = cond (ltb 0 b) (Err (Rule (broken_place s k t b))) (Ok tt)
 
 -- rows 8 and 9 on a run
 unfoldable pub checked : List ℕ → Bool → Setting → List ℕ → Check
-checked s run k t = cond (ltb 0 (missing run k t)) (Fault 8 (missing run k t)) (nine s k t (broken s run k t))
+checked s run k t = cond (ltb 0 (missing run k t)) (Err (Missing (missing run k t))) (nine s k t (broken s run k t))

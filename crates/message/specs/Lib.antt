@@ -2,5 +2,6 @@ pub mod Checks
 pub mod Shape
 pub mod Message
 pub mod Parties
+pub mod Refusal
 pub mod Reading
 pub mod inner

@@ -1,6 +1,6 @@
 -- What is read of a message (01 Reading): facts, each a function of the text s and of the places t of its known fields; and row 10, where
 -- fields disagree. Assumes nothing.
-use Rattle.std.specs.Prelude.{ℕ, ◌+◌, eqb, get_or, Bool, true, false, not, ◌&&◌, ◌||◌, cond, List}
+use Rattle.std.specs.Prelude.{ℕ, ◌+◌, eqb, get_or, Bool, true, false, not, ◌&&◌, ◌||◌, cond, List, Option, Some, None}
 use Rattle.json_text.specs.Places.{bytes}
 use Rattle.fields.specs.Trail.{no_trail, trail_in, moved}
 use Rattle.escapes.specs.Rfc7159.{spells}
@@ -20,34 +20,31 @@ use Rattle.rules.specs.Status.{status_of}
 use Rattle.rules.specs.Words.{content_types}
 use Rattle.rules.specs.declared.addresses.Address.TheVariants as addresses
 use Rattle.rules.specs.declared.addresses.Address.{Address}
-use Rattle.rules.specs.declared.sequences.Sequence.TheVariants as sequences
 use Rattle.rules.specs.declared.sequences.Sequence.{Sequence}
-use Rattle.rules.specs.declared.statuses.Status.TheVariants as statuses
-use Rattle.rules.specs.declared.statuses.Status.{Status}
 
 -- the text of field n
 abbrev pub field_text : List ℕ → List ℕ → ℕ → List ℕ
 field_text s t n = text_at s (get_or t n 0)
 
 -- number and method of CSeq
-abbrev pub number_in : Sequence → ℕ
-number_in (sequences.Of n m) = n
-number_in sequences.Broken = 0
+abbrev pub number_in : Option Sequence → ℕ
+number_in (Some q) = q.number
+number_in None = 0
 
-abbrev pub method_in : Sequence → ℕ
-method_in (sequences.Of n m) = m
-method_in sequences.Broken = 0
+abbrev pub method_in : Option Sequence → ℕ
+method_in (Some q) = q.method
+method_in None = 0
 
 -- whether an address is a caller's
-abbrev pub caller_in : Address → Bool
-caller_in (addresses.Caller u f) = true
-caller_in (addresses.Callee f) = false
-caller_in addresses.Broken = false
+abbrev pub caller_in : Option Address → Bool
+caller_in (Some (addresses.Caller u f)) = true
+caller_in (Some (addresses.Callee f)) = false
+caller_in None = false
 
 -- the code of Status
-abbrev pub code_in : Status → ℕ
-code_in (statuses.Code n) = n
-code_in statuses.Broken = 0
+abbrev pub code_in : Option ℕ → ℕ
+code_in (Some n) = n
+code_in None = 0
 
 unfoldable pub number_of : List ℕ → List ℕ → ℕ
 number_of s t = number_in (sequence_of (field_text s t field_cseq))
@@ -125,20 +122,20 @@ disagrees s k t =
 -- Where the texts stand that name the parties.
 
 -- the user, the caller's Fire-ID and the callee's, in the text of an address; nowhere in an address of the other side
-abbrev pub user_span : Address → Span
-user_span (addresses.Caller user fire) = record { start = 7; end = user }
-user_span (addresses.Callee fire) = nowhere
-user_span addresses.Broken = nowhere
+abbrev pub user_span : Option Address → Span
+user_span (Some (addresses.Caller user fire)) = record { start = 7; end = user }
+user_span (Some (addresses.Callee fire)) = nowhere
+user_span None = nowhere
 
-abbrev pub caller_span : Address → Span
-caller_span (addresses.Caller user fire) = record { start = user + 1; end = fire }
-caller_span (addresses.Callee fire) = nowhere
-caller_span addresses.Broken = nowhere
+abbrev pub caller_span : Option Address → Span
+caller_span (Some (addresses.Caller user fire)) = record { start = user + 1; end = fire }
+caller_span (Some (addresses.Callee fire)) = nowhere
+caller_span None = nowhere
 
-abbrev pub callee_span : Address → Span
-callee_span (addresses.Caller user fire) = nowhere
-callee_span (addresses.Callee fire) = record { start = 12; end = fire }
-callee_span addresses.Broken = nowhere
+abbrev pub callee_span : Option Address → Span
+callee_span (Some (addresses.Caller user fire)) = nowhere
+callee_span (Some (addresses.Callee fire)) = record { start = 12; end = fire }
+callee_span None = nowhere
 
 -- where the caller's address stands, From if the message is from a caller, else To; and the callee's, the other one
 unfoldable pub caller_place : Bool → List ℕ → ℕ

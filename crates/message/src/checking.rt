@@ -1,101 +1,99 @@
 // 01 Reading, rows 8 and 9, on a run of fields: what a tag asks for, or what a request's method asks for.
 ghost use Rattle.fields.specs.inner.Gathering.{Ended};
-ghost use Rattle.std.specs.Prelude.{◌≡◌, ◌+◌, ◌<◌};
-ghost use Rattle.message.specs.Checks.{asks, lacks, missing};
-ghost use Rattle.message.specs.inner.Facts.{nine_from, of_field};
+ghost use Rattle.std.specs.Prelude.{◌≡◌, ◌<◌};
+ghost use Rattle.message.specs.Checks.{asks, eight, lacks, missing};
+ghost use Rattle.message.specs.inner.Facts.{Fits, by_tag, nine_from, of_field, placed};
 
-use fields::{Judged, Setting, judge, value_at};
+use crate::refusals::Refusal;
+use fields::{Setting, judge, value_at};
 use rules::{REQUIRED, UNLISTED};
 
-// What a run of rows 8 and 9 finds: nothing, or a number with its place.
-#[derive(Drop)]
-pub enum Check {
-    Good,
-    Fault(u8, usize),
+// What the fields are asked for by: the tag, or a request's method.
+#[derive(Clone, Copy)]
+pub enum Run {
+    Tag,
+    Method,
 }
 
-// What the run asks of field n: the tag's run where `run` is true, else the method's.
-fn asks(run: bool, k: Setting, n: usize) -> u8
+// What the run asks of field n.
+fn asks(run: Run, k: Setting, n: usize) -> u8
     requires { (k.tag < 5) × ((k.method < 9) × (n < 27)) }
-    ensures { result ≡ asks run k n }
+    ensures { result ≡ asks (by_tag run) k n }
 {
-    let tag = k.tag as usize;
-    let method = k.method as usize;
-    if run {
-        return rules::tag_asks(tag, n);
+    match run {
+        Run::Tag => rules::tag_asks(k.tag as usize, n),
+        Run::Method => rules::method_asks(k.method as usize, n),
     }
-    rules::method_asks(method, n)
 }
 
 // Whether field n is required and not there.
-fn is_lacking(run: bool, k: Setting, at: &[usize; 27], n: usize) -> bool
+fn is_lacking(run: Run, k: Setting, at: &[usize; 27], n: usize) -> bool
     requires { (k.tag < 5) × ((k.method < 9) × (n < 27)) }
-    ensures { result ≡ lacks run k at.now n }
+    ensures { result ≡ lacks (by_tag run) k at.now n }
 {
-    if at[n] != 0 {
-        return false;
-    }
-    asks(run, k, n) == REQUIRED
+    at[n] == 0 && asks(run, k, n) == REQUIRED
 }
 
-// The lowest field that is missing, or 0.
-pub fn lacking(run: bool, k: Setting, at: &[usize; 27]) -> usize
+// Row 8 on a run: the lowest field that is missing refuses.
+pub fn check_required(run: Run, k: Setting, at: &[usize; 27]) -> Result<(), Refusal>
     requires { (k.tag < 5) × (k.method < 9) }
-    ensures { (result ≡ missing run k at.now) × (result < 27) }
+    ensures { result ≡ eight (missing (by_tag run) k at.now) }
 {
-    let mut n: usize = 1;
-    while n < 27 {
+    for n in 1..27 {
         if is_lacking(run, k, at, n) {
-            return n;
+            return Err(Refusal::Missing(n));
         }
-        n += 1;
     }
-    0
+    Ok(())
 }
 
 // What row 9 says of field n, from 4 on: that it breaks its rule, if it is listed and there and does.
 fn judge_field(
     s: &[u8],
-    run: bool,
+    run: Run,
     k: Setting,
     at: &[usize; 27],
     end: &[usize; 27],
     n: usize,
-) -> Judged
+) -> Result<(), usize>
     requires { (k.tag < 5) × ((k.method < 9) × ((3 < n) × ((n < 27) × Ended s.now at.now end.now))) }
-    ensures { result ≡ of_field s.now run k at.now n }
+    ensures { result ≡ of_field s.now (by_tag run) k at.now n }
 {
     let v = at[n];
     if v == 0 {
-        return Judged::Kept;
+        return Ok(());
     }
     if asks(run, k, n) == UNLISTED {
-        return Judged::Kept;
+        return Ok(());
     }
     let e = end[n];
     judge(k, n, value_at(s, v, e))
 }
 
-// The place p of the value at v: the value's first byte, or inside it, so the sum stays in bounds.
-pub fn place_in(v: usize, p: usize) -> usize
-    requires { 0 < p → v + p < 0x10000000000000000 }
-    ensures { result ≡ v + p }
+// What a rule says of the value at v, as a refusal: its place is the value's first byte, or inside it, so the sum stays in bounds.
+pub fn placed<T>(said: Result<T, usize>, v: usize) -> Result<T, Refusal>
+    requires { Fits v said }
+    ensures { result ≡ placed v said }
 {
-    v + p
+    match said {
+        Ok(told) => Ok(told),
+        Err(p) => Err(Refusal::Rule(v + p)),
+    }
 }
 
-// Row 9 on a run that asks for none of the fields 1 to 3.
-pub fn breaking(s: &[u8], run: bool, k: Setting, at: &[usize; 27], end: &[usize; 27]) -> Check
-    requires { (k.tag < 5) × ((k.method < 9) × (Ended s.now at.now end.now × (nine_from s.now run k at.now 1 ≡ nine_from s.now run k at.now 4))) }
-    ensures { result ≡ nine_from s.now run k at.now 1 }
+// Row 9 on a run that asks for none of the fields 1 to 3: the lowest that breaks its rule refuses.
+pub fn check_rules(
+    s: &[u8],
+    run: Run,
+    k: Setting,
+    at: &[usize; 27],
+    end: &[usize; 27],
+) -> Result<(), Refusal>
+    requires { (k.tag < 5) × ((k.method < 9) × (Ended s.now at.now end.now × (nine_from s.now (by_tag run) k at.now 1 ≡ nine_from s.now (by_tag run) k at.now 4))) }
+    ensures { result ≡ nine_from s.now (by_tag run) k at.now 1 }
 {
-    let mut n: usize = 4;
-    while n < 27 {
-        let j = judge_field(s, run, k, at, end, n);
-        if let Judged::Broken(p) = j {
-            return Check::Fault(9, place_in(at[n], p));
-        }
-        n += 1;
+    for n in 4..27 {
+        placed(judge_field(s, run, k, at, end, n), at[n])?;
     }
-    Check::Good
+    Ok(())
 }

@@ -1,23 +1,25 @@
 // What is read of a message (01 Reading): what its fields tell on the way through row 9, and the facts that go on.
 ghost use Rattle.fields.specs.inner.Asked.{Within};
 ghost use Rattle.fields.specs.inner.Gathering.{Ended};
-ghost use Rattle.std.specs.Prelude.{cond, ◌≡◌, ◌<◌, ◌-◌};
+ghost use Rattle.std.specs.Prelude.{cond, ◌≡◌, ◌<◌, ◌-◌, Some};
 ghost use Rattle.json_text.specs.Places.{behind};
 ghost use Rattle.message.specs.Message.{callee_span, caller_span, caller_in, message_of, probe_of, secure_of, user_span};
 ghost use Rattle.message.specs.inner.Facts.{FactsOf, PartiesOf, Placed};
 ghost use Rattle.fields.specs.Trail.{moved};
 
 use fields::{Setting, Span, Trail, no_trail, spelling_span, value_at};
-use octets::{and, same};
-use rules::{CALL_ID, CSEQ, FROM, INVITE, REQUEST, SECURE_CALL, TO, VIA};
+use octets::same;
+use rules::{Address, CALL_ID, CSEQ, FROM, INVITE, REQUEST, SECURE_CALL, TO, VIA};
+
+const NOWHERE: Span = Span { start: 0, end: 0 };
 
 // What the fields 1 to 7 tell on the way through row 9: CSeq's number and method, To and From, Via's trail, a response's status code.
 #[derive(Clone, Copy)]
 pub struct Facts {
     pub number: u32,
     pub method: u8,
-    pub to: rules::Address,
-    pub from: rules::Address,
+    pub to: Address,
+    pub from: Address,
     pub trail: Trail,
     pub code: u16,
 }
@@ -48,69 +50,58 @@ pub struct Message {
 }
 
 // Whether an address is a caller's.
-pub fn side_of(a: rules::Address) -> bool
-    ensures { result ≡ caller_in a }
+pub fn side_of(a: Address) -> bool
+    ensures { result ≡ caller_in (Some a) }
 {
-    match a {
-        rules::Address::Caller(_, _) => true,
-        rules::Address::Callee(_) => false,
-        rules::Address::Broken => false,
-    }
+    matches!(a, Address::Caller { .. })
 }
 
 // Secure-Call of an INVITE request.
+#[tactic(auto, unfolding(crate::specs::Message::secure_of))]
 fn secure_of(s: &[u8], k: Setting, v: usize, e: usize) -> bool
     requires { 0 < e → e ≡ behind s.now v }
     ensures { result ≡ secure_of s.now k v }
 {
-    let tag = k.tag;
-    let method = k.method;
-    if and(tag == REQUEST, method == INVITE) {
-        return same(value_at(s, v, e), b"true");
-    }
-    false
+    k.tag == REQUEST && k.method == INVITE && same(value_at(s, v, e), b"true")
 }
 
 // The user in an address.
-fn user_span(a: rules::Address) -> Span
-    ensures { result ≡ user_span a }
+fn user_span(a: Address) -> Span
+    ensures { result ≡ user_span (Some a) }
 {
-    match a {
-        rules::Address::Caller(user, _) => Span {
-            start: 7,
-            end: user,
-        },
-        rules::Address::Callee(_) => Span { start: 0, end: 0 },
-        rules::Address::Broken => Span { start: 0, end: 0 },
+    let Address::Caller { user, .. } = a else {
+        return NOWHERE;
+    };
+    Span {
+        start: 7,
+        end: user,
     }
 }
 
 // The caller's Fire-ID in an address.
-fn caller_span(a: rules::Address) -> Span
+fn caller_span(a: Address) -> Span
     requires { Placed a }
-    ensures { result ≡ caller_span a }
+    ensures { result ≡ caller_span (Some a) }
 {
-    match a {
-        rules::Address::Caller(user, fire) => Span {
-            start: user + 1,
-            end: fire,
-        },
-        rules::Address::Callee(_) => Span { start: 0, end: 0 },
-        rules::Address::Broken => Span { start: 0, end: 0 },
+    let Address::Caller { user, fire } = a else {
+        return NOWHERE;
+    };
+    Span {
+        start: user + 1,
+        end: fire,
     }
 }
 
 // The callee's Fire-ID in an address.
-fn callee_span(a: rules::Address) -> Span
-    ensures { result ≡ callee_span a }
+fn callee_span(a: Address) -> Span
+    ensures { result ≡ callee_span (Some a) }
 {
-    match a {
-        rules::Address::Callee(fire) => Span {
-            start: 12,
-            end: fire,
-        },
-        rules::Address::Caller(_, _) => Span { start: 0, end: 0 },
-        rules::Address::Broken => Span { start: 0, end: 0 },
+    let Address::Callee { fire } = a else {
+        return NOWHERE;
+    };
+    Span {
+        start: 12,
+        end: fire,
     }
 }
 
@@ -125,7 +116,7 @@ struct Parties {
 }
 
 // The parties of the caller's address a, spelled at v, and the callee's b at w.
-fn parties_of(v: Span, a: rules::Address, w: Span, b: rules::Address) -> Parties
+fn parties_of(v: Span, a: Address, w: Span, b: Address) -> Parties
     requires { Placed a }
     ensures { PartiesOf v a w b result }
 {
@@ -139,9 +130,9 @@ fn parties_of(v: Span, a: rules::Address, w: Span, b: rules::Address) -> Parties
 }
 
 // The parties of From's address, spelled at v, and To's at w: the caller's is From's where the message is from a caller.
-fn sorted(from: rules::Address, to: rules::Address, v: Span, w: Span) -> Parties
+fn sorted(from: Address, to: Address, v: Span, w: Span) -> Parties
     requires { Placed from × Placed to }
-    ensures { PartiesOf (cond (caller_in from) v w) (cond (caller_in from) from to) (cond (caller_in from) w v) (cond (caller_in from) to from) result }
+    ensures { PartiesOf (cond (caller_in (Some from)) v w) (cond (caller_in (Some from)) from to) (cond (caller_in (Some from)) w v) (cond (caller_in (Some from)) to from) result }
 {
     if side_of(from) {
         return parties_of(v, from, w, to);
@@ -172,42 +163,28 @@ pub fn message_of(s: &[u8], k: Setting, f: Facts, at: &[usize; 27], end: &[usize
     requires { FactsOf s.now k.tag at.now f × Ended s.now at.now end.now }
     ensures { result ≡ message_of s.now k at.now }
 {
-    let tag = k.tag;
-    let method = k.method;
-    let from = f.from;
-    let to = f.to;
-    let trail = f.trail;
-    let caller = side_of(from);
-    let secure = secure_of(s, k, at[SECURE_CALL], end[SECURE_CALL]);
-    let callid = spelling_span(s, at[CALL_ID], end[CALL_ID]);
     let v = spelling_span(s, at[FROM], end[FROM]);
     let w = spelling_span(s, at[TO], end[TO]);
-    let p = sorted(from, to, v, w);
-    let calleraddress = p.calleraddress;
-    let calleeaddress = p.calleeaddress;
-    let user = p.user;
-    let callerfire = p.callerfire;
-    let calleefire = p.calleefire;
-    let there = moved(at[VIA], trail);
+    let p = sorted(f.from, f.to, v, w);
     Message {
-        tag,
-        method,
+        tag: k.tag,
+        method: k.method,
         number: f.number,
         status: f.code,
-        caller,
-        secure,
+        caller: side_of(f.from),
+        secure: secure_of(s, k, at[SECURE_CALL], end[SECURE_CALL]),
         cseq: at[CSEQ],
         to: at[TO],
         from: at[FROM],
         call: at[CALL_ID],
         via: at[VIA],
-        callid,
-        calleraddress,
-        calleeaddress,
-        user,
-        callerfire,
-        calleefire,
-        trail: there,
+        callid: spelling_span(s, at[CALL_ID], end[CALL_ID]),
+        calleraddress: p.calleraddress,
+        calleeaddress: p.calleeaddress,
+        user: p.user,
+        callerfire: p.callerfire,
+        calleefire: p.calleefire,
+        trail: moved(at[VIA], f.trail),
     }
 }
 
@@ -215,7 +192,6 @@ pub fn message_of(s: &[u8], k: Setting, f: Facts, at: &[usize; 27], end: &[usize
 pub fn probe_of(tag: u8) -> Message
     ensures { result ≡ probe_of tag }
 {
-    let nowhere = Span { start: 0, end: 0 };
     Message {
         tag,
         method: 0,
@@ -228,12 +204,12 @@ pub fn probe_of(tag: u8) -> Message
         from: 0,
         call: 0,
         via: 0,
-        callid: nowhere,
-        calleraddress: nowhere,
-        calleeaddress: nowhere,
-        user: nowhere,
-        callerfire: nowhere,
-        calleefire: nowhere,
+        callid: NOWHERE,
+        calleraddress: NOWHERE,
+        calleeaddress: NOWHERE,
+        user: NOWHERE,
+        callerfire: NOWHERE,
+        calleefire: NOWHERE,
         trail: no_trail(),
     }
 }

@@ -10,46 +10,40 @@ use fields::part_at;
 pub fn call_id(s: &[u8], m: Message) -> &[u8]
     ensures { result.now ≡ cut s.now m.callid }
 {
-    let x = m.callid;
-    part_at(s, x)
+    part_at(s, m.callid)
 }
 
 // The caller's address as it is spelled.
 pub fn caller_address(s: &[u8], m: Message) -> &[u8]
     ensures { result.now ≡ cut s.now m.calleraddress }
 {
-    let x = m.calleraddress;
-    part_at(s, x)
+    part_at(s, m.calleraddress)
 }
 
 // The callee's address as it is spelled.
 pub fn callee_address(s: &[u8], m: Message) -> &[u8]
     ensures { result.now ≡ cut s.now m.calleeaddress }
 {
-    let x = m.calleeaddress;
-    part_at(s, x)
+    part_at(s, m.calleeaddress)
 }
 
 // The user in the text of the caller's address.
 pub fn user(caller: &[u8], m: Message) -> &[u8]
     ensures { result.now ≡ cut caller.now m.user }
 {
-    let x = m.user;
-    part_at(caller, x)
+    part_at(caller, m.user)
 }
 
 // The caller's Fire-ID in the text of the caller's address.
 pub fn caller_fire(caller: &[u8], m: Message) -> &[u8]
     ensures { result.now ≡ cut caller.now m.callerfire }
 {
-    let x = m.callerfire;
-    part_at(caller, x)
+    part_at(caller, m.callerfire)
 }
 
 // The callee's Fire-ID in the text of the callee's address.
 pub fn callee_fire(callee: &[u8], m: Message) -> &[u8]
     ensures { result.now ≡ cut callee.now m.calleefire }
 {
-    let x = m.calleefire;
-    part_at(callee, x)
+    part_at(callee, m.calleefire)
 }

@@ -1,34 +1,28 @@
 // The reading of a message (01 Reading, rows 2 to 10; 02 §9, row 11), tried in the paper's order.
 ghost use Rattle.fields.specs.inner.Gathering.{Ended};
-ghost use Rattle.std.specs.Prelude.{false, true, ◌≡◌, ◌<◌};
+ghost use Rattle.std.specs.Prelude.{Ok, true, ◌≡◌, ◌<◌};
 ghost use Rattle.json_text.specs.inner.Tour.{visited};
 ghost use Rattle.message.specs.Message.{probe_of, first_setting};
 ghost use Rattle.message.specs.Reading.{agreed, judged, on_json, reading, reporting, settled, shaped, uncounted, unless};
 ghost use Rattle.message.specs.inner.Facts.{FactsOf, nine_from};
-ghost use Rattle.message.specs.declared.reading.Reading.TheVariants.{Read};
 
-use crate::checking::{Check, breaking, lacking};
+use crate::checking::{Run, check_required, check_rules};
 use crate::disagreeing::disagree;
-use crate::envelopes::{Envelope, judge_envelope};
+use crate::envelopes::judge_envelope;
 use crate::facts::{Facts, Message, message_of, probe_of};
 use crate::gathering::gather;
+use crate::refusals::Refusal;
 use crate::settings::setting_of;
 use crate::shapes::shape_of;
 use crate::walking::walk_text;
 use fields::Setting;
-use json_text::Visited;
 use rules::{REQUEST, RESPONSE};
-use utf8::Verdict;
 
 // A ceiling that no JSON text of 32,768 bytes passes (02 §9).
 pub const AMPLE: u32 = 16384;
 
-// What is read of any bytes: a refusal with its number and place, or the message.
-#[derive(Drop)]
-pub enum Reading {
-    Refused(u8, usize),
-    Read(Message),
-}
+// What is read of any bytes: the message, or its refusal.
+pub type Reading = Result<Message, Refusal>;
 
 // The same, and how many JSON values were visited (02 §9).
 #[derive(Drop)]
@@ -43,9 +37,9 @@ fn agree(s: &[u8], k: Setting, f: Facts, at: &[usize; 27], end: &[usize; 27]) ->
     ensures { result ≡ agreed s.now k at.now }
 {
     if disagree(s, k, f, at, end) {
-        return Reading::Refused(10, 0);
+        return Err(Refusal::Disagree);
     }
-    Reading::Read(message_of(s, k, f, at, end))
+    Ok(message_of(s, k, f, at, end))
 }
 
 // The second run of rows 8 and 9, on the fields of a request's method, and on.
@@ -53,34 +47,26 @@ fn settle(s: &[u8], k: Setting, f: Facts, at: &[usize; 27], end: &[usize; 27]) -
     requires { (k.tag < 5) × ((k.method < 9) × (FactsOf s.now k.tag at.now f × Ended s.now at.now end.now)) }
     ensures { result ≡ settled s.now k at.now }
 {
-    let tag = k.tag;
-    if tag != REQUEST {
+    if k.tag != REQUEST {
         return agree(s, k, f, at, end);
     }
-    let m = lacking(false, k, at);
-    if m != 0 {
-        return Reading::Refused(8, m);
-    }
-    match breaking(s, false, k, at, end) {
-        Check::Fault(n, p) => Reading::Refused(n, p),
-        Check::Good => agree(s, k, f, at, end),
-    }
+    check_required(Run::Method, k, at)?;
+    check_rules(s, Run::Method, k, at, end)?;
+    agree(s, k, f, at, end)
 }
 
 // Row 9 on the fields of a ping or a pong, which is read with it.
 fn settle_probe(s: &[u8], tag: u8, at: &[usize; 27], end: &[usize; 27]) -> Reading
     requires { (2 < tag) × ((tag < 5) × Ended s.now at.now end.now) }
-    ensures { result ≡ unless (nine_from s.now true (first_setting tag) at.now 1) (Read (probe_of tag)) }
+    ensures { result ≡ unless (nine_from s.now true (first_setting tag) at.now 1) (Ok (probe_of tag)) }
 {
     let k = Setting {
         tag,
         method: 0,
         content: 0,
     };
-    match breaking(s, true, k, at, end) {
-        Check::Fault(n, p) => Reading::Refused(n, p),
-        Check::Good => Reading::Read(probe_of(tag)),
-    }
+    check_rules(s, Run::Tag, k, at, end)?;
+    Ok(probe_of(tag))
 }
 
 // The first run of rows 8 and 9, on the fields of the tag, and on.
@@ -93,48 +79,29 @@ fn judge(s: &[u8], tag: u8, at: &[usize; 27], end: &[usize; 27]) -> Reading
         method: 0,
         content: 0,
     };
-    let m = lacking(true, k, at);
-    if m != 0 {
-        return Reading::Refused(8, m);
-    }
+    check_required(Run::Tag, k, at)?;
     if RESPONSE < tag {
         return settle_probe(s, tag, at, end);
     }
-    match judge_envelope(s, tag, at, end) {
-        Envelope::Broken(p) => Reading::Refused(9, p),
-        Envelope::Kept(f) => {
-            let method = f.method;
-            settle(s, setting_of(s, tag, method, at, end), f, at, end)
-        }
-    }
+    let f = judge_envelope(s, tag, at, end)?;
+    settle(s, setting_of(s, tag, f.method, at, end), f, at, end)
 }
 
 // Rows 6 and 7, and on.
 fn shape(s: &[u8]) -> Reading
     ensures { result ≡ shaped s.now }
 {
-    let f = shape_of(s);
-    let tag = f.tag;
-    let object = f.object;
-    if tag == 0 {
-        return Reading::Refused(6, 0);
-    }
-    let g = gather(s, object);
-    let twice = g.twice;
-    if 0 < twice {
-        return Reading::Refused(7, twice);
-    }
-    let at = g.at;
-    let end = [0usize; 27];
-    judge(s, tag, &at, &end)
+    let f = shape_of(s).ok_or(Refusal::Shape)?;
+    let at = gather(s, f.object)?;
+    judge(s, f.tag, &at, &[0usize; 27])
 }
 
 // A refusal before row 6: nothing is counted.
-fn uncounted(number: u8, place: usize) -> Report
-    ensures { result ≡ uncounted number place }
+fn uncounted(why: Refusal) -> Report
+    ensures { result ≡ uncounted why }
 {
     Report {
-        reading: Reading::Refused(number, place),
+        reading: Err(why),
         count: 0,
     }
 }
@@ -143,22 +110,15 @@ fn uncounted(number: u8, place: usize) -> Report
 fn tell(s: &[u8], ceiling: usize) -> Report
     ensures { result ≡ on_json s.now (visited ceiling s.now) }
 {
-    let w = walk_text(s, ceiling);
-    let tag = w.tag;
-    let room = w.room;
-    let at = w.at;
-    let end = w.end;
-    if 0 < tag {
+    if let Some(w) = walk_text(s, ceiling) {
         return Report {
-            reading: judge(s, tag, &at, &end),
-            count: ceiling - room,
+            reading: judge(s, w.tag, &w.at, &w.end),
+            count: ceiling - w.room,
         };
     }
     match json_text::read(s, ceiling) {
-        Visited::Bad(p) => uncounted(4, p),
-        Visited::Deep(p) => uncounted(5, p),
-        Visited::Many(p) => uncounted(11, p),
-        Visited::Text(n) => Report {
+        Err(fault) => uncounted(Refusal::from(fault)),
+        Ok(n) => Report {
             reading: shape(s),
             count: n,
         },
@@ -169,15 +129,12 @@ fn tell(s: &[u8], ceiling: usize) -> Report
 pub fn read_and_count(s: &[u8], ceiling: u32) -> Report
     ensures { result ≡ reporting ceiling s.now }
 {
-    if s.len() == 0 {
-        return uncounted(2, 0);
-    }
-    if 32768 < s.len() {
-        return uncounted(2, 0);
+    if s.is_empty() || 32768 < s.len() {
+        return uncounted(Refusal::Length);
     }
     match utf8::check(s) {
-        Verdict::Bad(p) => uncounted(3, p),
-        Verdict::Good => tell(s, ceiling as usize),
+        Err(p) => uncounted(Refusal::Utf8(p)),
+        Ok(()) => tell(s, ceiling as usize),
     }
 }
 

@@ -1,12 +1,9 @@
 -- The answers as C sees them: document 01's numbers, and 0 for what is not there. Cited by every contract of `src/lib.rt`. Assumes nothing.
-use Rattle.std.specs.Prelude.{ℕ}
-use Rattle.answers.specs.Answer.{refusal_number, refusal_place, refusal_reply, shown_of}
-use Rattle.answers.specs.declared.Answer.TheVariants as answers
-use Rattle.answers.specs.declared.Answer.{Answer}
+use Rattle.std.specs.Prelude.{ℕ, Result, Ok, Err}
+use Rattle.answers.specs.Answer.{Answer, refusal_number, refusal_place, refusal_reply, shown_of}
 use Rattle.answers.specs.declared.Word.TheVariants.{Pass, Repeat, Bye, Timeout, Idle, Freed, None}
 use Rattle.answers.specs.declared.Word.{Word}
-use Rattle.message.specs.declared.reading.Reading.TheVariants as readings
-use Rattle.message.specs.declared.reading.Reading.{Reading}
+use Rattle.message.specs.Refusal.{Reading, number, place}
 use Rattle.message.specs.declared.reading.Report.{Report}
 use Rattle.net119.specs.declared.flat.CountAnswer.{CountAnswer}
 use Rattle.net119.specs.declared.flat.EventAnswer.{EventAnswer}
@@ -14,15 +11,13 @@ use Rattle.net119.specs.declared.flat.ReadAnswer.{ReadAnswer}
 use Rattle.net119.specs.declared.flat.RemoveAnswer.{RemoveAnswer}
 use Rattle.net119.specs.declared.flat.WriteAnswer.{WriteAnswer}
 use Rattle.writing.specs.Outcome.{writing_number}
-use Rattle.writing.specs.declared.answers.Removed.TheVariants as removals
-use Rattle.writing.specs.declared.answers.Removed.{Removed}
-use Rattle.writing.specs.declared.answers.Written.TheVariants as writings
-use Rattle.writing.specs.declared.answers.Written.{Written}
+use Rattle.writing.specs.declared.answers.Refusal.{Refusal}
+use Rattle.writing.specs.declared.answers.Taken.{Taken}
 
 -- a reading: 0, accepted; else the number and the place of the refusal
 abbrev pub flat_reading : Reading → ReadAnswer
-flat_reading (readings.Refused n p) = record { number = n; place = p }
-flat_reading (readings.Read m) = record { number = 0; place = 0 }
+flat_reading (Err e) = record { number = number e; place = place e }
+flat_reading (Ok m) = record { number = 0; place = 0 }
 
 -- the same, and the count
 abbrev pub flat_report : Report → CountAnswer
@@ -40,15 +35,15 @@ flat_word None = 7
 
 -- an event's answer: number 0, accepted, with its word and the state shown; else the refusal's number, place and reply
 abbrev pub flat_answer : Answer → EventAnswer
-flat_answer (answers.Accepted w s) = record { number = 0; word = flat_word w; state = shown_of s; reply = 0; place = 0 }
-flat_answer (answers.Refused f) = record { number = refusal_number f; word = 0; state = 0; reply = refusal_reply f; place = refusal_place f }
+flat_answer (Ok a) = record { number = 0; word = flat_word a.word; state = shown_of a.state; reply = 0; place = 0 }
+flat_answer (Err f) = record { number = refusal_number f; word = 0; state = 0; reply = refusal_reply f; place = refusal_place f }
 
 -- a writing: number 0 and the result's length; else the refusal's number
-abbrev pub flat_written : Written → WriteAnswer
-flat_written (writings.Done n) = record { number = 0; length = n }
-flat_written (writings.Refused r) = record { number = writing_number r; length = 0 }
+abbrev pub flat_written : Result ℕ Refusal → WriteAnswer
+flat_written (Ok n) = record { number = 0; length = n }
+flat_written (Err r) = record { number = writing_number r; length = 0 }
 
 -- an entry taken off: the same, and where the next host begins and ends in the message
-abbrev pub flat_removed : Removed → RemoveAnswer
-flat_removed (removals.Done n a e) = record { number = 0; length = n; hoststart = a; hostend = e }
-flat_removed (removals.Refused r) = record { number = writing_number r; length = 0; hoststart = 0; hostend = 0 }
+abbrev pub flat_removed : Result Taken Refusal → RemoveAnswer
+flat_removed (Ok t) = record { number = 0; length = t.length; hoststart = t.host.start; hostend = t.host.end }
+flat_removed (Err r) = record { number = writing_number r; length = 0; hoststart = 0; hostend = 0 }

@@ -4,7 +4,7 @@ ghost use Rattle.net119.specs.Flat.{flat_answer, flat_reading, flat_removed, fla
 
 use answers::{Answer, Word};
 use message::{Reading, Report};
-use writing::{Removed, Written};
+use writing::{Refusal, Taken};
 
 // A reading: number 0, accepted; else the number and the place of the refusal.
 #[repr(C)]
@@ -52,34 +52,37 @@ pub struct RemoveAnswer {
     pub hostend: usize,
 }
 
-pub fn flat_reading(r: Reading) -> ReadAnswer
-    ensures { result ≡ flat_reading r }
-{
-    match r {
-        Reading::Refused(n, p) => ReadAnswer {
-            number: n,
-            place: p,
-        },
-        Reading::Read(_) => ReadAnswer {
-            number: 0,
-            place: 0,
-        },
+impl From<Reading> for ReadAnswer {
+    ghost from_gives = { λ r a. a ≡ flat_reading r };
+
+    fn from(r: Reading) -> ReadAnswer {
+        match r {
+            Err(e) => ReadAnswer {
+                number: e.number(),
+                place: e.place(),
+            },
+            Ok(_) => ReadAnswer {
+                number: 0,
+                place: 0,
+            },
+        }
     }
 }
 
-pub fn flat_report(r: Report) -> CountAnswer
-    ensures { result ≡ flat_report r }
-{
-    let reading = r.reading;
-    let f = flat_reading(reading);
-    CountAnswer {
-        number: f.number,
-        place: f.place,
-        count: r.count,
+impl From<Report> for CountAnswer {
+    ghost from_gives = { λ r a. a ≡ flat_report r };
+
+    fn from(r: Report) -> CountAnswer {
+        let f = ReadAnswer::from(r.reading);
+        CountAnswer {
+            number: f.number,
+            place: f.place,
+            count: r.count,
+        }
     }
 }
 
-// A word's number.
+// A word's number; no `From`, since neither `Word` nor `u8` is this crate's.
 fn flat_word(w: Word) -> u8
     ensures { result ≡ flat_word w }
 {
@@ -94,57 +97,63 @@ fn flat_word(w: Word) -> u8
     }
 }
 
-pub fn flat_answer(a: Answer) -> EventAnswer
-    ensures { result ≡ flat_answer a }
-{
-    match a {
-        Answer::Accepted(w, s) => EventAnswer {
-            number: 0,
-            word: flat_word(w),
-            state: answers::shown_number(s),
-            reply: 0,
-            place: 0,
-        },
-        Answer::Refused(f) => EventAnswer {
-            number: answers::number(f),
-            word: 0,
-            state: 0,
-            reply: answers::reply(f),
-            place: answers::place(f),
-        },
+impl From<Answer> for EventAnswer {
+    ghost from_gives = { λ answer e. e ≡ flat_answer answer };
+
+    fn from(answer: Answer) -> EventAnswer {
+        match answer {
+            Ok(a) => EventAnswer {
+                number: 0,
+                word: flat_word(a.word),
+                state: answers::shown_number(a.state),
+                reply: 0,
+                place: 0,
+            },
+            Err(f) => EventAnswer {
+                number: f.number(),
+                word: 0,
+                state: 0,
+                reply: f.reply(),
+                place: f.place(),
+            },
+        }
     }
 }
 
-pub fn flat_written(w: Written) -> WriteAnswer
-    ensures { result ≡ flat_written w }
-{
-    match w {
-        Written::Done(n) => WriteAnswer {
-            number: 0,
-            length: n,
-        },
-        Written::Refused(r) => WriteAnswer {
-            number: writing::number(r),
-            length: 0,
-        },
+impl From<Result<usize, Refusal>> for WriteAnswer {
+    ghost from_gives = { λ w a. a ≡ flat_written w };
+
+    fn from(w: Result<usize, Refusal>) -> WriteAnswer {
+        match w {
+            Ok(n) => WriteAnswer {
+                number: 0,
+                length: n,
+            },
+            Err(r) => WriteAnswer {
+                number: r.into(),
+                length: 0,
+            },
+        }
     }
 }
 
-pub fn flat_removed(w: Removed) -> RemoveAnswer
-    ensures { result ≡ flat_removed w }
-{
-    match w {
-        Removed::Done(n, a, e) => RemoveAnswer {
-            number: 0,
-            length: n,
-            hoststart: a,
-            hostend: e,
-        },
-        Removed::Refused(r) => RemoveAnswer {
-            number: writing::number(r),
-            length: 0,
-            hoststart: 0,
-            hostend: 0,
-        },
+impl From<Result<Taken, Refusal>> for RemoveAnswer {
+    ghost from_gives = { λ w a. a ≡ flat_removed w };
+
+    fn from(w: Result<Taken, Refusal>) -> RemoveAnswer {
+        match w {
+            Ok(taken) => RemoveAnswer {
+                number: 0,
+                length: taken.length,
+                hoststart: taken.host.start,
+                hostend: taken.host.end,
+            },
+            Err(r) => RemoveAnswer {
+                number: r.into(),
+                length: 0,
+                hoststart: 0,
+                hostend: 0,
+            },
+        }
     }
 }

@@ -18,28 +18,31 @@ ghost use Rattle.writing.specs.Reply.{replying};
 ghost use Rattle.writing.specs.Texting.{texting};
 
 pub use flat::{CountAnswer, EventAnswer, ReadAnswer, RemoveAnswer, WriteAnswer};
-use flat::{flat_answer, flat_reading, flat_removed, flat_report, flat_written};
 use message::AMPLE;
+use writing::Path;
 
 // Reads a message, at the program's ceiling.
 pub fn net119_read(message: &[u8]) -> ReadAnswer
     ensures { result ≡ flat_reading (reading ample message.now) }
 {
-    flat_reading(message::read(message, AMPLE))
+    message::read(message, AMPLE).into()
 }
 
 // Reads a message under a ceiling, and tells how many JSON values were visited.
 pub fn net119_read_within(message: &[u8], ceiling: u32) -> CountAnswer
     ensures { result ≡ flat_report (reporting ceiling message.now) }
 {
-    flat_report(message::read_and_count(message, ceiling))
+    message::read_and_count(message, ceiling).into()
 }
 
 // Makes a blank table of so many records: 0, or 1 where count or length is wrong.
 pub fn net119_blank(table: &mut [u8], count: usize) -> u8
     ensures { (result ≡ made_number (blank_answer table.old count)) × (table.new ≡ blank_after table.old count) }
 {
-    table::made_number(table::blank(table, count))
+    match table::blank(table, count) {
+        Ok(()) => 0,
+        Err(_) => 1,
+    }
 }
 
 // Whether a table is well-formed.
@@ -54,7 +57,7 @@ pub fn net119_message(table: &mut [u8], time: u64, message: &[u8]) -> EventAnswe
     ensures { (result ≡ flat_answer (on_message ample table.old time message.now).answer)
         × (table.new ≡ (on_message ample table.old time message.now).table) }
 {
-    flat_answer(keeper::message(table, time, message, AMPLE))
+    net119_message_within(table, time, message, AMPLE)
 }
 
 // The same under a ceiling.
@@ -67,7 +70,7 @@ pub fn net119_message_within(
     ensures { (result ≡ flat_answer (on_message ceiling table.old time message.now).answer)
         × (table.new ≡ (on_message ceiling table.old time message.now).table) }
 {
-    flat_answer(keeper::message(table, time, message, ceiling))
+    keeper::message(table, time, message, ceiling).into()
 }
 
 // A tick for a Call-ID at a time, on a table.
@@ -75,7 +78,7 @@ pub fn net119_tick(table: &mut [u8], time: u64, call_id: &[u8]) -> EventAnswer
     ensures { (result ≡ flat_answer (on_tick table.old time call_id.now).answer)
         × (table.new ≡ (on_tick table.old time call_id.now).table) }
 {
-    flat_answer(keeper::tick(table, time, call_id))
+    keeper::tick(table, time, call_id).into()
 }
 
 // Writes the reply to a request.
@@ -83,7 +86,7 @@ pub fn net119_reply(out: &mut [u8], message: &[u8], code: u16, date: &[u8]) -> W
     ensures { (result ≡ flat_written (answered (length out.old) (replying message.now code date.now)))
         × (out.new ≡ output_left out.old (replying message.now code date.now)) }
 {
-    flat_written(writing::reply(out, message, code, date))
+    writing::reply(out, message, code, date).into()
 }
 
 // Writes a request with our Via entry added.
@@ -97,7 +100,16 @@ pub fn net119_add(
     ensures { (result ≡ flat_written (answered (length out.old) (adding message.now host.now destination.now organization.now)))
         × (out.new ≡ output_left out.old (adding message.now host.now destination.now organization.now)) }
 {
-    flat_written(writing::add(out, message, host, destination, organization))
+    writing::add(
+        out,
+        message,
+        Path {
+            host,
+            destination,
+            organization,
+        },
+    )
+    .into()
 }
 
 // Writes a response with our Via entry taken off; where the next host stands in the message.
@@ -111,7 +123,16 @@ pub fn net119_remove(
     ensures { (result ≡ flat_removed (host_shown (host_in (reading ample message.now)) (answered (length out.old) (removing message.now host.now destination.now organization.now))))
         × (out.new ≡ output_left out.old (removing message.now host.now destination.now organization.now)) }
 {
-    flat_removed(writing::remove(out, message, host, destination, organization))
+    writing::remove(
+        out,
+        message,
+        Path {
+            host,
+            destination,
+            organization,
+        },
+    )
+    .into()
 }
 
 // Writes the text that a part of a message spells.
@@ -119,5 +140,5 @@ pub fn net119_text(out: &mut [u8], spelled: &[u8]) -> WriteAnswer
     ensures { (result ≡ flat_written (answered (length out.old) (texting spelled.now)))
         × (out.new ≡ output_left out.old (texting spelled.now)) }
 {
-    flat_written(writing::text(out, spelled))
+    writing::text(out, spelled).into()
 }

@@ -1,18 +1,19 @@
 -- Parts written one after the other: `At` makes a chain of puts cheap, one `more` for each. Assumes nothing.
 use Prim.Native.Nat.{ℕ, ◌+◌, ◌≤◌, ◌<◌}
 use Rattle.octets.specs.Splice.{splice, written}
+use borrow.Rule.Slice.PartMut.{put_mid}
 use lib.ListN.{length, take, drop, set, length-append, length-drop}
-use lib.Seq.{paste, take-length, take-append_seam, drop-append-add, drop-drop, length-take-le, set_split}
+use lib.Seq.{take-append_seam, drop-append-add, drop-drop, length-take-le, set_split}
 use mathlib.Core.List.{List, [], ◌∷◌, ◌++◌, append_assoc}
 use mathlib.Core.Path.{◌≡◌, refl, ◌∙◌}
 use native.Mathlib.Nat.{add-sub_of_le}
 use native.Mathlib.Numerals.{add-one}
 use native.Mathlib.Omega.{arith}
 
--- a copy of the whole of s is a splice
-pub paste_whole : (d : List ℕ) (at : ℕ) (s : List ℕ) → paste d at s (length s) ≡ splice d at s
+-- a part of the buffer that is written over, by one of its length, is a splice
+pub splice_mid : (o : List ℕ) (at : ℕ) (p : List ℕ) → put_mid at (length p) o p ≡ splice o at p
 unfolding splice
-paste_whole d at s = rw (take-length, append_assoc)
+splice_mid o at p = rw (drop-drop (length p) at o)
 
 pub length-splice : (o : List ℕ) (at : ℕ) (p : List ℕ) → at + length p ≤ length o → length (splice o at p) ≡ length o
 unfolding splice

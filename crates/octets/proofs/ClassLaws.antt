@@ -1,14 +1,15 @@
 -- A class at every byte of a text, one byte at a time. Assumes nothing.
 use Prim.Native.Nat.{ℕ, ◌≤◌, ◌<◌, ◌+◌}
 use Rattle.octets.proofs.TestLaws.{and_parts}
-use Rattle.octets.specs.Class.{all, among, is_digit}
+use Rattle.octets.specs.Class.{all, among, is_alnum, is_digit, is_letter, is_lower, is_upper}
+use Rattle.std.specs.List.{list_all}
 use borrow.Author.Tests.{le-leb, lt-leb, leb-true}
 use lib.Dec.{leb}
 use lib.ListN.{length, drop, get_or, drop_of_length-le}
 use lib.Seq.{drop-cons}
-use mathlib.Core.Bool.{Bool, true, false, ◌&&◌, and_assoc}
+use mathlib.Core.Bool.{Bool, true, false, ◌&&◌, ◌||◌, and_assoc, or_assoc, or_comm}
 use mathlib.Core.List.{List, [], ◌∷◌, ◌++◌}
-use mathlib.Core.Path.{◌≡◌, refl, sym}
+use mathlib.Core.Path.{◌≡◌, ap, refl, sym}
 use native.Mathlib.Numerals.{add-one}
 
 module _ (f : ℕ → Bool) (s : List ℕ) (i : ℕ) where
@@ -43,9 +44,20 @@ pub among-high : (lo hi b : ℕ) → lo ≤ b → hi < b → among lo hi b ≡ f
 unfolding among
 among-high lo hi b h k = simp (le-leb lo b h, lt-leb b hi k)
 
+-- digits and letters, in the library's order
+pub alnum_of : (b : ℕ) {t : Bool} → t ≡ ((among 48 57 b || among 65 90 b) || among 97 122 b) → t ≡ is_alnum b
+unfolding is_alnum is_digit is_letter is_lower is_upper
+alnum_of b e = rw (e, or_assoc (among 48 57 b) (among 65 90 b) (among 97 122 b)) (ap (λ t. among 48 57 b || t) (or_comm (among 65 90 b) (among 97 122 b)))
+
 pub digit_in : (b : ℕ) → is_digit b ≡ true → (48 ≤ b) × (b ≤ 57)
 unfolding is_digit
 digit_in b e = among_in 48 57 b e
+
+-- what the library's `all` answers
+pub every : (f : ℕ → Bool) (s : List ℕ) → list_all f s ≡ all f s
+unfolding all
+every f [] = refl
+every f (x ∷ s) = rw (every f s)
 
 pub all_append : (f : ℕ → Bool) (s t : List ℕ) → all f (s ++ t) ≡ (all f s && all f t)
 unfolding all

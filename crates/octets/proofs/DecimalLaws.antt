@@ -6,7 +6,7 @@ use Rattle.octets.proofs.ClassLaws.{all_append, in_among}
 use Rattle.octets.specs.Class.{all, is_digit}
 use Rattle.octets.specs.Decimal.{tens, decimal_of, is_decimal, decimal_in, shown_in, shown}
 use Rattle.octets.specs.Splice.{splice}
-use Rattle.octets.specs.declared.decimals.Spelt.TheVariants.{Value, Other}
+use Rattle.std.proofs.Common.{None, Some}
 use borrow.Author.Tests.{lt-ltb, le-ltb, le-leb, lt-leb}
 use lib.Dec.{ltb}
 use lib.ListN.{length, drop, get_or, set, length-append, drop_of_length-le}
@@ -37,35 +37,35 @@ tens_grows v (x ∷ s) = let h = tens_grows (v * 10 + (x - 48)) s in omega arith
 
 -- Each answer of `decimal`.
 
-refused : (s : List ℕ) → is_decimal s ≡ false → Other ≡ decimal_in s
+refused : (s : List ℕ) → is_decimal s ≡ false → None ≡ decimal_in s
 unfolding decimal_in
 refused s e = simp e
 
-pub empty : (s : List ℕ) → length s ≡ 0 → Other ≡ decimal_in s
+pub empty : (s : List ℕ) → length s ≡ 0 → None ≡ decimal_in s
 unfolding is_decimal
 empty s e = refused s (simp (lt-leb 1 (length s) (omega arith)))
 
-pub long : (s : List ℕ) → 20 < length s → Other ≡ decimal_in s
+pub long : (s : List ℕ) → 20 < length s → None ≡ decimal_in s
 unfolding is_decimal
 long s h = refused s (simp (le-leb 1 (length s) (omega arith), lt-leb (length s) 20 h))
 
 module _ (s : List ℕ) (low : 1 ≤ length s) (high : length s ≤ 20) where
-  pub no_digit : all is_digit s ≡ false → Other ≡ decimal_in s
+  pub no_digit : all is_digit s ≡ false → None ≡ decimal_in s
   unfolding is_decimal
   no_digit e = refused s (simp (le-leb 1 (length s) low, le-leb (length s) 20 high, e))
 
-  judged : (b : Bool) → all is_digit s ≡ b → ltb (decimal_of s) 18446744073709551616 ≡ false → Other ≡ decimal_in s
+  judged : (b : Bool) → all is_digit s ≡ b → ltb (decimal_of s) 18446744073709551616 ≡ false → None ≡ decimal_in s
   unfolding is_decimal
   judged true e g = refused s (simp (le-leb 1 (length s) low, le-leb (length s) 20 high, e, g))
   judged false e g = no_digit e
 
   -- from byte i on the number is too large already
-  pub too_large : (i v : ℕ) → i < length s → decimal_of s ≡ tens v (drop i s) → 18446744073709551616 ≤ v * 10 + (get_or s i 0 - 48) → Other ≡ decimal_in s
+  pub too_large : (i v : ℕ) → i < length s → decimal_of s ≡ tens v (drop i s) → 18446744073709551616 ≤ v * 10 + (get_or s i 0 - 48) → None ≡ decimal_in s
   too_large i v h e g =
       let k : v * 10 + (get_or s i 0 - 48) ≤ decimal_of s = rw (e, tens-more v s i h) (tens_grows _ (drop (i + 1) s)) in
       judged (all is_digit s) refl (le-ltb (decimal_of s) 18446744073709551616 (omega arith))
 
-  pub read : (v : ℕ) → all is_digit s ≡ true → decimal_of s ≡ v → v < 18446744073709551616 → Value v ≡ decimal_in s
+  pub read : (v : ℕ) → all is_digit s ≡ true → decimal_of s ≡ v → v < 18446744073709551616 → Some v ≡ decimal_in s
   unfolding decimal_in is_decimal
   read v d e h = simp (e, le-leb 1 (length s) low, le-leb (length s) 20 high, d, lt-ltb v 18446744073709551616 h)
 
@@ -170,7 +170,7 @@ twenty : (v : ℕ) → v < 18446744073709551616 → v < ten_to 20
 unfolding ten_to
 twenty v h = omega arith
 
-pub shown_read : (v : ℕ) → v < 18446744073709551616 → decimal_in (shown v) ≡ Value v
+pub shown_read : (v : ℕ) → v < 18446744073709551616 → decimal_in (shown v) ≡ Some v
 unfolding shown
 shown_read v h =
     let d = digits_of 19 v (twenty v h) in

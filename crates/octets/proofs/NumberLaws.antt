@@ -2,8 +2,8 @@
 use Prim.Native.Nat.{ℕ, zero, suc, ◌+◌, ◌*◌, ◌/◌, ◌%◌, ◌≤◌, ◌<◌}
 use Rattle.octets.specs.Number.{bytes_of, onto, big_endian}
 use Rattle.octets.specs.Splice.{splice}
-use lib.ListN.{length, get_or, take, drop, set, length-append, length-drop, take-append-drop}
-use lib.Seq.{take_all, take-suc, length-take-le, get_or-take, get_or-drop, set_split, drop_at, take-set-le}
+use lib.ListN.{length, length-drop, get_or, take, drop, set, length-append, take-append-drop}
+use lib.Seq.{get_or-drop, take_all, take-suc, length-take-le, get_or-take, set_split, drop_at, take-set-le}
 use mathlib.Core.List.{List, [], ◌∷◌, ◌++◌, append_assoc}
 use mathlib.Core.Path.{◌≡◌, refl, sym, ap, ◌∙◌}
 use native.Mathlib.Numerals.{add-one}
@@ -101,19 +101,23 @@ no_byte o at n v e = rw (e) (rw add-zero (take-append-drop at o))
     add-zero = omega arith
 
 -- the loop of `number_at`
-pub none_yet : (s : List ℕ) (at : ℕ) → 0 ≡ big_endian (take 0 (drop at s))
+pub none_read : 0 ≡ big_endian []
 unfolding onto
-none_yet s at = refl
+none_read = refl
+
+pub none_yet : (s : List ℕ) (at : ℕ) → 0 ≡ big_endian (take 0 (drop at s))
+none_yet s at = none_read
 
 pub below_one : 0 < capacity 0
 unfolding capacity
 below_one = omega arith
 
+pub one_more : (s : List ℕ) (i : ℕ) {v b : ℕ} → v ≡ big_endian (take i s) → i < length s → b ≡ get_or s i 0 → v * 256 + b ≡ big_endian (take (i + 1) s)
+one_more s i {v} {b} e h g = rw (add-one, take-suc s i 0 h, onto_snoc 0 (take i s) (get_or s i 0)) (cc)
+
 pub number_more : (s : List ℕ) (at i : ℕ) {v b : ℕ} → v ≡ big_endian (take i (drop at s)) → at + i < length s → b ≡ get_or s (at + i) 0
     → v * 256 + b ≡ big_endian (take (i + 1) (drop at s))
-number_more s at i {v} {b} e h g =
-    let l : i < length (drop at s) = rw length-drop (omega arith) in
-    rw (add-one, take-suc (drop at s) i 0 l, onto_snoc 0 (take i (drop at s)), get_or-drop at s i 0) (cc)
+number_more s at i {v} {b} e h g = one_more (drop at s) i e (rw length-drop (omega arith)) (g ∙ sym (get_or-drop at s i 0))
 
 pub span_more : (i : ℕ) {v b : ℕ} → v < capacity i → b < 256 → v * 256 + b < capacity (i + 1)
 unfolding capacity

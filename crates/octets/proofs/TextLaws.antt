@@ -1,15 +1,20 @@
 -- What stands in a text, and laws of `same` and `before`: what the tests mean, and one byte at a time for the loops. Assumes nothing.
-use Prim.Native.Nat.{ℕ, zero, suc, ◌≤◌, ◌<◌, ◌+◌, ◌-◌}
-use Rattle.octets.proofs.TestLaws.{and_parts, fails}
-use Rattle.octets.specs.Text.{same, stands_at, before}
-use borrow.Author.Tests.{eq-eqb, ne_eqb, eqb-true}
-use lib.Dec.{eqb, eqb-suc-zero}
-use lib.ListN.{length, take, drop, get_or, length-drop, drop_of_length-le}
-use lib.Seq.{drop-cons, take_all}
-use mathlib.Core.Bool.{Bool, true, false}
+use Prim.Native.Nat.{ℕ, zero, suc, min, ◌≤◌, ◌<◌, ◌+◌, ◌-◌}
+use Rattle.std.proofs.lemmas.List.{drop_min}
+use mathlib.Core.Logic.{inl, inr}
+use Rattle.octets.proofs.TestLaws.{Either, and_parts, clash, either, fails, or-none}
+use Rattle.octets.specs.Text.{before, here, same, stands_at}
+use Rattle.std.specs.List.{list_any, position, position_or_len}
+use Rattle.std.specs.Option.{unwrap_or}
+use Rattle.std.proofs.Common.{None, Option, Some}
+use native.Mathlib.Decide.{dec_lt}
+use borrow.Author.Tests.{eq-eqb, eqb-true, le-ltb, lt-ltb}
+use lib.Dec.{eqb, ltb}
+use lib.ListN.{length, take, drop, get_or, length-drop}
+use lib.Seq.{drop-drop, take_all}
+use mathlib.Core.Bool.{Bool, true, false, cond, not}
 use mathlib.Core.List.{List, [], ◌∷◌}
-use mathlib.Core.Path.{◌≡◌, refl, ap, sym}
-use native.Mathlib.Numerals.{add-one}
+use mathlib.Core.Path.{◌≡◌, refl, ap, sym, ◌∙◌}
 use native.Mathlib.Omega.{arith}
 
 -- a byte that is not 0 stands in the text
@@ -45,31 +50,22 @@ ne_same a b ne = fails (same a b) (λ e. ne (same-eq a b e))
 pub length-same : (a b : List ℕ) → (length a ≡ length b → ⊥) → same a b ≡ false
 length-same a b h = ne_same a b (λ e. h (ap length e))
 
-module _ (a b : List ℕ) (i : ℕ) where
-  pub same_more : i < length a → i < length b → get_or a i 0 ≡ get_or b i 0 → same (drop i a) (drop i b) ≡ same (drop (i + 1) a) (drop (i + 1) b)
-  unfolding same
-  same_more h k e = rw (add-one, drop-cons a i 0, drop-cons b i 0, eq-eqb _ _ e)
+-- a run without the byte is passed
+before_run : (b n : ℕ) (s : List ℕ) → n ≤ length s → list_any (λ x. eqb x b) (take n s) ≡ false → before b s ≡ n + before b (drop n s)
+unfolding before
+before_run b zero s h e = omega arith
+before_run b (suc n) [] h e = absurd (omega arith)
+before_run b (suc n) (x ∷ s) h e =
+    let p = or-none (eqb x b) (list_any (λ x. eqb x b) (take n s)) e in
+    let r = before_run b n s (omega arith) p.1 in
+    rw p.0 (omega arith)
 
-  pub same-stops : i < length a → i < length b → (get_or a i 0 ≡ get_or b i 0 → ⊥) → same (drop i a) (drop i b) ≡ false
-  unfolding same
-  same-stops h k e = rw (drop-cons a i 0, drop-cons b i 0, ne_eqb _ _ e)
-
-  pub same_ends : length a ≤ i → length b ≤ i → same (drop i a) (drop i b) ≡ true
-  unfolding same
-  same_ends h k = rw (drop_of_length-le a h, drop_of_length-le b k)
-
-module _ (b : ℕ) (s : List ℕ) (i : ℕ) where
-  pub before_more : i < length s → (get_or s i 0 ≡ b → ⊥) → i + before b (drop i s) ≡ (i + 1) + before b (drop (i + 1) s)
-  unfolding before
-  before_more h e = rw (add-one, drop-cons s i 0, ne_eqb _ _ e) (omega arith)
-
-  pub before-stops : i < length s → get_or s i 0 ≡ b → i + before b (drop i s) ≡ i
-  unfolding before
-  before-stops h e = rw (drop-cons s i 0, eq-eqb _ _ e) (omega arith)
-
-  pub before-ends : length s ≤ i → i + before b (drop i s) ≡ i
-  unfolding before
-  before-ends h = rw (drop_of_length-le s h) (omega arith)
+pub before_past : (b n : ℕ) (s : List ℕ) (i : ℕ) → i + n ≤ length s → list_any (λ x. eqb x b) (take n (drop i s)) ≡ false
+    → i + before b (drop i s) ≡ i + n + before b (drop (i + n) s)
+before_past b n s i h e =
+    let r = before_run b n (drop i s) (rw length-drop (omega arith)) e in
+    let d : drop n (drop i s) ≡ drop (i + n) s = drop-drop n i s in
+    rw (r, d) (omega arith)
 
 -- a byte is found at the length at the latest
 pub before-within : (b : ℕ) (s : List ℕ) → before b s ≤ length s
@@ -81,18 +77,37 @@ before-within b (x ∷ s) = go (eqb x b) refl (before-within b s)
     go true e h = rw e (omega arith)
     go false e h = rw e (omega arith)
 
+-- `before` is where the library's `position` stops
+before_position : (b : ℕ) (s : List ℕ) → position_or_len (λ x. eqb x b) s ≡ before b s
+unfolding before
+before_position b [] = refl
+before_position b (x ∷ s) = by (eqb x b) (before_position b s)
+  where
+    by : (t : Bool) → position_or_len (λ x. eqb x b) s ≡ before b s → cond (not t) (1 + position_or_len (λ x. eqb x b) s) 0 ≡ here t (before b s)
+    by true h = refl
+    by false h = omega arith
+
+-- what the library's search answers, and the length where it finds none
+pub before_or_all : (b : ℕ) (s : List ℕ) {r : Option ℕ} → r ≡ position (λ x. eqb x b) s → unwrap_or r (length s) ≡ before b s
+before_or_all b s e = rw (e, before_position b s) (by (before b s) (before-within b s) (dec_lt (before b s) (length s)))
+  where
+    by : (n : ℕ) → n ≤ length s → Dec (n < length s) → unwrap_or (cond (ltb n (length s)) (Some n) None) (length s) ≡ n
+    by n h (yes a) = rw (lt-ltb n (length s) a)
+    by n h (no a) = rw (le-ltb n (length s) (omega arith)) (omega arith)
+
 pub found_within : (b : ℕ) (s : List ℕ) (i : ℕ) → i ≤ length s → i + before b (drop i s) ≤ length s
 found_within b s i h = omega (arith, before-within b (drop i s), length-drop i s)
 
--- a text stands nowhere behind the end, but for the empty one
-pub stands-behind : (s w : List ℕ) (at : ℕ) → length s < at → stands_at s at w ≡ eqb (length w) 0
-unfolding stands_at same
-stands-behind s [] at h = refl
-stands-behind s (x ∷ w) at h = let e : drop at s ≡ [] = drop_of_length-le s {i = at} (omega arith) in rw e (sym (eqb-suc-zero (length w)))
+same-swapped : (a b : List ℕ) → same a b ≡ same b a
+same-swapped a b = by (either (same a b))
+  where
+    by : Either (same a b) → same a b ≡ same b a
+    by (inl e) = e ∙ sym (eq-same b a (sym (same-eq a b e)))
+    by (inr e) = e ∙ sym (fails (same b a) (λ f. clash (eq-same a b (sym (same-eq b a f))) e))
 
--- nor where fewer bytes are left
-pub stands-short : (s w : List ℕ) (at : ℕ) → length s - at < length w → stands_at s at w ≡ false
+-- what stands in a text is what its rest from there on begins with, of whatever length that is given to be
+pub begins-stands : (s w : List ℕ) (at n : ℕ) → n ≡ length s - min at (length s) → same w (take (length w) (take n (drop (min at (length s)) s))) ≡ stands_at s at w
 unfolding stands_at
-stands-short s w at h =
-    let l : length (take (length w) (drop at s)) ≡ length s - at = rw (take_all (length w) (drop at s) (rw length-drop (omega arith))) (length-drop at s) in
-    length-same _ w (λ e. omega arith)
+begins-stands s w at n e =
+    let l : take n (drop (min at (length s)) s) ≡ drop (min at (length s)) s = take_all n _ (rw length-drop (omega arith)) in
+    rw (l, drop_min at s) (same-swapped w (take (length w) (drop at s)))

@@ -1,9 +1,7 @@
 -- Decimal numbers: what the contracts of `src/decimals.rt` cite. Assumes nothing.
 use Prim.Native.Char.{code}
-use Rattle.std.specs.Prelude.{ℕ, zero, suc, ◌+◌, ◌-◌, ◌*◌, ◌/◌, ◌%◌, Bool, ◌&&◌, cond, List, [], ◌∷◌, ◌++◌, leb, ltb, length}
+use Rattle.std.specs.Prelude.{ℕ, zero, suc, ◌+◌, ◌-◌, ◌*◌, ◌/◌, ◌%◌, Bool, ◌&&◌, cond, List, [], ◌∷◌, ◌++◌, leb, ltb, length, Option, Some, None}
 use Rattle.octets.specs.Class.{is_digit, all}
-use Rattle.octets.specs.declared.decimals.Spelt.{Spelt}
-use Rattle.octets.specs.declared.decimals.Spelt.TheVariants.{Value, Other}
 
 -- the number that the digits are, behind the higher part a
 unfoldable pub tens : ℕ → List ℕ → ℕ
@@ -19,8 +17,8 @@ unfoldable pub is_decimal : List ℕ → Bool
 is_decimal s = leb 1 (length s) && (leb (length s) 20 && (all is_digit s && ltb (decimal_of s) 18446744073709551616))
 
 -- what a text of digits says: leading zeros are allowed
-unfoldable pub decimal_in : List ℕ → Spelt
-decimal_in s = cond (is_decimal s) (Value (decimal_of s)) Other
+unfoldable pub decimal_in : List ℕ → Option ℕ
+decimal_in s = cond (is_decimal s) (Some (decimal_of s)) None
 
 -- the digits of v without leading zeros, if it has at most n of them
 unfoldable pub shown_in : ℕ → ℕ → List ℕ

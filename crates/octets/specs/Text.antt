@@ -1,12 +1,10 @@
 -- Comparing and finding: what the contracts of `src/texts.rt` cite. Assumes nothing.
-use Rattle.std.specs.Prelude.{ℕ, suc, Bool, true, false, ◌&&◌, List, [], ◌∷◌, eqb, length, take, drop}
+use Rattle.std.specs.Cmp.Lexicographic.{pointwise}
+use Rattle.std.specs.Prelude.{ℕ, suc, Bool, true, false, List, [], ◌∷◌, eqb, length, take, drop}
 
 -- whether two texts are the same: byte for byte, and of one length
 unfoldable pub same : List ℕ → List ℕ → Bool
-same [] [] = true
-same [] (y ∷ ys) = false
-same (x ∷ xs) [] = false
-same (x ∷ xs) (y ∷ ys) = eqb x y && same xs ys
+same a b = pointwise eqb a b
 
 -- whether the text w stands in s from byte at on
 unfoldable pub stands_at : List ℕ → ℕ → List ℕ → Bool

@@ -8,10 +8,7 @@ pub fn put(out: &mut [u8], at: usize, part: &[u8]) -> usize
     requires { at + length part.now ≤ length out.old }
     ensures { (result ≡ at + length part.now) × (out.new ≡ splice out.old at part.now) }
 {
-    let mut i = 0;
-    while i < part.len() {
-        out[at + i] = part[i];
-        i += 1;
-    }
-    at + i
+    let end = at + part.len();
+    out[at..end].copy_from_slice(part);
+    end
 }

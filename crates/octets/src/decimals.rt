@@ -9,41 +9,26 @@ use crate::numbers::wide;
 // The digit 0.
 const ZERO: u64 = b'0' as u64;
 
-#[derive(Drop)]
-pub enum Spelt {
-    Value(u64),
-    Other,
-}
-
-// The number that a whole text of 1 to 20 digits is, leading zeros allowed; Other for any other
-// text, and for a number of more than 64 bits.
-pub fn decimal(s: &[u8]) -> Spelt
+// The number that a whole text of 1 to 20 digits is, leading zeros allowed; None for any other text, and for a number of
+// more than 64 bits.
+pub fn decimal(s: &[u8]) -> Option<u64>
     ensures { result ≡ decimal_in s.now }
 {
-    if s.len() == 0 {
-        return Spelt::Other;
-    }
-    if 20 < s.len() {
-        return Spelt::Other;
+    if s.is_empty() || 20 < s.len() {
+        return None;
     }
     let mut v: u64 = 0;
-    let mut i: usize = 0;
-    while i < s.len() {
-        let b = s[i];
-        if !is_digit(b) {
-            return Spelt::Other;
+    for b in s {
+        if !is_digit(*b) {
+            return None;
         }
-        let d = wide(b - b'0');
-        if (18446744073709551615 - d) / 10 < v {
-            return Spelt::Other;
-        }
-        v = v * 10 + d;
-        i += 1;
+        v = v.checked_mul(10)?.checked_add(wide(*b - b'0'))?;
     }
-    Spelt::Value(v)
+    Some(v)
 }
 
-// Writes v in decimal from `at` on, with no leading zero, and answers the index behind it.
+// Writes v in decimal from `at` on, with no leading zero, and answers the index behind it. By hand, not by Display: it writes from a
+// place on into a lent buffer, with no heap, and the contract is an equation of the bytes.
 pub fn put_decimal(out: &mut [u8], at: usize, v: u64) -> usize
     requires { at + length (shown v) ≤ length out.old }
     ensures { (result ≡ at + length (shown v)) × (out.new ≡ splice out.old at (shown v)) }

@@ -1,6 +1,6 @@
 // Bytes: comparing, finding and copying them, their classes, and the numbers that they spell.
-// Every contract is an equation with a definition of specs/ that decides the answer and each lent byte.
-// Functions that read take any place and any text; those that write want room, and say so.
+// Every contract is an equation with a definition of specs/ that decides the answer and each lent byte; that of `past` goes by the test that it is handed.
+// Functions that read take any text, and but for `find`, `past` and `number_at` any place; those that write want room, and say so.
 #![tactic(auto)]
 
 mod classes;
@@ -9,8 +9,8 @@ mod decimals;
 mod numbers;
 mod texts;
 
-pub use classes::{among, and, is_alnum, is_digit, is_lower, or};
+pub use classes::{among, is_alnum, is_digit, is_lower};
 pub use copying::put;
-pub use decimals::{Spelt, decimal, put_decimal};
+pub use decimals::{decimal, put_decimal};
 pub use numbers::{number_at, put_number, wide};
-pub use texts::{byte, find, same, stands_at};
+pub use texts::{byte, find, past, same, stands_at};

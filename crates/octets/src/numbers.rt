@@ -7,7 +7,7 @@ ghost use Rattle.octets.specs.Splice.{splice};
 pub fn wide(b: u8) -> u64
     ensures { (result ≡ b) × (result < 256) }
 {
-    b as u64
+    u64::from(b)
 }
 
 // The number that the n bytes from `at` on are, the highest first.
@@ -16,10 +16,8 @@ pub fn number_at(s: &[u8], at: usize, n: usize) -> u64
     ensures { result ≡ big_endian (take n (drop at s.now)) }
 {
     let mut v: u64 = 0;
-    let mut i: usize = 0;
-    while i < n {
-        v = v * 256 + wide(s[at + i]);
-        i += 1;
+    for b in &s[at..at + n] {
+        v = v * 256 + u64::from(*b);
     }
     v
 }
@@ -30,10 +28,8 @@ pub fn put_number(out: &mut [u8], at: usize, n: usize, v: u64)
     ensures { out.new ≡ splice out.old at (bytes_of n v) }
 {
     let mut rest = v;
-    let mut i = n;
-    while 0 < i {
-        i -= 1;
-        out[at + i] = (rest % 256) as u8;
-        rest = rest / 256;
+    for i in (at..at + n).rev() {
+        out[i] = (rest % 256) as u8;
+        rest /= 256;
     }
 }

@@ -7,7 +7,7 @@ use Rattle.octets.specs.Class.{all, among, is_digit}
 use Rattle.octets.specs.Decimal.{tens}
 use Rattle.octets.specs.Text.{before, same}
 use Rattle.probe.specs.Commands.{command_done, line_done, plain_done}
-use Rattle.probe.specs.Ceiling.{ceiling_after, ceiling_text, fits}
+use Rattle.probe.specs.Ceiling.{ceiling_after, ceiling_text}
 use Rattle.probe.specs.Effect.{holding, keeping}
 use Rattle.probe.specs.Events.{event_done, event_on, step_done}
 use Rattle.probe.specs.Tables.{blank_done, blank_made}
@@ -37,5 +37,5 @@ module _ (c : ℕ) (t : List ℕ) where
       (line_done (holding c t) (ascii "ceiling 4294967295") ≡ record { text = ascii "ok\n"; held = holding 4294967295 t })
       × (line_done (holding c t) (ascii "ceiling 4294967296") ≡ record { text = ascii "?\n"; held = holding c t })
       × (line_done (holding c t) (ascii "ceiling") ≡ record { text = ascii "?\n"; held = holding c t })
-  unfolding line_done command_done fits ceiling_text ceiling_after same before among numeral all is_digit tens
+  unfolding line_done command_done ceiling_text ceiling_after same before among numeral all is_digit tens
   ceilings = (refl, refl, refl)

@@ -1,6 +1,7 @@
 -- Each answer of `blank`, `table` and `dump`, and the table that is held after it. Assumes nothing.
-use Prim.Native.Nat.{ℕ, ◌+◌, ◌-◌, ◌≤◌, ◌<◌}
+use Prim.Native.Nat.{ℕ, ◌+◌, ◌-◌, ◌≤◌}
 use Rattle.lines.specs.Log.{Effect}
+use Rattle.std.specs.Prelude.{None, Some, is_ok}
 use Rattle.octets.proofs.Chain.{more, start}
 use Rattle.octets.specs.Ascii.{ascii}
 use Rattle.octets.specs.Class.{among}
@@ -10,16 +11,13 @@ use Rattle.probe.specs.Effect.{shows}
 use Rattle.probe.specs.inner.Turned.{Turned}
 use Rattle.showing.specs.Shown.{hexed, unknown}
 use Rattle.showing.specs.Words.{hex_bytes, first_word, has_space, number_to, rest}
-use Rattle.table.specs.Blank.{blank_after, blank_answer, blank_fits, blank_of, made_if}
+use Rattle.table.specs.Blank.{Made, blank_after, blank_answer, blank_fits, blank_of, made_if}
 use Rattle.table.specs.WellFormed.{well_formed}
-use Rattle.table.specs.declared.blanking.Made.TheVariants.{Done, Refused}
-use Rattle.table.specs.declared.blanking.Made.{Made}
-use borrow.Author.Tests.{le-leb, lt-leb}
 use lib.ListN.{drop, length, take, take-append-drop}
 use lib.Seq.{drop_at, length-take-le, take_at}
 use mathlib.Core.Bool.{Bool, true, false}
 use mathlib.Core.List.{List, ◌++◌}
-use mathlib.Core.Path.{◌≡◌, refl, sym, ◌∙◌}
+use mathlib.Core.Path.{◌≡◌, refl, sym, ap, ◌∙◌}
 use native.Mathlib.Omega.{arith}
 
 -- a text was written, and the first bytes of h are a table
@@ -40,23 +38,16 @@ dumped o t p q = let w = more (ascii "\n") (more (hexed t) (start o) p) q in (w.
 
 -- Making a blank table of the first n bytes of h.
 
-done-says : (b : Bool) → Done ≡ made_if b → true ≡ b
-done-says true e = refl
-done-says false e = cc
-
-refused_says : (b : Bool) → Refused ≡ made_if b → false ≡ b
-refused_says true e = cc
-refused_says false e = refl
+is_ok_made : (b : Bool) → is_ok (made_if b) ≡ b
+is_ok_made true = refl
+is_ok_made false = refl
 
 module _ (h : List ℕ) (n count : ℕ) (fits : n ≤ length h) where
   lent : length (take (n - 0) h) ≡ n
   lent = let z : n - 0 ≡ n = omega arith in rw z (length-take-le n h fits)
 
-  pub made-done : {m : Made} → m ≡ Done → m ≡ blank_answer (take (n - 0) h) count → true ≡ blank_fits count n
-  made-done e a = rw lent at (done-says (blank_fits count (length (take (n - 0) h))) (sym e ∙ a))
-
-  pub made-refused : {m : Made} → m ≡ Refused → m ≡ blank_answer (take (n - 0) h) count → false ≡ blank_fits count n
-  made-refused e a = rw lent at (refused_says (blank_fits count (length (take (n - 0) h))) (sym e ∙ a))
+  pub made : {m : Made} → m ≡ blank_answer (take (n - 0) h) count → is_ok m ≡ blank_fits count n
+  made a = ap is_ok a ∙ rw lent (is_ok_made (blank_fits count n))
 
   -- the part put back
   pub made_held : (p : List ℕ) → length p ≡ n → p ≡ blank_after (take (n - 0) h) count
@@ -67,21 +58,13 @@ module _ (h : List ℕ) (n count : ℕ) (fits : n ≤ length h) where
 
 -- What `blank` answers, by its two numbers.
 module _ (t : List ℕ) (count len : ℕ) where
-  pub over-count : 65535 < count → blank_made t count len ≡ shows t unknown
+  is-blank : blank_fits count len ≡ true → blank_made t count len ≡ shows (blank_of count) (verdict_text true)
   unfolding blank_made
-  over-count h = simp (lt-leb count 65535 h)
+  is-blank e = simp e
 
-  pub over-length : count ≤ 65535 → 65536 < len → blank_made t count len ≡ shows t unknown
+  not-blank : blank_fits count len ≡ false → blank_made t count len ≡ shows t (verdict_text false)
   unfolding blank_made
-  over-length h k = simp (le-leb count 65535 h, lt-leb len 65536 k)
-
-  pub is-blank : count ≤ 65535 → len ≤ 65536 → blank_fits count len ≡ true → blank_made t count len ≡ shows (blank_of count) (verdict_text true)
-  unfolding blank_made
-  is-blank h k e = simp (le-leb count 65535 h, le-leb len 65536 k, e)
-
-  pub not-blank : count ≤ 65535 → len ≤ 65536 → blank_fits count len ≡ false → blank_made t count len ≡ shows t (verdict_text false)
-  unfolding blank_made
-  not-blank h k e = simp (le-leb count 65535 h, le-leb len 65536 k, e)
+  not-blank e = simp e
 
 module _ (h : List ℕ) (n count : ℕ) (fits : n ≤ length h) (h' : List ℕ) (front : take n h' ≡ blank_after (take n h) count) where
   pub held-blank : blank_fits count n ≡ true → take n h' ≡ blank_of count
@@ -103,10 +86,26 @@ module _ (t words : List ℕ) where
   unfolding blank_done
   no_length e = simp e
 
-  pub both-numbers : {count len : ℕ} {a b : List ℕ} → has_space words ≡ true → a ≡ first_word words → b ≡ rest words → count ≡ number_to 65535 a → len ≡ number_to 65536 b
-      → blank_made t count len ≡ blank_done t words
-  unfolding blank_done
-  both-numbers e f g p q = rw (p, q, f, g, e)
+  module _ (e : has_space words ≡ true) where
+    pub no_count : number_to 65535 (first_word words) ≡ None → blank_done t words ≡ shows t unknown
+    unfolding blank_done
+    no_count k = rw (e, k) refl
+
+    module _ {count : ℕ} (k : number_to 65535 (first_word words) ≡ Some count) where
+      pub no_bytes : number_to 65536 (rest words) ≡ None → blank_done t words ≡ shows t unknown
+      unfolding blank_done
+      no_bytes l = rw (e, k, l) refl
+
+      module _ {len : ℕ} (l : number_to 65536 (rest words) ≡ Some len) where
+        both : blank_done t words ≡ blank_made t count len
+        unfolding blank_done
+        both = rw (e, k, l) refl
+
+        pub blank-held : blank_fits count len ≡ true → blank_done t words ≡ shows (blank_of count) (verdict_text true)
+        blank-held f = both ∙ is-blank t count len f
+
+        pub blank-refused : blank_fits count len ≡ false → blank_done t words ≡ shows t (verdict_text false)
+        blank-refused f = both ∙ not-blank t count len f
 
 -- What `table` answers.
 module _ (t w : List ℕ) where

@@ -1,15 +1,11 @@
 -- What `msg` and `tick` show, and the table that is held after them. Cited by the contracts of `src/events.rt`. Assumes nothing.
-use Rattle.std.specs.Prelude.{ℕ, Bool, ◌&&◌, cond, List, ◌++◌}
-use Rattle.answers.specs.Answer.{refusal_number, refusal_place, refusal_reply}
-use Rattle.answers.specs.declared.Answer.TheVariants.{Accepted, Refused}
-use Rattle.answers.specs.declared.Answer.{Answer}
+use Rattle.std.specs.Prelude.{ℕ, Bool, ◌&&◌, cond, List, ◌++◌, None, Option, Some, Ok, Err}
+use Rattle.answers.specs.Answer.{Answer, refusal_number, refusal_place, refusal_reply}
 use Rattle.keeper.specs.Keeping.{Step, on_message, on_tick}
 use Rattle.lines.specs.Program.{answer_text}
 use Rattle.lines.specs.Log.{Effect}
 use Rattle.octets.specs.Ascii.{ascii}
 use Rattle.octets.specs.Decimal.{shown}
-use Rattle.octets.specs.declared.decimals.Spelt.TheVariants.{Value, Other}
-use Rattle.octets.specs.declared.decimals.Spelt.{Spelt}
 use Rattle.probe.specs.Effect.{shows}
 use Rattle.showing.specs.Shown.{unknown}
 use Rattle.showing.specs.Words.{hex_bytes, first_word, has_space, is_bytes, numeral, rest}
@@ -20,8 +16,8 @@ accepted_text a = ascii "ok " ++ (answer_text a ++ ascii "\n")
 
 -- `ok WORD STATE`, or `no N PLACE REPLY`
 unfoldable pub event_text : Answer → List ℕ
-event_text (Accepted w s) = accepted_text (Accepted w s)
-event_text (Refused f) = ascii "no " ++ (shown (refusal_number f) ++ (ascii " " ++ (shown (refusal_place f) ++ (ascii " " ++ (shown (refusal_reply f) ++ ascii "\n")))))
+event_text (Ok a) = accepted_text (Ok a)
+event_text (Err f) = ascii "no " ++ (shown (refusal_number f) ++ (ascii " " ++ (shown (refusal_place f) ++ (ascii " " ++ (shown (refusal_reply f) ++ ascii "\n")))))
 
 -- a tick for the Call-ID s, or the message s under a ceiling of c
 unfoldable pub event_on : ℕ → List ℕ → Bool → ℕ → List ℕ → Step
@@ -32,9 +28,9 @@ abbrev pub step_done : Step → Effect (List ℕ)
 step_done e = record { text = event_text e.answer; held = e.table }
 
 -- an event at the time that is spelt
-abbrev pub event_at : ℕ → List ℕ → Bool → List ℕ → Spelt → Effect (List ℕ)
-event_at c t tick s (Value time) = step_done (event_on c t tick time s)
-event_at c t tick s Other = shows t unknown
+abbrev pub event_at : ℕ → List ℕ → Bool → List ℕ → Option ℕ → Effect (List ℕ)
+event_at c t tick s (Some time) = step_done (event_on c t tick time s)
+event_at c t tick s None = shows t unknown
 
 -- `msg TIME HEX` and `tick TIME HEX`
 unfoldable pub event_done : ℕ → List ℕ → Bool → List ℕ → Effect (List ℕ)

@@ -1,6 +1,6 @@
 -- What `blank`, `table` and `dump` show, and the table that is held after them. Cited by the contracts of `src/tables.rt`.
 -- Assumes nothing.
-use Rattle.std.specs.Prelude.{ℕ, leb, Bool, true, false, ◌&&◌, cond, List, ◌++◌}
+use Rattle.std.specs.Prelude.{ℕ, Bool, true, false, cond, List, ◌++◌, None, Option, Some}
 use Rattle.lines.specs.Log.{Effect}
 use Rattle.octets.specs.Ascii.{ascii}
 use Rattle.probe.specs.Effect.{shows}
@@ -17,17 +17,19 @@ verdict_text good = cond good (ascii "ok\n") (ascii "no 1\n")
 unfoldable pub dump_text : List ℕ → List ℕ
 dump_text t = hexed t ++ ascii "\n"
 
--- a blank table of so many records and bytes is held, if the length is right for the count; a COUNT over 65,535 and a LENGTH over 65,536
--- are answered `?`
+-- a blank table of so many records and bytes is held, if the length is right for the count
 unfoldable pub blank_made : List ℕ → ℕ → ℕ → Effect (List ℕ)
-blank_made t count len =
-    cond (leb count 65535 && leb len 65536)
-    (cond (blank_fits count len) (shows (blank_of count) (verdict_text true)) (shows t (verdict_text false)))
-    (shows t unknown)
+blank_made t count len = cond (blank_fits count len) (shows (blank_of count) (verdict_text true)) (shows t (verdict_text false))
 
--- `blank COUNT LENGTH`
+-- by its two numbers, if there are both
+abbrev pub blank_by : List ℕ → Option ℕ → Option ℕ → Effect (List ℕ)
+blank_by t (Some count) (Some len) = blank_made t count len
+blank_by t (Some count) None = shows t unknown
+blank_by t None len = shows t unknown
+
+-- `blank COUNT LENGTH`; a COUNT over 65,535 and a LENGTH over 65,536 are answered `?`
 unfoldable pub blank_done : List ℕ → List ℕ → Effect (List ℕ)
-blank_done t words = cond (has_space words) (blank_made t (number_to 65535 (first_word words)) (number_to 65536 (rest words))) (shows t unknown)
+blank_done t words = cond (has_space words) (blank_by t (number_to 65535 (first_word words)) (number_to 65536 (rest words))) (shows t unknown)
 
 -- a word stands for a table's image, of at most 65,536 bytes
 abbrev pub is_image : List ℕ → Bool

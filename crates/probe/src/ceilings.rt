@@ -17,15 +17,14 @@ pub struct Ceiling {
 pub fn set_ceiling(out: &mut [u8; 160100], ceiling: u32, word: &[u8]) -> Ceiling
     ensures { Puts out.old (ceiling_text word.now) result.len out.new × (result.ceiling ≡ ceiling_after ceiling word.now) }
 {
-    let n = number_to(word, 4294967295);
-    if 4294967295 < n {
-        return Ceiling {
+    match number_to(word, 4294967295) {
+        Some(n) => Ceiling {
+            len: put(out, 0, b"ok\n"),
+            ceiling: n as u32,
+        },
+        None => Ceiling {
             len: put_unknown(out),
             ceiling,
-        };
-    }
-    Ceiling {
-        len: put(out, 0, b"ok\n"),
-        ceiling: n as u32,
+        },
     }
 }

@@ -1,14 +1,12 @@
 // `msg` and `tick`.
-ghost use Rattle.std.specs.Prelude.{◌≡◌, ◌≤◌, length, take};
-ghost use Rattle.answers.specs.declared.Answer.TheVariants.{Refused};
+ghost use Rattle.std.specs.Prelude.{◌≡◌, ◌≤◌, length, take, Err};
 ghost use Rattle.keeper.specs.Keeping.{on_message, on_tick};
 ghost use Rattle.probe.specs.Events.{accepted_text, event_done, event_on, event_text, step_done};
 ghost use Rattle.probe.specs.inner.Turned.{Turned};
 ghost use Rattle.showing.specs.Shown.{Puts};
 
 use answers::{Answer, Refusal};
-use lines::Wrote;
-use octets::{Spelt, put};
+use octets::put;
 use showing::{first, has_space, number, put_number, put_unknown, rest, take_bytes};
 
 // An acceptance's word and state, as in the program's lines.
@@ -16,20 +14,17 @@ fn put_accepted(out: &mut [u8; 160100], a: Answer) -> usize
     ensures { Puts out.old (accepted_text a) result out.new }
 {
     let behind = put(out, 0, b"ok");
-    match lines::write_answer(out, behind, b"", a) {
-        Wrote::End(n) => n,
-        Wrote::NoRoom => behind,
-    }
+    lines::write_answer(out, behind, b"", a).unwrap_or(behind)
 }
 
 // A refusal's number, place and reply.
 fn put_refused(out: &mut [u8; 160100], f: Refusal) -> usize
-    ensures { Puts out.old (event_text (Refused f)) result out.new }
+    ensures { Puts out.old (event_text (Err f)) result out.new }
 {
     let before_number = put(out, 0, b"no ");
-    let before_place = put_number(out, before_number, answers::number(f) as u64, b" ");
-    let before_reply = put_number(out, before_place, answers::place(f) as u64, b" ");
-    put_number(out, before_reply, answers::reply(f) as u64, b"\n")
+    let before_place = put_number(out, before_number, f.number() as u64, b" ");
+    let before_reply = put_number(out, before_place, f.place() as u64, b" ");
+    put_number(out, before_reply, f.reply() as u64, b"\n")
 }
 
 // What an event is answered.
@@ -37,8 +32,8 @@ fn put_event(out: &mut [u8; 160100], a: Answer) -> usize
     ensures { Puts out.old (event_text a) result out.new }
 {
     match a {
-        Answer::Accepted(_, _) => put_accepted(out, a),
-        Answer::Refused(f) => put_refused(out, f),
+        Ok(_) => put_accepted(out, a),
+        Err(f) => put_refused(out, f),
     }
 }
 
@@ -104,12 +99,11 @@ pub fn happen(
     if !has_space(words) {
         return put_unknown(out);
     }
-    let n = take_bytes(bytes, 0, rest(words));
-    if 85000 < n {
+    let Some(n) = take_bytes(bytes, 0, rest(words)) else {
         return put_unknown(out);
-    }
-    match number(first(words)) {
-        Spelt::Value(time) => happens(out, held, size, bytes, n, time, tick, ceiling),
-        Spelt::Other => put_unknown(out),
-    }
+    };
+    let Some(time) = number(first(words)) else {
+        return put_unknown(out);
+    };
+    happens(out, held, size, bytes, n, time, tick, ceiling)
 }

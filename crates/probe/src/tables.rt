@@ -1,6 +1,6 @@
 // `blank`, `table` and `dump`.
 ghost use Rattle.std.specs.Prelude.{◌≡◌, ◌≤◌, drop, length, take};
-ghost use Rattle.probe.specs.Tables.{blank_done, blank_made, dump_text, table_done, verdict_text};
+ghost use Rattle.probe.specs.Tables.{blank_done, dump_text, table_done, verdict_text};
 ghost use Rattle.probe.specs.inner.Turned.{Turned};
 ghost use Rattle.showing.specs.Shown.{Puts, unknown};
 ghost use Rattle.showing.specs.Words.{hex_bytes};
@@ -62,29 +62,23 @@ pub fn make_blank(held: &mut [u8], n: usize, count: usize) -> bool
     requires { n ≤ length held.old }
     ensures { (result ≡ blank_fits count n) × (take n held.new ≡ blank_after (take n held.old) count) × (drop n held.new ≡ drop n held.old) }
 {
-    match table::blank(&mut held[0..n], count) {
-        table::Made::Done => true,
-        table::Made::Refused => false,
-    }
+    table::blank(&mut held[0..n], count).is_ok()
 }
 
-// Makes a blank table and holds it. Where that is refused, and where a number is over its limit, the held one stays.
-fn make(
-    out: &mut [u8; 160100],
-    held: &mut [u8; 65536],
-    size: usize,
-    count: u64,
-    length: u64,
-) -> Answered
+// `blank COUNT LENGTH`: where a number is over its limit, and where they are refused, the held table stays.
+pub fn blank(out: &mut [u8; 160100], held: &mut [u8; 65536], size: usize, words: &[u8]) -> Answered
     requires { size ≤ 65536 }
-    ensures { Turned (blank_made (take size held.old) count length) out.old result.len out.new result.size held.new }
+    ensures { Turned (blank_done (take size held.old) words.now) out.old result.len out.new result.size held.new }
 {
-    if 65535 < count {
+    if !has_space(words) {
         return answer_unknown(out, size);
     }
-    if 65536 < length {
+    let Some(count) = number_to(first(words), 65535) else {
         return answer_unknown(out, size);
-    }
+    };
+    let Some(length) = number_to(rest(words), 65536) else {
+        return answer_unknown(out, size);
+    };
     let n = length as usize;
     if make_blank(held, n, count as usize) {
         return Answered {
@@ -96,19 +90,6 @@ fn make(
         len: verdict(out, false),
         size: size,
     }
-}
-
-// `blank COUNT LENGTH`.
-pub fn blank(out: &mut [u8; 160100], held: &mut [u8; 65536], size: usize, words: &[u8]) -> Answered
-    requires { size ≤ 65536 }
-    ensures { Turned (blank_done (take size held.old) words.now) out.old result.len out.new result.size held.new }
-{
-    if !has_space(words) {
-        return answer_unknown(out, size);
-    }
-    let count = number_to(first(words), 65535);
-    let length = number_to(rest(words), 65536);
-    make(out, held, size, count, length)
 }
 
 // Puts the image that a word stands for at the held buffer's front, and answers its size.

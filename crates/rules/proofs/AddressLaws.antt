@@ -1,15 +1,14 @@
--- The rules of To and From, opened once over the places that the code computes, and what an address says. Assumes nothing.
+-- The rules of To and From, opened once over the places that the code computes. Assumes nothing.
 use Prim.Native.Nat.{◌+◌, ℕ}
-use mathlib.Core.Bool.{◌&&◌, false, true}
+use mathlib.Core.Bool.{◌&&◌}
 use mathlib.Core.List.{List, ◌∷◌, []}
 use mathlib.Core.Path.{◌∙◌, ◌≡◌, ap}
 use lib.Dec.{eqb}
 use lib.ListN.{drop, length}
 use Rattle.octets.specs.Ascii.{ascii}
 use Rattle.octets.specs.Text.{stands_at}
-use Rattle.rules.specs.Address.{address_of, callee_end, callee_rule, caller_end, caller_rule, user_end}
+use Rattle.rules.specs.Address.{callee_end, callee_rule, caller_end, caller_rule, user_end}
 use Rattle.rules.specs.Pieces.{piece_end, has_piece, reads, run_length, within}
-use Rattle.rules.specs.declared.addresses.Address.TheVariants.{Broken, Callee, Caller}
 use Rattle.rules.specs.declared.classes.Class.TheVariants.{Alnum, Fire, Small}
 
 pub caller-is : (s : List ℕ) (u f : ℕ) → u ≡ user_end s → f ≡ caller_end s
@@ -36,15 +35,3 @@ module _ (s : List ℕ) (u : ℕ) (p : u ≡ 7 + run_length Alnum (drop 7 s)) wh
 pub callee-end : (s : List ℕ) (f : ℕ) → f ≡ 12 + run_length Fire (drop 12 s) → f ≡ callee_end s
 unfolding callee_end piece_end
 callee-end s f p = p
-
-pub caller_address : (s : List ℕ) (u f : ℕ) → u ≡ user_end s → f ≡ caller_end s → caller_rule s ≡ true → Caller u f ≡ address_of s
-unfolding address_of
-caller_address s u f p q e = rw (e, p, q)
-
-pub callee_address : (s : List ℕ) (f : ℕ) → f ≡ callee_end s → caller_rule s ≡ false → callee_rule s ≡ true → Callee f ≡ address_of s
-unfolding address_of
-callee_address s f p d e = rw (d, e, p)
-
-pub no_address : (s : List ℕ) → caller_rule s ≡ false → callee_rule s ≡ false → Broken ≡ address_of s
-unfolding address_of
-no_address s d e = rw (d, e)

@@ -1,30 +1,18 @@
 -- A known field is found by a guess and one comparison: every name's guess is its own number, so no other can be missed.
--- The tables of `src/names.rt` are held to the names by one test each. Assumes nothing.
+-- The table of guesses of `src/names.rt` is held to the names by one test. Assumes nothing.
 use Prim.Native.Nat.{◌%◌, ◌*◌, ◌+◌, ◌-◌, ◌<◌, ◌≤◌, suc, ℕ}
 use mathlib.Core.Bool.{Bool, ◌&&◌, false, true, cond}
 use mathlib.Core.List.{List, ◌++◌, ◌∷◌, []}
 use mathlib.Core.Path.{◌∙◌, ◌≡◌, ap, refl, sym}
 use native.Mathlib.Omega.{arith}
 use borrow.Author.Tests.{lt-ltb}
-use lib.Dec.{T, eqb, eqb→eq, leb, leb→le, ltb, ltb→lt}
-use lib.ListN.{drop, get_or, length, take}
+use lib.Dec.{T, eqb, eqb→eq, ltb, ltb→lt}
+use lib.ListN.{get_or, length}
 use Rattle.octets.proofs.TextLaws.{eq-same, same-eq}
-use Rattle.octets.specs.Ascii.{ascii}
 use Rattle.octets.specs.Text.{same}
-use Rattle.rules.proofs.Table.{and_left, and_right, at, equal, equal_is}
+use Rattle.rules.proofs.Table.{and_left, and_right, at}
 use Rattle.rules.specs.Names.{field_name, fields}
 use Rattle.rules.specs.Pieces.{word_number_from, word_number}
-
--- the names one after the other, and where each begins
-abbrev pub names : List ℕ
-names =
-    ascii "CSeqToFromDateCall-IDViaStatusMessage-IDContent-TypeBodyRefer-ToReferred-ByRefer-MemoSession-IDCall-ModeCall-Test"
-    ++ ascii "Secure-CallRescueeRequest-ServiceLanguageLocationsUser-AgentCallerOptionsDestinationResponded-By"
-
-abbrev pub starts : List ℕ
-starts =
-    0 ∷ 0 ∷ 4 ∷ 6 ∷ 10 ∷ 14 ∷ 21 ∷ 24 ∷ 30 ∷ 40 ∷ 52 ∷ 56 ∷ 64 ∷ 75 ∷ 85 ∷ 95 ∷ 104 ∷ 113 ∷ 124 ∷ 131 ∷ 146 ∷ 154
-    ∷ 163 ∷ 173 ∷ 179 ∷ 186 ∷ 197 ∷ 209 ∷ []
 
 abbrev pub guesses : List ℕ
 guesses =
@@ -32,23 +20,14 @@ guesses =
     ∷ 17 ∷ 0 ∷ 0 ∷ 14 ∷ 0 ∷ 0 ∷ 6 ∷ 0 ∷ 0 ∷ 0 ∷ 0 ∷ 0 ∷ 0 ∷ 0 ∷ 0 ∷ 0 ∷ 0 ∷ 15 ∷ 18 ∷ 0 ∷ 0 ∷ 0 ∷ 0 ∷ 0 ∷ 0 ∷ 0 ∷ 0
     ∷ 0 ∷ 1 ∷ 22 ∷ 0 ∷ 3 ∷ 9 ∷ 2 ∷ 12 ∷ 0 ∷ 5 ∷ 8 ∷ []
 
--- the names from one start to the next
-abbrev cut : ℕ → List ℕ
-cut k = take (get_or starts (k + 1) 0 - get_or starts k 0) (drop (get_or starts k 0) names)
-
 -- the number by which a name is guessed, and the guess
 abbrev pub guess : List ℕ → ℕ
 guess x = get_or guesses ((length x % 16 * 5 + get_or x 0 0 * 5 + get_or x (length x - 1) 0 * 3) % 64) 0
 
 right : ℕ → Bool
-right k =
-    (leb (get_or starts k 0) (get_or starts (k + 1) 0) && leb (get_or starts (k + 1) 0) 209)
-    && (equal (cut k) (field_name k) && (eqb (guess (field_name k)) k && eqb (word_number fields (field_name k)) k))
+right k = eqb (guess (field_name k)) k && eqb (word_number fields (field_name k)) k
 
 pub record Row (k : ℕ) : Type 0 where
-  pub rises : get_or starts k 0 ≤ get_or starts (k + 1) 0
-  pub inside : get_or starts (k + 1) 0 ≤ 209
-  pub is : take (get_or starts (k + 1) 0 - get_or starts k 0) (drop (get_or starts k 0) names) ≡ field_name k
   pub guessed : guess (field_name k) ≡ k
   pub placed : word_number fields (field_name k) ≡ k
 
@@ -56,22 +35,10 @@ pub record Row (k : ℕ) : Type 0 where
 pub row : (k : ℕ) → k < 27 → Row k
 unfolding right field_name word_number_from same
 row k h =
-    let a = leb (get_or starts k 0) (get_or starts (k + 1) 0) in
-    let b = leb (get_or starts (k + 1) 0) 209 in
-    let d = equal (cut k) (field_name k) in
     let g = eqb (guess (field_name k)) k in
     let p = eqb (word_number fields (field_name k)) k in
-    let t : T ((a && b) && (d && (g && p))) = at right 27 tt k h in
-    let l = and_left (a && b) (d && (g && p)) t in
-    let r = and_right (a && b) (d && (g && p)) t in
-    let q = and_right d (g && p) r in
-    record {
-      rises = leb→le _ _ (and_left a b l);
-      inside = leb→le _ _ (and_right a b l);
-      is = equal_is (cut k) (field_name k) (and_left d (g && p) r);
-      guessed = eqb→eq _ _ (and_left g p q);
-      placed = eqb→eq _ _ (and_right g p q);
-    }
+    let t : T (g && p) = at right 27 tt k h in
+    record { guessed = eqb→eq _ _ (and_left g p t); placed = eqb→eq _ _ (and_right g p t) }
 
 small : ℕ → Bool
 small i = ltb (get_or guesses i 0) 27

@@ -1,7 +1,7 @@
 -- What callers may count on: how long a text is that keeps a rule, that the parts of an address keep the rules of their
 -- own, and the ranges of the numbers that come out. The idea: a run that is cut out of its text is the same run. Assumes nothing.
 use Prim.Native.Nat.{◌+◌, ◌-◌, ◌<◌, ◌≤◌, suc, ℕ}
-use mathlib.Core.Bool.{Bool, ◌&&◌, false, true, cond}
+use mathlib.Core.Bool.{Bool, ◌&&◌, ◌||◌, false, true, cond}
 use mathlib.Core.List.{List, ◌∷◌, []}
 use mathlib.Core.Path.{◌∙◌, ◌≡◌, ap, refl, sym}
 use native.Mathlib.Nat.{zero-add}
@@ -16,11 +16,12 @@ use Rattle.octets.specs.Ascii.{ascii}
 use Rattle.octets.specs.Class.{among}
 use Rattle.octets.specs.Text.{stands_at}
 use Rattle.rules.proofs.AddressLaws.{callee-is, caller-is}
-use Rattle.rules.specs.Address.{address_of, callee_end, callee_rule, caller_end, caller_rule, user_end}
+use Rattle.rules.specs.Address.{address_of, address_rule, callee_end, callee_rule, caller_end, caller_rule, user_end}
+use Rattle.std.specs.Prelude.{None, Some}
 use Rattle.rules.specs.Classes.{holds}
 use Rattle.rules.specs.Pieces.{piece_end, has_piece, reads, run, run_length, within}
 use Rattle.rules.specs.Texts.{call_id_rule, fire_rule, user_rule}
-use Rattle.rules.specs.declared.addresses.Address.TheVariants.{Broken, Callee, Caller}
+use Rattle.rules.specs.declared.addresses.Address.TheVariants.{Callee, Caller}
 use Rattle.rules.specs.declared.classes.Class.{Class}
 use Rattle.rules.specs.declared.classes.Class.TheVariants.{Alnum, Fire, Small}
 
@@ -173,7 +174,8 @@ callee-parts s f q h =
 
 -- what an address that is one says of its parts
 module _ (s : List ℕ) where
-  as_caller : (t r : Bool) (u f : ℕ) → caller_rule s ≡ t → callee_rule s ≡ r → cond t (Caller (user_end s) (caller_end s)) (cond r (Callee (callee_end s)) Broken) ≡ Caller u f
+  as_caller : (t r : Bool) (u f : ℕ) → caller_rule s ≡ t → callee_rule s ≡ r
+      → cond (t || r) (Some (cond t (Caller (user_end s) (caller_end s)) (Callee (callee_end s)))) None ≡ Some (Caller u f)
       → CallerParts s u f
   as_caller true r u f h g e =
       let p : u ≡ user_end s = cc in
@@ -182,11 +184,12 @@ module _ (s : List ℕ) where
   as_caller false true u f h g e = absurd (let z : ◌≡◌ {A = ℕ} 0 1 = cc in omega arith)
   as_caller false false u f h g e = absurd (let z : ◌≡◌ {A = ℕ} 0 1 = cc in omega arith)
 
-  pub caller_address_parts : (u f : ℕ) → address_of s ≡ Caller u f → CallerParts s u f
-  unfolding address_of
+  pub caller_address_parts : (u f : ℕ) → address_of s ≡ Some (Caller u f) → CallerParts s u f
+  unfolding address_of address_rule
   caller_address_parts u f e = as_caller (caller_rule s) (callee_rule s) u f refl refl e
 
-  as_callee : (t r : Bool) (f : ℕ) → caller_rule s ≡ t → callee_rule s ≡ r → cond t (Caller (user_end s) (caller_end s)) (cond r (Callee (callee_end s)) Broken) ≡ Callee f
+  as_callee : (t r : Bool) (f : ℕ) → caller_rule s ≡ t → callee_rule s ≡ r
+      → cond (t || r) (Some (cond t (Caller (user_end s) (caller_end s)) (Callee (callee_end s)))) None ≡ Some (Callee f)
       → CalleeParts s f
   as_callee true r f h g e = absurd (let z : ◌≡◌ {A = ℕ} 0 1 = cc in omega arith)
   as_callee false true f h g e =
@@ -194,6 +197,6 @@ module _ (s : List ℕ) where
       callee-parts s f q g
   as_callee false false f h g e = absurd (let z : ◌≡◌ {A = ℕ} 0 1 = cc in omega arith)
 
-  pub callee_address_parts : (f : ℕ) → address_of s ≡ Callee f → CalleeParts s f
-  unfolding address_of
+  pub callee_address_parts : (f : ℕ) → address_of s ≡ Some (Callee f) → CalleeParts s f
+  unfolding address_of address_rule
   callee_address_parts f e = as_callee (caller_rule s) (callee_rule s) f refl refl e

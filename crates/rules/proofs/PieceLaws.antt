@@ -1,23 +1,28 @@
 -- The pieces' laws: a run, a digit and a code point at a time for the loops, and what one byte at a place means. Assumes nothing.
 use Prim.Native.Nat.{◌*◌, ◌+◌, ◌-◌, ◌<◌, ◌≤◌, suc, zero, ℕ}
-use mathlib.Core.Bool.{Bool, ◌||◌, and-false, and-true, false, true, cond}
+use mathlib.Core.Bool.{Bool, and-false, and-true, false, true, cond}
 use mathlib.Core.List.{List, ◌∷◌, []}
+use mathlib.Core.Logic.{⊎_elim}
 use mathlib.Core.Path.{◌∙◌, ◌≡◌, ap, refl, sym}
-use native.Mathlib.Nat.{zero-add}
+use native.Mathlib.Nat.{eq-or-lt_of_le, zero-add}
 use native.Mathlib.Numerals.{add-one}
 use native.Mathlib.Omega.{arith}
-use borrow.Author.Tests.{eqb-false, eqb-true, le-leb, lt-leb, ne_eqb}
+use borrow.Author.Tests.{eqb-false, eqb-true, lt-leb, ne_eqb}
 use lib.Dec.{eqb, leb}
 use lib.ListN.{drop, drop_of_length-le, get_or, length}
 use lib.Seq.{drop-cons, drop-nil}
-use Rattle.octets.proofs.ClassLaws.{all-ends, all_more, all-stops}
 use Rattle.octets.proofs.TextLaws.{there}
-use Rattle.octets.specs.Class.{all, among, is_digit}
+use Rattle.octets.specs.Class.{among, is_digit}
 use Rattle.octets.specs.Text.{same, stands_at}
 use Rattle.rules.specs.Classes.{holds}
 use Rattle.rules.specs.Pieces.{digits, run_length, decimal_at}
-use Rattle.rules.specs.Texts.{begins_point, memo_rule, no_break, points}
+use Rattle.rules.specs.Texts.{begins_point, points}
 use Rattle.rules.specs.declared.classes.Class.{Class}
+use Rattle.std.proofs.lemmas.List.Folds.{list_all-append, list_all-map}
+use Rattle.std.proofs.lemmas.List.FromFn.{map-range_with_len_more}
+use Rattle.std.proofs.lemmas.List.Recursion.{is_count_by}
+use Rattle.std.specs.List.{count_by, list_all, range_with_len}
+use Rattle.std.specs.Prelude.{map}
 
 module _ (k : Class) (s : List ℕ) (i : ℕ) where
   pub run_more : i < length s → holds k (get_or s i 0) ≡ true → i + run_length k (drop i s) ≡ (i + 1) + run_length k (drop (i + 1) s)
@@ -32,15 +37,38 @@ module _ (k : Class) (s : List ℕ) (i : ℕ) where
   unfolding run_length
   run_ends h = rw (drop_of_length-le s h) (omega arith)
 
-no-points : (n : ℕ) → n + points [] ≡ n
-unfolding points
-no-points n = omega arith
+-- the bytes from a up to r are of the class
+run_all : (k : Class) (s : List ℕ) (a n : ℕ) → a + n ≤ length s → ((i : ℕ) → a ≤ i → i < a + n → holds k (get_or s i 0) ≡ true)
+    → a + run_length k (drop a s) ≡ (a + n) + run_length k (drop (a + n) s)
+run_all k s a zero h g = let z : a ≡ a + 0 = omega arith in ap (λ (i : ℕ). i + run_length k (drop i s)) z
+run_all k s a (suc n) h g =
+    let z : a + n + 1 ≡ a + suc n = omega arith in
+    run_all k s a n (omega arith) (λ i l u. g i l (omega arith)) ∙ run_more k s (a + n) (omega arith) (g (a + n) (omega arith) (omega arith))
+    ∙ ap (λ (i : ℕ). i + run_length k (drop i s)) z
 
--- one more digit
+-- and so the run ends at r, where the text ends or a byte of no such class stands
+pub run_to : (k : Class) (s : List ℕ) (a r : ℕ) → a ≤ r → r ≤ length s → ((i : ℕ) → a ≤ i → i < r → holds k (get_or s i 0) ≡ true)
+    → (r < length s → holds k (get_or s r 0) ≡ false) → a + run_length k (drop a s) ≡ r
+run_to k s a r l u g e =
+    let z : a + (r - a) ≡ r = omega arith in
+    run_all k s a (r - a) (omega arith) (λ i p q. g i p (omega arith)) ∙ ap (λ (i : ℕ). i + run_length k (drop i s)) z
+    ∙ ⊎_elim (λ (p : r ≡ length s). run_ends k s r (omega arith)) (λ (p : r < length s). run-stops k s r p (e p)) (eq-or-lt_of_le u)
+
 module _ (s : List ℕ) (at : ℕ) where
-  pub digits_more : (i : ℕ) → digits i s at ≡ true → is_digit (get_or s (at + i) 0) ≡ true → digits (i + 1) s at ≡ true
+  abbrev digit : ℕ → Bool
+  digit i = is_digit (get_or s (at + i) 0)
+
+  -- digits one after the other, as a range of places
+  digits-from : (n : ℕ) → list_all (λ b. b) (map digit (range_with_len 0 n)) ≡ digits n s at
   unfolding digits
-  digits_more i e d = rw (add-one, e, d)
+  digits-from zero = refl
+  digits-from (suc n) =
+      let e = rw (add-one n) at (map-range_with_len_more digit 0 n n (zero-add n)) in
+      ap (list_all (λ b. b)) e ∙ list_all-append (λ b. b) (map digit (range_with_len 0 n)) (digit n ∷ [])
+      ∙ rw (digits-from n, and-true (digit n))
+
+  pub digits_all : (n : ℕ) → list_all digit (range_with_len 0 n) ≡ digits n s at
+  digits_all n = sym (list_all-map (λ b. b) digit (range_with_len 0 n)) ∙ digits-from n
 
   digits-stop : (i n : ℕ) (t : Bool) → eqb i n ≡ t → is_digit (get_or s (at + i) 0) ≡ false → (t ≡ false → digits n s at ≡ false) → digits (suc n) s at ≡ false
   unfolding digits
@@ -100,36 +128,17 @@ module _ (s : List ℕ) (i v w : ℕ) (p : v ≡ decimal_at i s 0) where
   pub count-more : w ≡ get_or s i 0 - 48 → v * 10 + w ≡ decimal_at (i + 1) s 0
   count-more r = rw (value-more s 0 i, ← p, zero-add i, r)
 
-  pub count-over : (n hi : ℕ) → i < n → w ≡ get_or s i 0 - 48 → hi < v * 10 + w → 0 ≡ cond (leb (decimal_at n s 0) hi) (decimal_at n s 0) 0
+  pub count-over : (n hi : ℕ) → i < n → w ≡ get_or s i 0 - 48 → hi < v * 10 + w → among 1 hi (decimal_at n s 0) ≡ false
+  unfolding among
   count-over n hi h r o =
       let g : decimal_at (i + 1) s 0 ≤ decimal_at n s 0 = value_grows s 0 (i + 1) n (omega arith) in
-      rw (lt-leb (decimal_at n s 0) hi (omega (arith, count-more r)))
+      rw (lt-leb (decimal_at n s 0) hi (omega (arith, count-more r))) (and-false (leb 1 (decimal_at n s 0)))
 
-  pub count-ends : (n hi : ℕ) → i ≡ n → v ≤ hi → v ≡ cond (leb (decimal_at n s 0) hi) (decimal_at n s 0) 0
-  count-ends n hi e h = rw (← e, ← p, le-leb v hi h)
+-- a text's code points, counted
+one-point : (x : ℕ) (xs : List ℕ) → points (x ∷ xs) ≡ cond (begins_point x) (1 + points xs) (points xs)
+unfolding points
+one-point x xs = let z : 1 + points xs ≡ suc (points xs) = omega arith in rw z
 
--- one more code point, or none
-module _ (s : List ℕ) (i n : ℕ) (h : i < length s) (t : Bool) (e : t ≡ among 128 191 (get_or s i 0)) where
-  pub points-same : t ≡ true → (k : ℕ) → k ≡ n + points (drop i s) → k ≡ n + points (drop (i + 1) s)
-  unfolding points begins_point
-  points-same f k q = q ∙ rw (add-one, drop-cons s i 0, ← e, f)
-
-  pub points-more : t ≡ false → (k : ℕ) → k ≡ n + points (drop i s) → k ≡ (n + 1) + points (drop (i + 1) s)
-  unfolding points begins_point
-  points-more f k q = q ∙ rw (add-one i, drop-cons s i 0, ← e, f) (omega arith)
-
--- no line break, or one
-module _ (s : List ℕ) (i : ℕ) (q : all no_break s ≡ all no_break (drop i s)) (t : Bool) (b : t ≡ (eqb (get_or s i 0) 10 || eqb (get_or s i 0) 13)) where
-  pub memo_more : i < length s → t ≡ false → all no_break s ≡ all no_break (drop (i + 1) s)
-  unfolding no_break
-  memo_more h e = q ∙ all_more no_break s i h (rw (← b, e))
-
-  pub memo_stops : i < length s → t ≡ true → false ≡ memo_rule s
-  unfolding memo_rule no_break
-  memo_stops h e = rw (q, all-stops no_break s i h (rw (← b, e)))
-
-pub memo_ends : (s : List ℕ) (i n : ℕ) → all no_break s ≡ all no_break (drop i s) → length s ≤ i → points s ≡ n + points (drop i s) → leb n 128 ≡ memo_rule s
-unfolding memo_rule
-memo_ends s i n q h p =
-    let z : points s ≡ n = p ∙ rw (drop_of_length-le s h) (no-points n) in
-    rw (q, all-ends no_break s i h, z)
+pub points-counted : (s : List ℕ) → points s ≡ count_by begins_point s
+unfolding points
+points-counted s = is_count_by points begins_point refl one-point s

@@ -3,14 +3,14 @@
 use Prim.Native.Nat.{◌+◌, ◌-◌, ◌≤◌, ℕ}
 use mathlib.Core.Bool.{Bool, ◌&&◌, and-false, false, not, true, cond}
 use mathlib.Core.List.{List, ◌∷◌, []}
-use mathlib.Core.Path.{◌∙◌, ◌≡◌, ap, refl, sym}
+use mathlib.Core.Path.{◌∙◌, ◌≡◌, ap, refl, subst, sym}
 use native.Mathlib.Nat.{zero-add}
 use native.Mathlib.Omega.{arith}
-use borrow.Author.Tests.{eq-eqb, leb-true, lt-ltb, ltb-true, ne_eqb}
-use lib.Dec.{eqb, leb, ltb}
+use borrow.Author.Tests.{eq-eqb, lt-ltb, ltb-true, ne_eqb}
+use lib.Dec.{eqb, ltb}
 use lib.ListN.{drop, get_or, length, length-drop, take}
 use lib.Seq.{take_all}
-use Rattle.octets.proofs.ClassLaws.{among_in, in_among}
+use Rattle.octets.proofs.ClassLaws.{among_in}
 use Rattle.octets.proofs.TestLaws.{and_parts}
 use Rattle.octets.specs.Class.{among}
 use Rattle.octets.specs.Text.{stands_at}
@@ -19,7 +19,8 @@ use Rattle.rules.specs.Names.{methods}
 use Rattle.rules.specs.Pieces.{piece_end, has_piece, word_number, reads, run_length, decimal_at}
 use Rattle.rules.specs.Sequence.{cseq_method, number_end, cseq_number, sequence_of, sequence_rule}
 use Rattle.rules.specs.declared.classes.Class.TheVariants.{Digit}
-use Rattle.rules.specs.declared.sequences.Sequence.TheVariants.{Broken, Of}
+use Rattle.rules.specs.declared.sequences.Sequence.{Sequence}
+use Rattle.std.specs.Prelude.{None, Some}
 
 first-false : (x r : Bool) → ((x && false) && r) ≡ false
 first-false true r = refl
@@ -39,50 +40,53 @@ module _ (s : List ℕ) (n : ℕ) (q : n ≡ 0 + run_length Digit (drop 0 s)) wh
   unfolding sequence_rule reads has_piece piece_end
   rule-is = rw (q, eq-eqb (length s) (length s) refl, zero-add)
 
-  broken : sequence_rule s ≡ false → Broken ≡ sequence_of s
+  broken : sequence_rule s ≡ false → None ≡ sequence_of s
   unfolding sequence_of
   broken e = rw e
 
-  pub no_space : stands_at s n (32 ∷ []) ≡ false → Broken ≡ sequence_of s
+  pub no_space : stands_at s n (32 ∷ []) ≡ false → None ≡ sequence_of s
   no_space e = broken (rule-is ∙ rw e (and-false (not (eqb (get_or s 0 0) 48) && among 1 4294967295 (decimal_at n s 0))))
 
-  pub leading_zero : get_or s 0 0 ≡ 48 → Broken ≡ sequence_of s
+  pub leading_zero : get_or s 0 0 ≡ 48 → None ≡ sequence_of s
   leading_zero e = broken (rule-is ∙ rw (eq-eqb (get_or s 0 0) 48 e))
 
-  module _ (v : ℕ) (w : v ≡ cond (leb (decimal_at n s 0) 4294967295) (decimal_at n s 0) 0) where
-    out_of_range : (t : Bool) → leb (decimal_at n s 0) 4294967295 ≡ t → v ≡ 0 → among 1 4294967295 (decimal_at n s 0) ≡ false
-    unfolding among
-    out_of_range true e z = let y : decimal_at n s 0 ≡ 0 = sym (rw e at w) ∙ z in rw y
-    out_of_range false e z = rw e (and-false (leb 1 (decimal_at n s 0)))
+  -- the number that is counted is the text's, or there is none
+  counts : (t : Bool) → among 1 4294967295 (decimal_at n s 0) ≡ t → None ≡ cond t (Some (decimal_at n s 0)) None → among 1 4294967295 (decimal_at n s 0) ≡ false
+  counts true h e = absurd (let z : ◌≡◌ {A = ℕ} 0 1 = cc in omega arith)
+  counts false h e = h
 
-    pub no_number : v ≡ 0 → Broken ≡ sequence_of s
-    no_number z = broken (rule-is ∙ rw (out_of_range (leb (decimal_at n s 0) 4294967295) refl z)
-        (first-false (not (eqb (get_or s 0 0) 48)) (stands_at s n (32 ∷ []) && (ltb 0 (word_number methods (drop (n + 1) s)) && true))))
+  pub no_number : None ≡ cond (among 1 4294967295 (decimal_at n s 0)) (Some (decimal_at n s 0)) None → None ≡ sequence_of s
+  no_number e = broken (rule-is ∙ rw (counts (among 1 4294967295 (decimal_at n s 0)) refl e)
+      (first-false (not (eqb (get_or s 0 0) 48)) (stands_at s n (32 ∷ []) && (ltb 0 (word_number methods (drop (n + 1) s)) && true))))
 
-    number_is : (t : Bool) → leb (decimal_at n s 0) 4294967295 ≡ t → (v ≡ 0 → ⊥) → (v ≡ decimal_at n s 0) × (decimal_at n s 0 ≤ 4294967295)
-    number_is true e z = (rw e at w, leb-true (decimal_at n s 0) 4294967295 e)
-    number_is false e z = absurd (z (rw e at w))
+  module _ (v : ℕ) (w : Some v ≡ cond (among 1 4294967295 (decimal_at n s 0)) (Some (decimal_at n s 0)) None) where
+    counted : (t : Bool) → among 1 4294967295 (decimal_at n s 0) ≡ t → Some v ≡ cond t (Some (decimal_at n s 0)) None
+        → (among 1 4294967295 (decimal_at n s 0) ≡ true) × (v ≡ decimal_at n s 0)
+    counted true h e = (h, cc)
+    counted false h e = absurd (let z : ◌≡◌ {A = ℕ} 0 1 = cc in omega arith)
 
-    pub number_in : (v ≡ 0 → ⊥) → (v ≡ decimal_at n s 0) × (decimal_at n s 0 ≤ 4294967295)
-    number_in z = number_is (leb (decimal_at n s 0) 4294967295) refl z
+    number : (among 1 4294967295 (decimal_at n s 0) ≡ true) × (v ≡ decimal_at n s 0)
+    number = counted (among 1 4294967295 (decimal_at n s 0)) refl w
+
+    pub number_in : (1 ≤ v) × (v ≤ 4294967295)
+    number_in = let p = among_in 1 4294967295 (decimal_at n s 0) number.0 in rw number.1 p
 
     module _ (m : ℕ) (p : m ≡ word_number methods (take (length s - (n + 1)) (drop (n + 1) s))) where
       method-is : m ≡ word_number methods (drop (n + 1) s)
       method-is = p ∙ ap (word_number methods) (rest-is s (n + 1))
 
-      pub no-method : m ≡ 0 → Broken ≡ sequence_of s
+      pub no-method : m ≡ 0 → None ≡ sequence_of s
       no-method e = broken (rule-is ∙ rw (sym method-is ∙ e) (tail-false (not (eqb (get_or s 0 0) 48) && among 1 4294967295 (decimal_at n s 0)) (stands_at s n (32 ∷ []))))
 
-      pub good-sequence : stands_at s n (32 ∷ []) ≡ true → (get_or s 0 0 ≡ 48 → ⊥) → (v ≡ 0 → ⊥) → (m ≡ 0 → ⊥) → Of v m ≡ sequence_of s
+      pub good-sequence : stands_at s n (32 ∷ []) ≡ true → (get_or s 0 0 ≡ 48 → ⊥) → (m ≡ 0 → ⊥) → Some (record { number = v; method = m }) ≡ sequence_of s
       unfolding sequence_of cseq_number cseq_method number_end piece_end
-      good-sequence e f z g =
-          let a = number_in z in
-          let u : v ≡ decimal_at n s 0 = a.0 in
+      good-sequence e f g =
+          let u = number.1 in
           let o = method-is in
           let r : sequence_rule s ≡ true = rule-is
           ∙ rw (
             ne_eqb (get_or s 0 0) 48 f,
-            in_among 1 4294967295 (decimal_at n s 0) (omega (arith, z)) a.1,
+            number.0,
             e,
             lt-ltb 0 (word_number methods (drop (n + 1) s)) (omega (arith, o, g)),
           ) in
@@ -109,13 +113,11 @@ in_ranges s h =
     let q = ltb-true 0 (word_number methods (drop (n + 1) s)) (and_parts f true (and_parts d (f && true) p.1).1).0 in
     record { positive = g.0; small = g.1; coded = q; known = place-below methods (drop (n + 1) s) }
 
-as_sequence : (s : List ℕ) (t : Bool) (n m : ℕ) → sequence_rule s ≡ t → cond t (Of (cseq_number s) (cseq_method s)) Broken ≡ Of n m → Ranges n m
-as_sequence s true n m h e =
-    let p : cseq_number s ≡ n = cc in
-    let q : cseq_method s ≡ m = cc in
-    rw (← p, ← q) (in_ranges s h)
-as_sequence s false n m h e = absurd (let z : ◌≡◌ {A = ℕ} 0 1 = cc in omega arith)
+as_sequence : (s : List ℕ) (t : Bool) (q : Sequence) → sequence_rule s ≡ t → cond t (Some (record { number = cseq_number s; method = cseq_method s })) None ≡ Some q
+    → Ranges q.number q.method
+as_sequence s true q h e = subst (λ (r : Sequence). Ranges r.number r.method) (cc) (in_ranges s h)
+as_sequence s false q h e = absurd (let z : ◌≡◌ {A = ℕ} 0 1 = cc in omega arith)
 
-pub sequence_ranges : (s : List ℕ) (n m : ℕ) → sequence_of s ≡ Of n m → Ranges n m
+pub sequence_ranges : (s : List ℕ) (q : Sequence) → sequence_of s ≡ Some q → Ranges q.number q.method
 unfolding sequence_of
-sequence_ranges s n m e = as_sequence s (sequence_rule s) n m refl e
+sequence_ranges s q e = as_sequence s (sequence_rule s) q refl e

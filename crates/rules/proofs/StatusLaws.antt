@@ -17,7 +17,7 @@ use Rattle.octets.specs.Text.{stands_at}
 use Rattle.rules.proofs.Table.{and_left, and_right, at, equal, equal_is}
 use Rattle.rules.specs.Pieces.{piece_end, digits, fixed, free, has_piece, number, reads, decimal_at}
 use Rattle.rules.specs.Status.{codes, index_in, status_of, status_rule, status_text, texts}
-use Rattle.rules.specs.declared.statuses.Status.TheVariants.{Broken, Code}
+use Rattle.std.specs.Prelude.{None, Some}
 
 module _ (l : List ℕ) (x i : ℕ) (h : i < length l) where
   pub hit : get_or l i 0 ≡ x → index_in (drop i l) x ≡ 0
@@ -90,23 +90,20 @@ module _ (k code : ℕ) (e : k ≡ index_in codes code) where
 
 -- what a Status says, by its two tests
 module _ (s : List ℕ) where
-  pub bad-code : has_piece (number 3 100 699) s 0 ≡ false → Broken ≡ status_of s
-  unfolding status_of status_rule reads
-  bad-code e = rw e
-
-  pub no_space : has_piece (number 3 100 699) s 0 ≡ true → stands_at s 3 (32 ∷ []) ≡ false → Broken ≡ status_of s
+  pub status-is : status_of s ≡ cond (has_piece (number 3 100 699) s 0 && stands_at s 3 (32 ∷ [])) (Some (decimal_at 3 s 0)) None
   unfolding status_of status_rule reads has_piece piece_end
-  no_space e f = rw (e, f)
-
-  pub good-status : has_piece (number 3 100 699) s 0 ≡ true → stands_at s 3 (32 ∷ []) ≡ true → Code (decimal_at 3 s 0) ≡ status_of s
-  unfolding status_of status_rule reads has_piece piece_end
-  good-status e f = rw (e, f, eq-eqb (length s) (length s) refl)
+  status-is = rw (eq-eqb (length s) (length s) refl) (by (stands_at s 3 (32 ∷ [])))
+    where
+      by : (b : Bool) → cond ((digits 3 s 0 && among 100 699 (decimal_at 3 s 0)) && (b && true)) (Some (decimal_at 3 s 0)) None
+          ≡ cond ((digits 3 s 0 && among 100 699 (decimal_at 3 s 0)) && b) (Some (decimal_at 3 s 0)) None
+      by true = refl
+      by false = refl
 
   pub code_fits : has_piece (number 3 100 699) s 0 ≡ true → (100 ≤ decimal_at 3 s 0) × (decimal_at 3 s 0 ≤ 699)
   unfolding has_piece
   code_fits e = among_in 100 699 (decimal_at 3 s 0) (and_parts (digits 3 s 0) (among 100 699 (decimal_at 3 s 0)) e).1
 
-  as_status : (t : Bool) (n : ℕ) → status_rule s ≡ t → cond t (Code (decimal_at 3 s 0)) Broken ≡ Code n → (100 ≤ n) × (n ≤ 699)
+  as_status : (t : Bool) (n : ℕ) → status_rule s ≡ t → cond t (Some (decimal_at 3 s 0)) None ≡ Some n → (100 ≤ n) × (n ≤ 699)
   unfolding status_rule reads
   as_status true n h e =
       let p : decimal_at 3 s 0 ≡ n = cc in
@@ -114,6 +111,6 @@ module _ (s : List ℕ) where
   as_status false n h e = absurd (let z : ◌≡◌ {A = ℕ} 0 1 = cc in omega arith)
 
   -- the code of a Status that keeps its rule is in its range
-  pub status-range : (n : ℕ) → status_of s ≡ Code n → (100 ≤ n) × (n ≤ 699)
+  pub status-range : (n : ℕ) → status_of s ≡ Some n → (100 ≤ n) × (n ≤ 699)
   unfolding status_of
   status-range n e = as_status (status_rule s) n refl e

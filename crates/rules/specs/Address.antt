@@ -1,10 +1,10 @@
 -- To and From (01 Reading, 'Rules'): what the contracts of `src/addresses.rt` cite. Assumes nothing.
-use Rattle.std.specs.Prelude.{◌+◌, ℕ, Bool, ◌||◌, cond, List, ◌∷◌, []}
+use Rattle.std.specs.Prelude.{◌+◌, ℕ, Bool, ◌||◌, cond, List, ◌∷◌, [], Option, Some, None}
 use Rattle.octets.specs.Ascii.{ascii}
 use Rattle.rules.specs.Pieces.{Piece, piece_end, fixed, reads}
 use Rattle.rules.specs.Texts.{fire_id, user_id}
 use Rattle.rules.specs.declared.addresses.Address.{Address}
-use Rattle.rules.specs.declared.addresses.Address.TheVariants.{Broken, Callee, Caller}
+use Rattle.rules.specs.declared.addresses.Address.TheVariants.{Callee, Caller}
 
 -- `net119:USER@FIRE.caller`
 abbrev pub caller : List Piece
@@ -36,7 +36,9 @@ caller_end s = piece_end fire_id s (user_end s + 1)
 unfoldable pub callee_end : List ℕ → ℕ
 callee_end s = piece_end fire_id s 12
 
--- the side of an address, and where the user and the Fire-ID end
-unfoldable pub address_of : List ℕ → Address
-address_of s =
-    cond (caller_rule s) (Caller (user_end s) (caller_end s)) (cond (callee_rule s) (Callee (callee_end s)) Broken)
+-- the side of an address that keeps its rule, and where the user and the Fire-ID end
+abbrev pub parts_of : List ℕ → Address
+parts_of s = cond (caller_rule s) (Caller (user_end s) (caller_end s)) (Callee (callee_end s))
+
+unfoldable pub address_of : List ℕ → Option Address
+address_of s = cond (address_rule s) (Some (parts_of s)) None

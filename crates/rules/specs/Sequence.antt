@@ -1,10 +1,9 @@
 -- CSeq (01 Reading, 'Rules'): what the contracts of `src/sequences.rt` cite. Assumes nothing.
-use Rattle.std.specs.Prelude.{◌+◌, ℕ, Bool, cond, List, ◌∷◌, [], drop}
+use Rattle.std.specs.Prelude.{◌+◌, ℕ, Bool, cond, List, ◌∷◌, [], drop, Option, Some, None}
 use Rattle.octets.specs.Ascii.{ascii}
 use Rattle.rules.specs.Names.{methods}
 use Rattle.rules.specs.Pieces.{Piece, piece_end, count, fixed, word_number, reads, decimal_at, word}
 use Rattle.rules.specs.declared.sequences.Sequence.{Sequence}
-use Rattle.rules.specs.declared.sequences.Sequence.TheVariants.{Broken, Of}
 
 -- decimal 1 to 4294967295, no leading zero
 abbrev pub sequence_number : Piece
@@ -30,5 +29,5 @@ unfoldable pub cseq_method : List ℕ → ℕ
 cseq_method s = word_number methods (drop (number_end s + 1) s)
 
 -- number and method of a CSeq that keeps its rule
-unfoldable pub sequence_of : List ℕ → Sequence
-sequence_of s = cond (sequence_rule s) (Of (cseq_number s) (cseq_method s)) Broken
+unfoldable pub sequence_of : List ℕ → Option Sequence
+sequence_of s = cond (sequence_rule s) (Some (record { number = cseq_number s; method = cseq_method s })) None

@@ -1,17 +1,15 @@
 -- Status (01 Reading, 'Rules') and the status texts (01 Writing): what the contracts of `src/statuses.rt` cite. Assumes nothing.
-use Rattle.std.specs.Prelude.{suc, zero, ℕ, Bool, cond, List, ◌∷◌, [], eqb, ltb, get_or}
+use Rattle.std.specs.Prelude.{suc, zero, ℕ, Bool, cond, List, ◌∷◌, [], eqb, ltb, get_or, Option, Some, None}
 use Rattle.octets.specs.Ascii.{ascii}
 use Rattle.rules.specs.Pieces.{fixed, free, number, reads, decimal_at}
-use Rattle.rules.specs.declared.statuses.Status.{Status}
-use Rattle.rules.specs.declared.statuses.Status.TheVariants.{Broken, Code}
 
 -- three digits 100 to 699, a space, any text
 unfoldable pub status_rule : List ℕ → Bool
 status_rule s = reads (number 3 100 699 ∷ fixed (ascii " ") ∷ free ∷ []) s 0
 
 -- the code of a Status that keeps its rule
-unfoldable pub status_of : List ℕ → Status
-status_of s = cond (status_rule s) (Code (decimal_at 3 s 0)) Broken
+unfoldable pub status_of : List ℕ → Option ℕ
+status_of s = cond (status_rule s) (Some (decimal_at 3 s 0)) None
 
 -- the listed codes
 abbrev pub codes : List ℕ

@@ -2,7 +2,7 @@
 ghost use Rattle.std.specs.Prelude.{◌≡◌};
 ghost use Rattle.rules.specs.Classes.{holds};
 
-use octets::{among, and, is_alnum, is_digit, is_lower, or};
+use octets::{among, is_alnum, is_digit, is_lower};
 
 #[derive(Clone, Copy)]
 pub enum Class {
@@ -23,11 +23,11 @@ pub fn holds(class: Class, b: u8) -> bool
     match class {
         Class::Digit => is_digit(b),
         Class::Lower => is_lower(b),
-        Class::Small => or(is_lower(b), is_digit(b)),
+        Class::Small => is_lower(b) || is_digit(b),
         Class::Alnum => is_alnum(b),
-        Class::Fire => or(is_lower(b), or(is_digit(b), b == b'_')),
-        Class::Name => or(is_alnum(b), or(b == b'-', b == b'.')),
-        Class::Label => or(is_alnum(b), b == b'-'),
-        Class::Graphic => and(among(33, 126, b), and(b != b'"', b != b'\\')),
+        Class::Fire => is_lower(b) || is_digit(b) || b == b'_',
+        Class::Name => is_alnum(b) || b == b'-' || b == b'.',
+        Class::Label => is_alnum(b) || b == b'-',
+        Class::Graphic => among(33, 126, b) && b != b'"' && b != b'\\',
     }
 }

@@ -4,14 +4,13 @@ ghost use Rattle.rules.specs.Date.{date_rule, days_in, leap, time, zone};
 ghost use Rattle.rules.specs.Pieces.{reads};
 
 use crate::pieces::{is_number, mark, number_at};
-use octets::{and, or};
 
 const DAYS: [u8; 13] = [0, 31, 28, 31, 30, 31, 30, 31, 31, 30, 31, 30, 31];
 
 fn is_leap(y: u64) -> bool
     ensures { result ≡ leap y }
 {
-    and(y % 4 == 0, or(y % 100 != 0, y % 400 == 0))
+    y % 4 == 0 && (y % 100 != 0 || y % 400 == 0)
 }
 
 // The days of month m of year y, and 0 where there is no such month.
@@ -29,21 +28,20 @@ pub fn days_in(y: u64, m: u64) -> u64
 fn is_zone(s: &[u8]) -> bool
     ensures { result ≡ reads zone s.now 19 }
 {
-    let n = s.len();
-    let minute = and(is_number(s, 22, 2, 0, 59), 24 == n);
-    and(mark(s, 19, b'+'), and(is_number(s, 20, 2, 0, 14), minute))
+    mark(s, 19, b'+') && is_number(s, 20, 2, 0, 14) && is_number(s, 22, 2, 0, 59) && s.len() == 24
 }
 
 // The time and the zone from byte 10 to the end.
 fn is_time(s: &[u8]) -> bool
     ensures { result ≡ reads time s.now 10 }
 {
-    let second = and(
-        mark(s, 16, b':'),
-        and(is_number(s, 17, 2, 0, 59), is_zone(s)),
-    );
-    let minute = and(mark(s, 13, b':'), and(is_number(s, 14, 2, 0, 59), second));
-    and(mark(s, 10, b'T'), and(is_number(s, 11, 2, 0, 23), minute))
+    mark(s, 10, b'T')
+        && is_number(s, 11, 2, 0, 23)
+        && mark(s, 13, b':')
+        && is_number(s, 14, 2, 0, 59)
+        && mark(s, 16, b':')
+        && is_number(s, 17, 2, 0, 59)
+        && is_zone(s)
 }
 
 // Whether a text keeps the rule of Date.
@@ -51,7 +49,10 @@ pub fn is_date(s: &[u8]) -> bool
     ensures { result ≡ date_rule s.now }
 {
     let last = days_in(number_at(s, 0, 4), number_at(s, 5, 2));
-    let day = and(is_number(s, 8, 2, 1, last), is_time(s));
-    let month = and(is_number(s, 5, 2, 1, 12), and(mark(s, 7, b'-'), day));
-    and(is_number(s, 0, 4, 1, 9999), and(mark(s, 4, b'-'), month))
+    is_number(s, 0, 4, 1, 9999)
+        && mark(s, 4, b'-')
+        && is_number(s, 5, 2, 1, 12)
+        && mark(s, 7, b'-')
+        && is_number(s, 8, 2, 1, last)
+        && is_time(s)
 }

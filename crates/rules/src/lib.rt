@@ -29,7 +29,7 @@ pub use numbers::{
 };
 pub use pieces::{number_at, within, worth};
 pub use sequences::{Sequence, sequence_of};
-pub use statuses::{Status, is_listed, put_status, status_length, status_of};
+pub use statuses::{is_listed, put_status, status_length, status_of};
 pub use texts::{
     is_call_id, is_desk, is_destination, is_fire_id, is_host, is_image, is_language, is_memo,
     is_message_id, is_organization, is_user_id,

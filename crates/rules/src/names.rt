@@ -7,7 +7,7 @@ ghost use Rattle.rules.specs.Pieces.{word_number_from, word_number};
 use crate::numbers::{
     ACK, BYE, CALLBACK, CANCEL, INVITE, MESSAGE, NOTIFY, PING, PONG, REFER, REQUEST, RESPONSE,
 };
-use crate::pieces::{less, word_or};
+use crate::pieces::word_or;
 use octets::{byte, same};
 
 // By a number made of a name's length and its first and last byte, the one known field it can be.
@@ -17,10 +17,35 @@ const GUESSES: [u8; 64] = [
     9, 2, 12, 0, 5, 8,
 ];
 
-// Where the name of each field begins in the names one after the other; field 0 has none.
-const STARTS: [u8; 28] = [
-    0, 0, 4, 6, 10, 14, 21, 24, 30, 40, 52, 56, 64, 75, 85, 95, 104, 113, 124, 131, 146, 154, 163,
-    173, 179, 186, 197, 209,
+// The name of each field; field 0 has none.
+const NAMES: [&[u8]; 27] = [
+    b"",
+    b"CSeq",
+    b"To",
+    b"From",
+    b"Date",
+    b"Call-ID",
+    b"Via",
+    b"Status",
+    b"Message-ID",
+    b"Content-Type",
+    b"Body",
+    b"Refer-To",
+    b"Referred-By",
+    b"Refer-Memo",
+    b"Session-ID",
+    b"Call-Mode",
+    b"Call-Test",
+    b"Secure-Call",
+    b"Rescuee",
+    b"Request-Service",
+    b"Language",
+    b"Locations",
+    b"User-Agent",
+    b"Caller",
+    b"Options",
+    b"Destination",
+    b"Responded-By",
 ];
 
 // The number of a tag.
@@ -96,11 +121,7 @@ pub fn is_field(k: usize, s: &[u8]) -> bool
     requires { k < 27 }
     ensures { result ≡ same s.now (field_name k) }
 {
-    let names: &[u8] =
-        b"CSeqToFromDateCall-IDViaStatusMessage-IDContent-TypeBodyRefer-ToReferred-ByRefer-MemoSession-IDCall-ModeCall-TestSecure-CallRescueeRequest-ServiceLanguageLocationsUser-AgentCallerOptionsDestinationResponded-By";
-    let a = STARTS[k] as usize;
-    let e = STARTS[k + 1] as usize;
-    same(s, &names[a..e])
+    same(s, NAMES[k])
 }
 
 // The number of a known field, and 0 for any other name. One name at most is compared.
@@ -109,7 +130,7 @@ pub fn field(s: &[u8]) -> usize
 {
     let n = s.len();
     let first = byte(s, 0) as usize;
-    let last = byte(s, less(n)) as usize;
+    let last = byte(s, n.saturating_sub(1)) as usize;
     let k = GUESSES[(n % 16 * 5 + first * 5 + last * 3) % 64] as usize;
     if is_field(k, s) { k } else { 0 }
 }

@@ -1,31 +1,21 @@
 // The pieces that the rules are made of, each read at a place of the text. Straight code over these
 // needs no test of the text's length: past the end stands no piece.
-ghost use Rattle.std.specs.Prelude.{cond, [], ◌∷◌, ◌≡◌, ◌+◌, ◌-◌, ◌≤◌, ◌<◌, leb, drop, length};
+ghost use Rattle.std.specs.Prelude.{cond, [], ◌∷◌, ◌≡◌, ◌+◌, ◌-◌, ◌≤◌, ◌<◌, drop, length};
+ghost use Rattle.octets.specs.Class.{among};
 ghost use Rattle.octets.specs.Text.{same, stands_at};
 ghost use Rattle.rules.specs.Pieces.{digits, has_piece, number, reads, run, run_length, decimal_at, within};
 
 use crate::classes::{Class, holds};
-use octets::{and, byte, is_digit, same};
+use octets::{byte, is_digit, past, same};
 
 // Where the bytes of a class that stand from `at` on end.
 pub fn run_end(s: &[u8], at: usize, class: Class) -> usize
     ensures { (result ≡ at + run_length class (drop at s.now)) × ((at ≤ result) × (result ≤ at + (length s.now - at))) }
 {
-    let mut i = at;
-    while i < s.len() {
-        if !holds(class, s[i]) {
-            return i;
-        }
-        i += 1;
+    if s.len() < at {
+        return at;
     }
-    i
-}
-
-// One less, and 0 for 0.
-pub fn less(n: usize) -> usize
-    ensures { result ≡ n - 1 }
-{
-    if n == 0 { 0 } else { n - 1 }
+    past(s, at, |b| holds(class, b))
 }
 
 // Whether lo to hi bytes stand from `at` to `end`, the first and the last of a class.
@@ -35,11 +25,8 @@ pub fn within(s: &[u8], at: usize, end: usize, lo: usize, hi: usize, edge: Class
 {
     let n = end - at;
     let first = byte(s, at);
-    let last = byte(s, less(end));
-    and(
-        and(lo <= n, n <= hi),
-        and(holds(edge, first), holds(edge, last)),
-    )
+    let last = byte(s, end.saturating_sub(1));
+    lo <= n && n <= hi && holds(edge, first) && holds(edge, last)
 }
 
 // Whether a whole text is one run: lo to hi bytes of a class, the first and the last of another.
@@ -47,8 +34,7 @@ pub fn is_run(s: &[u8], lo: usize, hi: usize, class: Class, edge: Class) -> bool
     ensures { result ≡ reads (run lo hi class edge ∷ []) s.now 0 }
 {
     let end = run_end(s, 0, class);
-    let n = s.len();
-    and(within(s, 0, end, lo, hi, edge), end == n)
+    within(s, 0, end, lo, hi, edge) && end == s.len()
 }
 
 // Whether the byte b stands at a place.
@@ -63,7 +49,7 @@ pub fn mark(s: &[u8], at: usize, b: u8) -> bool
 pub fn worth(b: u8) -> u64
     ensures { (result ≡ b - 48) × (result ≤ 207) }
 {
-    if b < 48 { 0 } else { (b - 48) as u64 }
+    u64::from(b.saturating_sub(b'0'))
 }
 
 // Whether n digits stand from `at` on.
@@ -71,14 +57,7 @@ fn has_digits(s: &[u8], at: usize, n: usize) -> bool
     requires { (at ≤ 64) × (n ≤ 4) }
     ensures { result ≡ digits n s.now at }
 {
-    let mut i: usize = 0;
-    while i < n {
-        if !is_digit(byte(s, at + i)) {
-            return false;
-        }
-        i += 1;
-    }
-    true
+    (0..n).all(|i| is_digit(byte(s, at + i)))
 }
 
 // The number that n digits from `at` on are.
@@ -87,10 +66,8 @@ pub fn number_at(s: &[u8], at: usize, n: usize) -> u64
     ensures { result ≡ decimal_at n s.now at }
 {
     let mut v: u64 = 0;
-    let mut i: usize = 0;
-    while i < n {
+    for i in 0..n {
         v = v * 10 + worth(byte(s, at + i));
-        i += 1;
     }
     v
 }
@@ -101,27 +78,26 @@ pub fn is_number(s: &[u8], at: usize, n: usize, lo: u64, hi: u64) -> bool
     ensures { result ≡ has_piece (number n lo hi) s.now at }
 {
     let v = number_at(s, at, n);
-    and(has_digits(s, at, n), and(lo <= v, v <= hi))
+    has_digits(s, at, n) && lo <= v && v <= hi
 }
 
-// The number that the n bytes at the start are as digits, or 0 where it is over hi.
-pub fn count(s: &[u8], n: usize, hi: u64) -> u64
+// The number that the n bytes at the start are as digits; None where it is not from 1 to hi.
+pub fn count(s: &[u8], n: usize, hi: u64) -> Option<u64>
     requires { (n ≤ length s.now) × (hi < 18446744073709551) }
-    ensures { result ≡ cond (leb (decimal_at n s.now 0) hi) (decimal_at n s.now 0) 0 }
+    ensures { result ≡ cond (among 1 hi (decimal_at n s.now 0)) (Some (decimal_at n s.now 0)) None }
 {
     let mut v: u64 = 0;
-    let mut i: usize = 0;
-    while i < n {
-        v = v * 10 + worth(s[i]);
+    for b in &s[..n] {
+        v = v * 10 + worth(*b);
         if hi < v {
-            return 0;
+            return None;
         }
-        i += 1;
     }
-    v
+    (0 < v).then_some(v)
 }
 
 // The number k where a text is the word w, else the number it has among other words: straight code over a list of words.
+// A `match` on byte strings was tried in its place: each word's arm asks what each byte that can differ tells, and the check took nine minutes.
 pub fn word_or(s: &[u8], w: &[u8], k: u8, others: u8) -> u8
     ensures { result ≡ cond (same s.now w.now) k others }
 {

@@ -7,31 +7,28 @@ use crate::names::method;
 use crate::pieces::{count, mark, run_end};
 use octets::byte;
 
-// The number and the method's code, or that the text breaks the rule.
-#[derive(Drop)]
-pub enum Sequence {
-    Of(u32, u8),
-    Broken,
+// The number and the method's code.
+#[derive(Clone, Copy)]
+pub struct Sequence {
+    pub number: u32,
+    pub method: u8,
 }
 
-// What a CSeq says.
-pub fn sequence_of(s: &[u8]) -> Sequence
+// What a CSeq says; None where the text breaks the rule.
+pub fn sequence_of(s: &[u8]) -> Option<Sequence>
     ensures { result ≡ sequence_of s.now }
 {
     let end = run_end(s, 0, Class::Digit);
-    if !mark(s, end, b' ') {
-        return Sequence::Broken;
+    if !mark(s, end, b' ') || byte(s, 0) == b'0' {
+        return None;
     }
-    if byte(s, 0) == b'0' {
-        return Sequence::Broken;
+    let number = count(s, end, 4294967295)?;
+    let method = method(&s[end + 1..]);
+    if method == 0 {
+        return None;
     }
-    let v = count(s, end, 4294967295);
-    if v == 0 {
-        return Sequence::Broken;
-    }
-    let m = method(&s[end + 1..]);
-    if m == 0 {
-        return Sequence::Broken;
-    }
-    Sequence::Of(v as u32, m)
+    Some(Sequence {
+        number: number as u32,
+        method,
+    })
 }

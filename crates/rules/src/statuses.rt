@@ -6,6 +6,7 @@ ghost use Rattle.rules.specs.Status.{codes, index_in, listed, status_of, status_
 use crate::pieces::{is_number, mark, number_at};
 use octets::put;
 
+// Document 01 asks for constant tables: of the codes with the offsets of their phrases here, of the days of months in dates.rt.
 const CODES: [u16; 14] = [
     100, 180, 200, 202, 400, 404, 405, 481, 486, 487, 488, 500, 501, 503,
 ];
@@ -15,24 +16,15 @@ const STARTS: [u8; 15] = [
     0, 10, 21, 27, 39, 54, 67, 89, 124, 137, 159, 182, 207, 226, 249,
 ];
 
-// The code, or that the text breaks the rule.
-#[derive(Drop)]
-pub enum Status {
-    Code(u16),
-    Broken,
-}
-
-// What a Status says; the text behind the space is free.
-pub fn status_of(s: &[u8]) -> Status
+// The code that a Status says; None where the text breaks the rule. What stands behind the space is free.
+pub fn status_of(s: &[u8]) -> Option<u16>
     ensures { result ≡ status_of s.now }
 {
-    if !is_number(s, 0, 3, 100, 699) {
-        return Status::Broken;
+    if is_number(s, 0, 3, 100, 699) && mark(s, 3, b' ') {
+        Some(number_at(s, 0, 3) as u16)
+    } else {
+        None
     }
-    if !mark(s, 3, b' ') {
-        return Status::Broken;
-    }
-    Status::Code(number_at(s, 0, 3) as u16)
 }
 
 // The place of a code among the listed ones, and 14 where it is not there.

@@ -5,7 +5,7 @@ ghost use Rattle.rules.specs.Texts.{call_id_rule, desk_rule, destination_rule, f
 
 use crate::classes::Class;
 use crate::pieces::{is_run, mark, run_end, within};
-use octets::{among, and, or, stands_at};
+use octets::{among, stands_at};
 
 // Fire-ID; also Refer-To and Referred-By.
 pub fn is_fire_id(s: &[u8]) -> bool
@@ -61,9 +61,7 @@ pub fn is_desk(s: &[u8]) -> bool
     ensures { result ≡ desk_rule s.now }
 {
     let end = run_end(s, 0, Class::Fire);
-    let n = s.len();
-    let side = and(stands_at(s, end, b".callee"), end + 7 == n);
-    and(within(s, 0, end, 2, 15, Class::Small), side)
+    within(s, 0, end, 2, 15, Class::Small) && stands_at(s, end, b".callee") && end + 7 == s.len()
 }
 
 // A Message-ID from byte 7 on, behind its side.
@@ -72,23 +70,17 @@ fn message_tail(s: &[u8]) -> bool
 {
     let fire = run_end(s, 7, Class::Fire);
     let end = run_end(s, fire + 1, Class::Alnum);
-    let n = s.len();
-    let own = and(
-        mark(s, fire, b'-'),
-        and(within(s, fire + 1, end, 1, 64, Class::Alnum), end == n),
-    );
-    and(within(s, 7, fire, 2, 15, Class::Small), own)
+    within(s, 7, fire, 2, 15, Class::Small)
+        && mark(s, fire, b'-')
+        && within(s, fire + 1, end, 1, 64, Class::Alnum)
+        && end == s.len()
 }
 
 // Message-ID.
 pub fn is_message_id(s: &[u8]) -> bool
     ensures { result ≡ message_id_rule s.now }
 {
-    let n = s.len();
-    let tail = message_tail(s);
-    let caller = and(stands_at(s, 0, b"caller-"), tail);
-    let callee = and(stands_at(s, 0, b"callee-"), tail);
-    and(n <= 64, or(caller, callee))
+    s.len() <= 64 && (stands_at(s, 0, b"caller-") || stands_at(s, 0, b"callee-")) && message_tail(s)
 }
 
 // The Body of an image.
@@ -102,18 +94,6 @@ pub fn is_image(s: &[u8]) -> bool
 pub fn is_memo(s: &[u8]) -> bool
     ensures { result ≡ memo_rule s.now }
 {
-    let mut n: usize = 0;
-    let mut i: usize = 0;
-    while i < s.len() {
-        if or(s[i] == b'\n', s[i] == b'\r') {
-            return false;
-        }
-        if among(128, 191, s[i]) {
-            i += 1;
-        } else {
-            n += 1;
-            i += 1;
-        }
-    }
-    n <= 128
+    s.iter().all(|b| !matches!(*b, b'\n' | b'\r'))
+        && s.iter().filter(|b| !among(128, 191, **b)).count() <= 128
 }

@@ -2,46 +2,39 @@
 // the parts that the value has. A line that is none of these is answered `?`.
 #![tactic(auto)]
 
-ghost use Rattle.std.specs.Prelude.{◌≤◌};
-
-use octets::{find, same};
 use std::io;
 
 fn write(rt: &impl Print, text: &[u8]) -> io::Result<()> {
     rt.write_all(text)
 }
 
-fn number(rt: &impl Print, n: u64) -> io::Result<()> {
-    print!(rt; "{n}")
+fn verdict(rt: &impl Print, kept: bool) -> io::Result<()> {
+    write(rt, if kept { b"yes" } else { b"no" })
 }
 
-fn verdict(rt: &impl Print, kept: bool) -> io::Result<()> {
-    if kept {
-        write(rt, b"yes")
-    } else {
-        write(rt, b"no")
-    }
+fn number(rt: &impl Print, n: u8) -> io::Result<()> {
+    print!(rt; "{n}")
 }
 
 fn show_sequence(rt: &impl Print, v: &[u8]) -> io::Result<()> {
     match rules::sequence_of(v) {
-        rules::Sequence::Of(n, m) => print!(rt; "{n} {m}"),
-        rules::Sequence::Broken => write(rt, b"no"),
+        Some(cseq) => print!(rt; "{} {}", cseq.number, cseq.method),
+        None => write(rt, b"no"),
     }
 }
 
 fn show_address(rt: &impl Print, v: &[u8]) -> io::Result<()> {
     match rules::address_of(v) {
-        rules::Address::Caller(user, fire) => print!(rt; "caller {user} {fire}"),
-        rules::Address::Callee(fire) => print!(rt; "callee {fire}"),
-        rules::Address::Broken => write(rt, b"no"),
+        Some(rules::Address::Caller { user, fire }) => print!(rt; "caller {user} {fire}"),
+        Some(rules::Address::Callee { fire }) => print!(rt; "callee {fire}"),
+        None => write(rt, b"no"),
     }
 }
 
 fn show_status(rt: &impl Print, v: &[u8]) -> io::Result<()> {
     match rules::status_of(v) {
-        rules::Status::Code(n) => number(rt, n as u64),
-        rules::Status::Broken => write(rt, b"no"),
+        Some(code) => print!(rt; "{code}"),
+        None => write(rt, b"no"),
     }
 }
 
@@ -65,230 +58,86 @@ fn show_phrase(rt: &impl Print, v: &[u8]) -> io::Result<()> {
     Ok(())
 }
 
-// What a tag and a method ask of field n: two bytes, the tag or method and the field.
-fn show_asks(rt: &impl Print, v: &[u8], by_tag: bool) -> io::Result<()> {
-    let r = octets::byte(v, 0) as usize;
+// What a tag asks of field n: two bytes, the tag and the field.
+fn show_tag_asks(rt: &impl Print, v: &[u8]) -> io::Result<()> {
+    let tag = octets::byte(v, 0) as usize;
     let n = octets::byte(v, 1) as usize;
-    if 26 < n {
+    if 4 < tag || 26 < n {
         return write(rt, b"?");
     }
-    if by_tag {
-        if r < 5 {
-            return number(rt, rules::tag_asks(r, n) as u64);
-        }
-    } else {
-        if r < 9 {
-            return number(rt, rules::method_asks(r, n) as u64);
-        }
-    }
-    write(rt, b"?")
+    number(rt, rules::tag_asks(tag, n))
 }
 
-// The names of the rules that say yes or no: whether the name was one of them.
-fn answer_text(rt: &impl Print, name: &[u8], v: &[u8]) -> io::Result<bool> {
-    if same(name, b"fire-id") {
-        verdict(rt, rules::is_fire_id(v))?;
-        return Ok(true);
+// The same of a method.
+fn show_method_asks(rt: &impl Print, v: &[u8]) -> io::Result<()> {
+    let method = octets::byte(v, 0) as usize;
+    let n = octets::byte(v, 1) as usize;
+    if 8 < method || 26 < n {
+        return write(rt, b"?");
     }
-    if same(name, b"user-id") {
-        verdict(rt, rules::is_user_id(v))?;
-        return Ok(true);
-    }
-    if same(name, b"call-id") {
-        verdict(rt, rules::is_call_id(v))?;
-        return Ok(true);
-    }
-    if same(name, b"date") {
-        verdict(rt, rules::is_date(v))?;
-        return Ok(true);
-    }
-    if same(name, b"host") {
-        verdict(rt, rules::is_host(v))?;
-        return Ok(true);
-    }
-    if same(name, b"destination") {
-        verdict(rt, rules::is_destination(v))?;
-        return Ok(true);
-    }
-    if same(name, b"organization") {
-        verdict(rt, rules::is_organization(v))?;
-        return Ok(true);
-    }
-    Ok(false)
-}
-
-fn answer_more(rt: &impl Print, name: &[u8], v: &[u8]) -> io::Result<bool> {
-    if same(name, b"desk") {
-        verdict(rt, rules::is_desk(v))?;
-        return Ok(true);
-    }
-    if same(name, b"message-id") {
-        verdict(rt, rules::is_message_id(v))?;
-        return Ok(true);
-    }
-    if same(name, b"message-type") {
-        verdict(rt, 0 < rules::message_type(v))?;
-        return Ok(true);
-    }
-    if same(name, b"notify-type") {
-        verdict(rt, 0 < rules::notify_type(v))?;
-        return Ok(true);
-    }
-    if same(name, b"image") {
-        verdict(rt, rules::is_image(v))?;
-        return Ok(true);
-    }
-    if same(name, b"memo") {
-        verdict(rt, rules::is_memo(v))?;
-        return Ok(true);
-    }
-    if same(name, b"language") {
-        verdict(rt, rules::is_language(v))?;
-        return Ok(true);
-    }
-    Ok(false)
-}
-
-// The fields whose text is one of a few words.
-fn answer_word(rt: &impl Print, name: &[u8], v: &[u8]) -> io::Result<bool> {
-    if same(name, b"availability") {
-        number(rt, rules::availability(v) as u64)?;
-        return Ok(true);
-    }
-    if same(name, b"content-type") {
-        number(rt, rules::content_type(v) as u64)?;
-        return Ok(true);
-    }
-    if same(name, b"presence") {
-        number(rt, rules::presence(v) as u64)?;
-        return Ok(true);
-    }
-    if same(name, b"call-mode") {
-        number(rt, rules::call_mode(v) as u64)?;
-        return Ok(true);
-    }
-    if same(name, b"call-test") {
-        number(rt, rules::call_test(v) as u64)?;
-        return Ok(true);
-    }
-    if same(name, b"secure-call") {
-        number(rt, rules::secure_call(v) as u64)?;
-        return Ok(true);
-    }
-    if same(name, b"rescuee") {
-        number(rt, rules::rescuee(v) as u64)?;
-        return Ok(true);
-    }
-    Ok(false)
-}
-
-// The fixed byte strings.
-fn answer_name(rt: &impl Print, name: &[u8], v: &[u8]) -> io::Result<bool> {
-    if same(name, b"service") {
-        number(rt, rules::service(v) as u64)?;
-        return Ok(true);
-    }
-    if same(name, b"tag") {
-        number(rt, rules::tag(v) as u64)?;
-        return Ok(true);
-    }
-    if same(name, b"method") {
-        number(rt, rules::method(v) as u64)?;
-        return Ok(true);
-    }
-    if same(name, b"field") {
-        number(rt, rules::field(v) as u64)?;
-        return Ok(true);
-    }
-    if same(name, b"hop-member") {
-        number(rt, rules::hop_member(v) as u64)?;
-        return Ok(true);
-    }
-    Ok(false)
-}
-
-// What is taken apart or looked up.
-fn answer_part(rt: &impl Print, name: &[u8], v: &[u8]) -> io::Result<bool> {
-    if same(name, b"cseq") {
-        show_sequence(rt, v)?;
-        return Ok(true);
-    }
-    if same(name, b"address") {
-        show_address(rt, v)?;
-        return Ok(true);
-    }
-    if same(name, b"status") {
-        show_status(rt, v)?;
-        return Ok(true);
-    }
-    if same(name, b"phrase") {
-        show_phrase(rt, v)?;
-        return Ok(true);
-    }
-    if same(name, b"tag-asks") {
-        show_asks(rt, v, true)?;
-        return Ok(true);
-    }
-    if same(name, b"method-asks") {
-        show_asks(rt, v, false)?;
-        return Ok(true);
-    }
-    Ok(false)
+    number(rt, rules::method_asks(method, n))
 }
 
 fn answer(rt: &impl Print, name: &[u8], v: &[u8]) -> io::Result<()> {
-    if answer_text(rt, name, v)? {
-        return Ok(());
+    match name {
+        // The rules that say yes or no.
+        b"fire-id" => verdict(rt, rules::is_fire_id(v)),
+        b"user-id" => verdict(rt, rules::is_user_id(v)),
+        b"call-id" => verdict(rt, rules::is_call_id(v)),
+        b"date" => verdict(rt, rules::is_date(v)),
+        b"host" => verdict(rt, rules::is_host(v)),
+        b"destination" => verdict(rt, rules::is_destination(v)),
+        b"organization" => verdict(rt, rules::is_organization(v)),
+        b"desk" => verdict(rt, rules::is_desk(v)),
+        b"message-id" => verdict(rt, rules::is_message_id(v)),
+        b"message-type" => verdict(rt, 0 < rules::message_type(v)),
+        b"notify-type" => verdict(rt, 0 < rules::notify_type(v)),
+        b"image" => verdict(rt, rules::is_image(v)),
+        b"memo" => verdict(rt, rules::is_memo(v)),
+        b"language" => verdict(rt, rules::is_language(v)),
+        // One of a few words.
+        b"availability" => number(rt, rules::availability(v)),
+        b"content-type" => number(rt, rules::content_type(v)),
+        b"presence" => number(rt, rules::presence(v)),
+        b"call-mode" => number(rt, rules::call_mode(v)),
+        b"call-test" => number(rt, rules::call_test(v)),
+        b"secure-call" => number(rt, rules::secure_call(v)),
+        b"rescuee" => number(rt, rules::rescuee(v)),
+        b"service" => number(rt, rules::service(v)),
+        b"tag" => number(rt, rules::tag(v)),
+        b"method" => number(rt, rules::method(v)),
+        b"field" => print!(rt; "{}", rules::field(v)),
+        b"hop-member" => number(rt, rules::hop_member(v)),
+        // What is taken apart or looked up.
+        b"cseq" => show_sequence(rt, v),
+        b"address" => show_address(rt, v),
+        b"status" => show_status(rt, v),
+        b"phrase" => show_phrase(rt, v),
+        b"tag-asks" => show_tag_asks(rt, v),
+        b"method-asks" => show_method_asks(rt, v),
+        _ => write(rt, b"?"),
     }
-    if answer_more(rt, name, v)? {
-        return Ok(());
-    }
-    if answer_word(rt, name, v)? {
-        return Ok(());
-    }
-    if answer_name(rt, name, v)? {
-        return Ok(());
-    }
-    if answer_part(rt, name, v)? {
-        return Ok(());
-    }
-    write(rt, b"?")
 }
 
-// Puts the bytes that a word of hex stands for into the room, and answers how many; 1,025 where it stands for none, or for more.
-fn decode(word: &[u8], room: &mut [u8; 1024]) -> usize
-    ensures { result ≤ 1025 }
-{
-    if 2048 < word.len() {
-        return 1025;
+// The bytes that a word of hex stands for, put into `room`; None where it stands for none, or for more than there is room.
+fn decoded<'a>(word: &[u8], room: &'a mut [u8; 1024]) -> Option<&'a [u8]> {
+    if 2048 < word.len() || !hex_text::is_hex(word) {
+        return None;
     }
-    if !hex_text::is_hex(word) {
-        return 1025;
-    }
-    hex_text::decode(room, word)
+    let n = hex_text::decode(room, word);
+    Some(&room[..n])
 }
 
-// Answers for the first bytes of the room.
-fn answer_in(rt: &impl Print, name: &[u8], room: &[u8; 1024], end: usize) -> io::Result<()> {
-    if end <= 1024 {
-        let bytes: &[u8] = room;
-        answer(rt, name, &bytes[0..end])
-    } else {
-        write(rt, b"?")
-    }
-}
-
+// The answer to a line: its first word, and what stands behind the space.
 fn tell(rt: &impl Print, line: &[u8]) -> io::Result<()> {
-    let at = find(line, 0, 32);
     let mut room = [0u8; 1024];
-    let n = line.len();
-    if at < n {
-        let end = decode(&line[at + 1..], &mut room);
-        answer_in(rt, &line[0..at], &room, end)?;
-    } else {
-        write(rt, b"?")?;
+    match line.iter().position(|b| *b == b' ') {
+        None => write(rt, b"?"),
+        Some(gap) => match decoded(&line[gap + 1..], &mut room) {
+            None => write(rt, b"?"),
+            Some(bytes) => answer(rt, &line[..gap], bytes),
+        },
     }
-    write(rt, b"\n")
 }
 
 fn main(rt: HostRuntime) -> io::Result<()> {
@@ -299,15 +148,12 @@ fn main(rt: HostRuntime) -> io::Result<()> {
         &mut buffer,
         b"rules_vectors: standard input",
     );
-    let mut a: usize = 0;
-    let mut i: usize = 0;
-    while i < n {
-        if buffer[i] == b'\n' {
-            let t = &buffer[a..i];
-            tell(&rt, t)?;
-            a = i + 1;
+    // A last line without its line feed is not answered.
+    for line in buffer[..n].split_inclusive(|b| *b == b'\n') {
+        if let [text @ .., b'\n'] = line {
+            tell(&rt, text)?;
+            write(&rt, b"\n")?;
         }
-        i = i + 1;
     }
     Ok(())
 }

@@ -1,10 +1,10 @@
 -- Words and rooms as the probe shows them, computed by the definitions. Assumes nothing.
+use Rattle.std.proofs.Common.{None, Some}
 use Rattle.hex_text.specs.Digits.{digit_of, encoded}
 use Rattle.octets.specs.Ascii.{ascii}
 use Rattle.octets.specs.Class.{all, among, is_digit}
 use Rattle.octets.specs.Decimal.{shown, shown_in, tens}
 use Rattle.octets.specs.Splice.{written}
-use Rattle.octets.specs.declared.decimals.Spelt.TheVariants.{Other, Value}
 use Rattle.showing.specs.Shown.{hexed}
 use Rattle.showing.specs.Words.{numeral}
 use Rattle.showing.specs.Writers.{filled, head_of, wrote_line, wrote_text}
@@ -15,10 +15,10 @@ use mathlib.Core.Path.{◌≡◌, refl}
 
 -- a number has leading zeros as many as there are, and is below 2^64
 pub numbers :
-    (numeral (ascii "000000000000000000007") ≡ Value 7)
-    × (numeral (ascii "018446744073709551615") ≡ Value 18446744073709551615)
-    × (numeral (ascii "18446744073709551616") ≡ Other)
-    × (numeral [] ≡ Other)
+    (numeral (ascii "000000000000000000007") ≡ Some 7)
+    × (numeral (ascii "018446744073709551615") ≡ Some 18446744073709551615)
+    × (numeral (ascii "18446744073709551616") ≡ None)
+    × (numeral [] ≡ None)
 unfolding numeral all is_digit among tens
 numbers = (refl, refl, refl, refl)
 

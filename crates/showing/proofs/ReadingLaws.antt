@@ -1,8 +1,10 @@
 -- Each answer of `read`. Assumes nothing.
 use Prim.Native.Nat.{ℕ, ◌+◌}
 use Rattle.message.specs.Reading.{reporting}
-use Rattle.message.specs.declared.reading.Reading.TheVariants as readings
+use Rattle.std.specs.Prelude.{Err}
+use Rattle.message.specs.Refusal.{number, place}
 use Rattle.message.specs.declared.reading.Report.{Report}
+use Rattle.message.specs.declared.refusals.Refusal.{Refusal}
 use Rattle.octets.proofs.Chain.{more, start}
 use Rattle.octets.specs.Ascii.{ascii}
 use Rattle.octets.specs.Decimal.{shown}
@@ -16,14 +18,14 @@ use mathlib.Core.Bool.{true, false}
 use mathlib.Core.List.{List, [], ◌++◌, append_assoc}
 use mathlib.Core.Path.{◌≡◌}
 
-pub reading-refused : (o : List ℕ) (n p : ℕ) {m k r : ℕ} {a b o' : List ℕ} → (m ≡ 0 + 3) × (a ≡ splice o 0 (ascii "no "))
+pub reading-refused : (o : List ℕ) (e : Refusal) {n p m k r : ℕ} {a b o' : List ℕ} → n ≡ number e → p ≡ place e → (m ≡ 0 + 3) × (a ≡ splice o 0 (ascii "no "))
     → (k ≡ m + length (shown n ++ ascii " ")) × (b ≡ splice a m (shown n ++ ascii " ")) → (r ≡ k + length (shown p ++ ascii " ")) × (o' ≡ splice b k (shown p ++ ascii " "))
-    → (r ≡ length (reading_text (readings.Refused n p))) × (o' ≡ written o (reading_text (readings.Refused n p)))
+    → (r ≡ length (reading_text (Err e))) × (o' ≡ written o (reading_text (Err e)))
 unfolding reading_text
-reading-refused o n p x y z =
+reading-refused o r {n} {p} i j x y z =
     let w = more (shown p ++ ascii " ") (more (shown n ++ ascii " ") (more (ascii "no ") (start o) x) y) z in
     let e : (([] ++ ascii "no ") ++ (shown n ++ ascii " ")) ++ (shown p ++ ascii " ") ≡ ascii "no " ++ (shown n ++ (ascii " " ++ (shown p ++ ascii " "))) = simp append_assoc in
-    says o e (w.place, w.is)
+    rw (← i, ← j) (says o e (w.place, w.is))
 
 -- the count behind a reading
 pub report_shown : (o : List ℕ) (x : Report) {m r : ℕ} {a o' : List ℕ} → (m ≡ length (reading_text x.reading)) × (a ≡ written o (reading_text x.reading))

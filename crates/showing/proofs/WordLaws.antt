@@ -1,4 +1,6 @@
 -- Leading zeros change no number, what was taken of a word tells whether it stands for bytes, and where a word ends. Assumes nothing.
+use Rattle.std.proofs.Common.{None, Option, Some}
+use Rattle.std.proofs.lemmas.Option.{cond_some, none-some}
 use Prim.Native.Nat.{ℕ, zero, suc, ◌+◌, ◌-◌, ◌*◌, ◌/◌, ◌≤◌, ◌<◌}
 use Rattle.hex_text.proofs.HexLaws.{length-decoded}
 use Rattle.hex_text.specs.Digits.{decoded, is_hex}
@@ -9,11 +11,10 @@ use Rattle.octets.proofs.TestLaws.{and_parts, clash}
 use Rattle.octets.specs.Ascii.{ascii}
 use Rattle.octets.specs.Class.{all, among, is_digit}
 use Rattle.octets.specs.Decimal.{decimal_in, decimal_of, is_decimal, tens}
-use Rattle.octets.specs.declared.decimals.Spelt.TheVariants.{Other}
 use Rattle.octets.specs.Splice.{splice}
 use Rattle.octets.specs.Text.{before}
 use Rattle.octets.proofs.Chain.{take-splice}
-use Rattle.showing.specs.Words.{hex_bytes, first_word, has_space, is_hex_to, is_none, numeral, rest}
+use Rattle.showing.specs.Words.{hex_bytes, first_word, has_space, is_hex_to, is_none, numeral, rest, value_to}
 use Rattle.showing.specs.inner.Got.{Got}
 use borrow.Author.Tests.{le-leb, le-ltb, leb-true}
 use lib.Dec.{leb, ltb}
@@ -53,12 +54,12 @@ unfolding numeral all is_digit among tens
 skips s h = simp (le-leb 1 (length s) h, le-leb 1 (suc (length s)) (omega arith))
 
 -- what is refused for a byte that is no digit, or for its size
-refused : (w : List ℕ) (b : Bool) → 1 ≤ length w → all is_digit w ≡ b → ltb (decimal_of w) 18446744073709551616 ≡ false → Other ≡ numeral w
+refused : (w : List ℕ) (b : Bool) → 1 ≤ length w → all is_digit w ≡ b → ltb (decimal_of w) 18446744073709551616 ≡ false → None ≡ numeral w
 unfolding numeral
 refused w true h e g = simp (le-leb 1 (length w) h, e, g)
 refused w false h e g = simp (le-leb 1 (length w) h, e)
 
-no_digit : (x : ℕ) (s : List ℕ) → is_digit x ≡ false → Other ≡ numeral (x ∷ s)
+no_digit : (x : ℕ) (s : List ℕ) → is_digit x ≡ false → None ≡ numeral (x ∷ s)
 unfolding numeral all
 no_digit x s e = simp (e, le-leb 1 (suc (length s)) (omega arith))
 
@@ -74,7 +75,7 @@ digits-large x s e n h =
 large : (x : ℕ) (s : List ℕ) → (x ≡ 48 → ⊥) → 20 ≤ length s → decimal_in (x ∷ s) ≡ numeral (x ∷ s)
 large x s n h = sym (long (x ∷ s) (omega arith)) ∙ go (is_digit x) refl
   where
-    go : (b : Bool) → is_digit x ≡ b → Other ≡ numeral (x ∷ s)
+    go : (b : Bool) → is_digit x ≡ b → None ≡ numeral (x ∷ s)
     go true e = refused (x ∷ s) (all is_digit (x ∷ s)) (omega arith) refl (digits-large x s e n h)
     go false e = no_digit x s e
 
@@ -134,30 +135,43 @@ hex-short most w h e = go (is_none w) refl
 pub half : (w : List ℕ) → 2 * length (hex_bytes w) ≤ length w
 half w = omega (arith, stands-length w)
 
+-- A number up to a limit is no larger.
+pub to-small : (most : ℕ) (o : Option ℕ) {n : ℕ} → value_to most o ≡ Some n → n ≤ most
+to-small most (Some m) {n} e = let p = cond_some (leb m most) m n e in omega (arith, leb-true m most p.0, p.1)
+to-small most None {n} e = absurd (none-some n e)
+
 -- What `take_bytes` answers.
 
-pub got_none : {t : Bool} {b : List ℕ} {at : ℕ} {w : List ℕ} → t ≡ false → Got t b at w 85001 b
+some-is : {a b : ℕ} → Some a ≡ Some b → a ≡ b
+some-is e = cc
+
+pub got_none : {t : Bool} {b : List ℕ} {at : ℕ} {w : List ℕ} → t ≡ false → Got t b at w None b
 got_none {t} e = record { good = λ g. clash g e; bad = λ g. (refl, refl) }
 
-pub got_some : (b : List ℕ) (at : ℕ) (w : List ℕ) {t : Bool} {r : ℕ} {b' : List ℕ} → t ≡ true → (r ≡ at + length w) × (b' ≡ splice b at w) → Got t b at w r b'
-got_some b at w {t} g x = record { good = λ _. x; bad = λ f. clash g f }
+pub got_some : (b : List ℕ) (at : ℕ) (w : List ℕ) {t : Bool} {r : ℕ} {b' : List ℕ} → t ≡ true → (r ≡ at + length w) × (b' ≡ splice b at w) → Got t b at w (Some r) b'
+got_some b at w {t} g x = record { good = λ _. (ap Some x.0, x.1); bad = λ f. clash g f }
+
+-- whether the test was met is told by the answer
+pub got_true : (t : Bool) {b : List ℕ} {at : ℕ} {w : List ℕ} {o : Option ℕ} {r : ℕ} {b' : List ℕ} → Got t b at w o b' → o ≡ Some r → t ≡ true
+got_true true x e = refl
+got_true false {r = r} x e = absurd (none-some r (sym (x.bad refl).0 ∙ e))
+
+pub got_false : (t : Bool) {b : List ℕ} {at : ℕ} {w : List ℕ} {o : Option ℕ} {b' : List ℕ} → Got t b at w o b' → o ≡ None → t ≡ false
+got_false true {at = at} {w = w} x e = absurd (none-some (at + length w) (sym e ∙ (x.good refl).0))
+got_false false x e = refl
+
+pub got_place : {t : Bool} {b : List ℕ} {at : ℕ} {w : List ℕ} {o : Option ℕ} {r : ℕ} {b' : List ℕ} → Got t b at w o b' → t ≡ true → o ≡ Some r
+    → (r ≡ at + length w) × (b' ≡ splice b at w)
+got_place {at = at} {w = w} {r = r} x t e = let g = x.good t in (some-is (sym e ∙ g.0), g.1)
 
 -- what stands before that place
-pub got_front : {t : Bool} {b : List ℕ} {at : ℕ} {w : List ℕ} {r : ℕ} {b' : List ℕ} → Got t b at w r b' → t ≡ true → at ≤ length b → take r b' ≡ take at b ++ w
-got_front {b = b} {at = at} {w = w} x e m = let g = x.good e in rw (g.0, g.1) (take-splice b at w m)
-
--- whether the test was met is told by the place
-pub got_true : (t : Bool) {b : List ℕ} {at : ℕ} {w : List ℕ} {r : ℕ} {b' : List ℕ} → Got t b at w r b' → r ≤ 85000 → t ≡ true
-got_true true x h = refl
-got_true false x h = absurd (omega (arith, (x.bad refl).0))
-
-pub got_false : (t : Bool) {b : List ℕ} {at : ℕ} {w : List ℕ} {r : ℕ} {b' : List ℕ} → Got t b at w r b' → at + length w ≤ 85000 → 85000 < r → t ≡ false
-got_false true x h k = absurd (omega (arith, (x.good refl).0))
-got_false false x h k = refl
+pub got_front : {t : Bool} {b : List ℕ} {at : ℕ} {w : List ℕ} {o : Option ℕ} {r : ℕ} {b' : List ℕ} → Got t b at w o b' → t ≡ true → o ≡ Some r → at ≤ length b
+    → take r b' ≡ take at b ++ w
+got_front {b = b} {at = at} {w = w} x t e m = let g = got_place x t e in rw (g.0, g.1) (take-splice b at w m)
 
 -- the bytes of a word that was taken alone
-pub got_alone : (t : Bool) {b : List ℕ} {w : List ℕ} {r : ℕ} {b' : List ℕ} → Got t b 0 w r b' → r ≤ 85000 → take r b' ≡ w
-got_alone t x h = got_front x (got_true t x h) (omega arith)
+pub got_alone : (t : Bool) {b : List ℕ} {w : List ℕ} {o : Option ℕ} {r : ℕ} {b' : List ℕ} → Got t b 0 w o b' → o ≡ Some r → take r b' ≡ w
+got_alone t x e = got_front x (got_true t x e) e (omega arith)
 
 -- Finding the first space: r is the place that is found.
 

@@ -1,8 +1,7 @@
 -- What `read` shows. Cited by the contracts of `src/readings.rt`. Assumes nothing.
-use Rattle.std.specs.Prelude.{cond, ℕ, List, ◌++◌}
+use Rattle.std.specs.Prelude.{cond, ℕ, List, ◌++◌, Ok, Err}
 use Rattle.message.specs.Reading.{reporting}
-use Rattle.message.specs.declared.reading.Reading.TheVariants as readings
-use Rattle.message.specs.declared.reading.Reading.{Reading}
+use Rattle.message.specs.Refusal.{Reading, number, place}
 use Rattle.message.specs.declared.reading.Report.{Report}
 use Rattle.octets.specs.Ascii.{ascii}
 use Rattle.octets.specs.Decimal.{shown}
@@ -11,8 +10,8 @@ use Rattle.showing.specs.Words.{hex_bytes, is_bytes}
 
 -- `ok `, or `no N PLACE `
 unfoldable pub reading_text : Reading → List ℕ
-reading_text (readings.Read m) = ascii "ok "
-reading_text (readings.Refused n p) = ascii "no " ++ (shown n ++ (ascii " " ++ (shown p ++ ascii " ")))
+reading_text (Ok m) = ascii "ok "
+reading_text (Err e) = ascii "no " ++ (shown (number e) ++ (ascii " " ++ (shown (place e) ++ ascii " ")))
 
 -- and COUNT (02 §9)
 unfoldable pub report_text : Report → List ℕ

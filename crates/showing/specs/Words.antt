@@ -1,13 +1,11 @@
 -- The words of a line: parted by one space, numbers in decimal, bytes in lower-case hex. Cited by the contracts of `src/words.rt`
 -- and by what the commands are said to show. Assumes nothing.
-use Rattle.std.specs.Prelude.{ℕ, ◌+◌, leb, ltb, length, take, drop, Bool, ◌&&◌, ◌||◌, cond, List, []}
+use Rattle.std.specs.Prelude.{ℕ, ◌+◌, leb, ltb, length, take, drop, Bool, ◌&&◌, ◌||◌, cond, List, [], None, Option, Some}
 use Rattle.hex_text.specs.Digits.{decoded, is_hex}
 use Rattle.octets.specs.Ascii.{ascii}
 use Rattle.octets.specs.Class.{all, is_digit}
 use Rattle.octets.specs.Decimal.{decimal_of}
 use Rattle.octets.specs.Text.{before, same}
-use Rattle.octets.specs.declared.decimals.Spelt.TheVariants.{Value, Other}
-use Rattle.octets.specs.declared.decimals.Spelt.{Spelt}
 
 -- whether a space stands in s
 abbrev pub has_space : List ℕ → Bool
@@ -22,16 +20,16 @@ abbrev pub rest : List ℕ → List ℕ
 rest s = drop (before 32 s + 1) s
 
 -- the number that a word is: digits, at least one, with as many leading zeros as there are, below 2^64
-unfoldable pub numeral : List ℕ → Spelt
-numeral w = cond (leb 1 (length w) && (all is_digit w && ltb (decimal_of w) 18446744073709551616)) (Value (decimal_of w)) Other
+unfoldable pub numeral : List ℕ → Option ℕ
+numeral w = cond (leb 1 (length w) && (all is_digit w && ltb (decimal_of w) 18446744073709551616)) (Some (decimal_of w)) None
 
--- a number as it is, and one above the limit for what is none
-abbrev pub value_to : ℕ → Spelt → ℕ
-value_to most (Value n) = n
-value_to most Other = most + 1
+-- a number up to a limit; any other is none
+abbrev pub value_to : ℕ → Option ℕ → Option ℕ
+value_to most (Some n) = cond (leb n most) (Some n) None
+value_to most None = None
 
--- the number that a word is, and one above the limit for any other word
-abbrev pub number_to : ℕ → List ℕ → ℕ
+-- the number that a word is, up to a limit
+abbrev pub number_to : ℕ → List ℕ → Option ℕ
 number_to most w = value_to most (numeral w)
 
 -- `-`, which stands for no bytes

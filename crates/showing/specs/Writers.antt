@@ -1,6 +1,6 @@
 -- What `reply`, `add`, `remove` and `text` show for the words behind their names; `?` where a word is not what it should be. Cited by the
 -- contracts of `src/writers.rt`. Assumes nothing.
-use Rattle.std.specs.Prelude.{ℕ, leb, replicate, Bool, ◌&&◌, cond, List, ◌++◌}
+use Rattle.std.specs.Prelude.{ℕ, replicate, Bool, ◌&&◌, cond, List, ◌++◌, None, Option, Some, Result, Ok, Err}
 use Rattle.message.specs.Reading.{ample, reading}
 use Rattle.octets.specs.Ascii.{ascii}
 use Rattle.octets.specs.Decimal as decimal
@@ -11,36 +11,35 @@ use Rattle.writing.specs.Outcome.{Outcome, answered, output_left, writing_number
 use Rattle.writing.specs.Removing.{host_in, next_hop, removing, host_shown}
 use Rattle.writing.specs.Reply.{replying}
 use Rattle.writing.specs.Texting.{texting}
-use Rattle.writing.specs.declared.answers.Removed.TheVariants as removals
-use Rattle.writing.specs.declared.answers.Removed.{Removed}
-use Rattle.writing.specs.declared.answers.Written.TheVariants.{Done, Refused}
-use Rattle.writing.specs.declared.answers.Written.{Written}
+use Rattle.writing.specs.declared.answers.Refusal.{Refusal}
+use Rattle.writing.specs.declared.answers.Taken.{Taken}
 
 -- The words. Each but the last ends at the first space.
 
--- the first word is a number up to a limit, and words follow
-unfoldable pub is_number : ℕ → List ℕ → Bool
-is_number most words = has_space words && leb (number_to most (first_word words)) most
+-- the number, up to a limit, that the first word is, where words follow
+unfoldable pub first_number : ℕ → List ℕ → Option ℕ
+first_number most words = cond (has_space words) (number_to most (first_word words)) None
 
 -- the first word stands for bytes, and words follow
 unfoldable pub is_first : List ℕ → Bool
 is_first words = has_space words && is_bytes (first_word words)
 
--- two words: how many bytes of room, up to 40,000, and what stands for bytes
-unfoldable pub is_last : List ℕ → Bool
-is_last words = is_number 40000 words && is_bytes (rest words)
+-- the line by a number, if there is one
+abbrev pub on_number : Option ℕ → (ℕ → List ℕ) → List ℕ
+on_number (Some n) f = f n
+on_number None f = unknown
 
 -- the line by CODE, which goes to 65,535, and the words behind it
 unfoldable pub on_code : List ℕ → (ℕ → List ℕ → List ℕ) → List ℕ
-on_code words f = cond (is_number 65535 words) (f (number_to 65535 (first_word words)) (rest words)) unknown
+on_code words f = on_number (first_number 65535 words) (λ code. f code (rest words))
 
 -- the line by the bytes of the first word and the words behind it
 unfoldable pub on_first : List ℕ → (List ℕ → List ℕ → List ℕ) → List ℕ
 on_first words f = cond (is_first words) (f (hex_bytes (first_word words)) (rest words)) unknown
 
--- the line by ROOM and the bytes of HEX
+-- the line by two words: how many bytes of room, up to 40,000, and what stands for bytes
 unfoldable pub on_last : List ℕ → (ℕ → List ℕ → List ℕ) → List ℕ
-on_last words f = cond (is_last words) (f (number_to 40000 (first_word words)) (hex_bytes (rest words))) unknown
+on_last words f = on_number (first_number 40000 words) (λ n. cond (is_bytes (rest words)) (f n (hex_bytes (rest words))) unknown)
 
 -- The answers.
 
@@ -49,21 +48,21 @@ unfoldable pub filled : ℕ → List ℕ
 filled n = replicate n 90
 
 -- `ok LENGTH ` or `no N `
-unfoldable pub head_of : Written → List ℕ
-head_of (Done n) = ascii "ok " ++ (decimal.shown n ++ ascii " ")
-head_of (Refused r) = ascii "no " ++ (decimal.shown (writing_number r) ++ ascii " ")
+unfoldable pub head_of : Result ℕ Refusal → List ℕ
+head_of (Ok n) = ascii "ok " ++ (decimal.shown n ++ ascii " ")
+head_of (Err r) = ascii "no " ++ (decimal.shown (writing_number r) ++ ascii " ")
 
 -- the answer without the places of the next host
-unfoldable pub written_of : Removed → Written
-written_of (removals.Done n a e) = Done n
-written_of (removals.Refused r) = Refused r
+unfoldable pub written_of : Result Taken Refusal → Result ℕ Refusal
+written_of (Ok t) = Ok t.length
+written_of (Err r) = Err r
 
 -- the line for an answer and the room after it
-unfoldable pub wrote_text : Written → List ℕ → List ℕ
+unfoldable pub wrote_text : Result ℕ Refusal → List ℕ → List ℕ
 wrote_text w room = head_of w ++ (hexed room ++ ascii "\n")
 
 -- the same with the next host, which is a part of the message s
-unfoldable pub took_text : Removed → List ℕ → List ℕ → List ℕ
+unfoldable pub took_text : Result Taken Refusal → List ℕ → List ℕ → List ℕ
 took_text r room s = head_of (written_of r) ++ (hexed room ++ (ascii " " ++ (hexed (next_hop s r) ++ ascii "\n")))
 
 -- the line for what becomes of x on its way into a room of n bytes: its answer, and the whole room

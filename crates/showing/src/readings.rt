@@ -14,11 +14,11 @@ fn put_reading(out: &mut [u8; 160100], verdict: Reading) -> usize
     ensures { Puts out.old (reading_text verdict) result out.new × (result ≤ 64) }
 {
     match verdict {
-        Reading::Read(_) => put(out, 0, b"ok "),
-        Reading::Refused(number, place) => {
+        Ok(_) => put(out, 0, b"ok "),
+        Err(why) => {
             let before_number = put(out, 0, b"no ");
-            let before_place = put_number(out, before_number, number as u64, b" ");
-            put_number(out, before_place, place as u64, b" ")
+            let before_place = put_number(out, before_number, why.number() as u64, b" ");
+            put_number(out, before_place, why.place() as u64, b" ")
         }
     }
 }
@@ -46,9 +46,8 @@ pub fn read(out: &mut [u8; 160100], bytes: &mut [u8; 85000], word: &[u8], ceilin
     requires { length word.now ≤ 170000 }
     ensures { Puts out.old (read_text ceiling word.now) result out.new }
 {
-    let n = take_bytes(bytes, 0, word);
-    if 85000 < n {
+    let Some(n) = take_bytes(bytes, 0, word) else {
         return put_unknown(out);
-    }
+    };
     judge(out, bytes, n, ceiling)
 }

@@ -5,7 +5,7 @@ ghost use Rattle.octets.specs.Splice.{splice};
 ghost use Rattle.showing.specs.Words.{hex_bytes, first_word, has_space, is_bytes, is_hex_to, number_to, numeral, rest};
 ghost use Rattle.showing.specs.inner.Got.{Got};
 
-use octets::{Spelt, and, decimal, find, or, same};
+use octets::{decimal, find, same};
 
 // Whether a word ends at a space.
 pub fn has_space(words: &[u8]) -> bool
@@ -35,16 +35,11 @@ pub fn rest(words: &[u8]) -> &[u8]
 }
 
 // Whether a word stands for bytes: `-` for none, or hex of at most so many digits.
+#[tactic(auto, unfolding(crate::specs::Words::is_hex_to))]
 pub fn is_hex_to(word: &[u8], most: usize) -> bool
     ensures { result ≡ is_hex_to most word.now }
 {
-    or(
-        same(word, b"-"),
-        and(
-            1 <= word.len(),
-            and(word.len() <= most, hex_text::is_hex(word)),
-        ),
-    )
+    same(word, b"-") || (1 <= word.len() && word.len() <= most && hex_text::is_hex(word))
 }
 
 // Puts the bytes that a word stands for behind the first `at` bytes, and answers the place behind them. `-` is no pair of digits,
@@ -56,15 +51,15 @@ fn put_bytes(bytes: &mut [u8], at: usize, word: &[u8]) -> usize
     at + hex_text::decode(&mut bytes[at..], word)
 }
 
-// The same; where the word is no hex or stands for more than 40,000 bytes, nothing is put, and 85,001 is answered.
-pub fn take_bytes(bytes: &mut [u8; 85000], at: usize, word: &[u8]) -> usize
+// The same; where the word is no hex or stands for more than 40,000 bytes, nothing is put.
+pub fn take_bytes(bytes: &mut [u8; 85000], at: usize, word: &[u8]) -> Option<usize>
     requires { 2 * at + length word.now ≤ 170000 }
     ensures { Got (is_bytes word.now) bytes.old at (hex_bytes word.now) result bytes.new }
 {
     if is_hex_to(word, 80000) {
-        put_bytes(bytes, at, word)
+        Some(put_bytes(bytes, at, word))
     } else {
-        85001
+        None
     }
 }
 
@@ -83,20 +78,16 @@ fn zeros(word: &[u8]) -> usize
 }
 
 // A number of 64 bits, with leading zeros as many as there are.
-pub fn number(word: &[u8]) -> Spelt
+pub fn number(word: &[u8]) -> Option<u64>
     ensures { result ≡ numeral word.now }
 {
     let from = zeros(word);
     decimal(&word[from..])
 }
 
-// The number that a word is, and one above the limit for any other word.
-pub fn number_to(word: &[u8], most: u64) -> u64
-    requires { most ≤ 4294967295 }
+// The number that a word is, up to a limit.
+pub fn number_to(word: &[u8], most: u64) -> Option<u64>
     ensures { result ≡ number_to most word.now }
 {
-    match number(word) {
-        Spelt::Value(n) => n,
-        Spelt::Other => most + 1,
-    }
+    number(word).filter(|n| *n <= most)
 }

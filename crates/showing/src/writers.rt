@@ -1,14 +1,14 @@
 // `reply`, `add`, `remove` and `text`: the room is filled with 5a before, and shown whole afterwards.
-// The words' bytes stand one behind the other at the front of `bytes`; a place over 85,000 says that a word is not what it should be.
+// The words' bytes stand one behind the other at the front of `bytes`.
 ghost use Rattle.std.specs.Prelude.{◌++◌, ◌≡◌, ◌+◌, ◌-◌, ◌*◌, ◌≤◌, drop, length, take};
 ghost use Rattle.message.specs.Reading.{ample, reading};
 ghost use Rattle.octets.specs.Ascii.{ascii};
 ghost use Rattle.octets.specs.Decimal.{shown};
 ghost use Rattle.octets.specs.Splice.{splice};
 ghost use Rattle.showing.specs.Shown.{Puts, hexed};
-ghost use Rattle.showing.specs.Words.{hex_bytes, first_word, number_to, rest};
+ghost use Rattle.showing.specs.Words.{hex_bytes, first_word, rest};
 ghost use Rattle.showing.specs.inner.Got.{Got};
-ghost use Rattle.showing.specs.Writers.{edit_text, edited, filled, head_of, is_first, is_last, on_first, on_last, reply_line, text_line, took_line, took_text, wrote_line, wrote_text, written_of};
+ghost use Rattle.showing.specs.Writers.{edit_text, edited, filled, first_number, head_of, is_first, on_first, on_last, reply_line, text_line, took_line, took_text, wrote_line, wrote_text, written_of};
 ghost use Rattle.writing.specs.Adding.{adding};
 ghost use Rattle.writing.specs.Outcome.{Writes};
 ghost use Rattle.writing.specs.Removing.{Took, host_in, removing};
@@ -18,38 +18,27 @@ ghost use Rattle.writing.specs.Texting.{texting};
 use crate::shown::{put_hex, put_number, put_unknown};
 use crate::words::{first, has_space, number_to, rest, take_bytes};
 use octets::put;
-use writing::{Removed, Written};
+use writing::{Path, Refusal, Taken};
 
 // Takes the bytes of the first word.
-fn take_first(bytes: &mut [u8; 85000], at: usize, words: &[u8]) -> usize
+fn take_first(bytes: &mut [u8; 85000], at: usize, words: &[u8]) -> Option<usize>
     requires { 2 * at + length words.now ≤ 170000 }
     ensures { Got (is_first words.now) bytes.old at (hex_bytes (first_word words.now)) result bytes.new }
 {
     if !has_space(words) {
-        return 85001;
+        return None;
     }
     take_bytes(bytes, at, first(words))
 }
 
-// The number of ROOM, and more than 40,000 for any other word.
-fn room_in(words: &[u8]) -> u64
-    ensures { result ≡ number_to 40000 (first_word words.now) }
-{
-    number_to(first(words), 40000)
-}
-
-// Takes the bytes of HEX, where ROOM stands before it.
-fn take_last(bytes: &mut [u8; 85000], at: usize, words: &[u8]) -> usize
-    requires { 2 * at + length words.now ≤ 170000 }
-    ensures { Got (is_last words.now) bytes.old at (hex_bytes (rest words.now)) result bytes.new }
+// The number, up to a limit, that the first word is.
+fn first_number(words: &[u8], most: u64) -> Option<u64>
+    ensures { result ≡ first_number most words.now }
 {
     if !has_space(words) {
-        return 85001;
+        return None;
     }
-    if 40000 < room_in(words) {
-        return 85001;
-    }
-    take_bytes(bytes, at, rest(words))
+    number_to(first(words), most)
 }
 
 // The room before a call.
@@ -69,13 +58,13 @@ fn put_first(out: &mut [u8], word: &[u8; 3], n: u64) -> usize
 }
 
 // How long the result is, or the number of the refusal.
-fn put_head(out: &mut [u8], w: Written) -> usize
+fn put_head(out: &mut [u8], w: Result<usize, Refusal>) -> usize
     requires { 24 ≤ length out.old }
     ensures { Puts out.old (head_of w) result out.new × (result ≤ 24) }
 {
     match w {
-        Written::Done(n) => put_first(out, b"ok ", n as u64),
-        Written::Refused(r) => put_first(out, b"no ", writing::number(r) as u64),
+        Ok(n) => put_first(out, b"ok ", n as u64),
+        Err(r) => put_first(out, b"no ", u8::from(r) as u64),
     }
 }
 
@@ -89,7 +78,12 @@ fn put_room(out: &mut [u8], at: usize, room: &[u8; 40000], n: usize) -> usize
 }
 
 // A line: the answer and the room after it.
-fn put_written(out: &mut [u8; 160100], w: Written, room: &[u8; 40000], n: usize) -> usize
+fn put_written(
+    out: &mut [u8; 160100],
+    w: Result<usize, Refusal>,
+    room: &[u8; 40000],
+    n: usize,
+) -> usize
     requires { n ≤ 40000 }
     ensures { Puts out.old (wrote_text w (take n room.now)) result out.new }
 {
@@ -99,17 +93,20 @@ fn put_written(out: &mut [u8; 160100], w: Written, room: &[u8; 40000], n: usize)
 }
 
 // The answer without the places of the next host.
-fn written_of(r: Removed) -> Written
+fn written_of(r: Result<Taken, Refusal>) -> Result<usize, Refusal>
     ensures { result ≡ written_of r }
 {
-    match r {
-        Removed::Done(n, _, _) => Written::Done(n),
-        Removed::Refused(why) => Written::Refused(why),
-    }
+    r.map(|taken| taken.length)
 }
 
 // The same with the next host, which is a part of the message s.
-fn put_removed(out: &mut [u8; 160100], r: Removed, room: &[u8; 40000], n: usize, s: &[u8]) -> usize
+fn put_removed(
+    out: &mut [u8; 160100],
+    r: Result<Taken, Refusal>,
+    room: &[u8; 40000],
+    n: usize,
+    s: &[u8],
+) -> usize
     requires { (n ≤ 40000) × (length s.now ≤ 40000) }
     ensures { Puts out.old (took_text r (take n room.now) s.now) result out.new }
 {
@@ -121,7 +118,7 @@ fn put_removed(out: &mut [u8; 160100], r: Removed, room: &[u8; 40000], n: usize,
 }
 
 // Into the first n bytes of the room, and so the next three.
-fn reply_into(room: &mut [u8], n: usize, s: &[u8], code: u16, date: &[u8]) -> Written
+fn reply_into(room: &mut [u8], n: usize, s: &[u8], code: u16, date: &[u8]) -> Result<usize, Refusal>
     requires { n ≤ length room.old }
     ensures { Writes (take n room.old) (replying s.now code date.now) result (take n room.new) }
 {
@@ -135,11 +132,19 @@ fn add_into(
     host: &[u8],
     destination: &[u8],
     organization: &[u8],
-) -> Written
+) -> Result<usize, Refusal>
     requires { n ≤ length room.old }
     ensures { Writes (take n room.old) (adding s.now host.now destination.now organization.now) result (take n room.new) }
 {
-    writing::add(&mut room[0..n], s, host, destination, organization)
+    writing::add(
+        &mut room[0..n],
+        s,
+        Path {
+            host,
+            destination,
+            organization,
+        },
+    )
 }
 
 fn remove_into(
@@ -149,14 +154,22 @@ fn remove_into(
     host: &[u8],
     destination: &[u8],
     organization: &[u8],
-) -> Removed
+) -> Result<Taken, Refusal>
     requires { n ≤ length room.old }
     ensures { Took (take n room.old) (host_in (reading ample s.now)) (removing s.now host.now destination.now organization.now) result (take n room.new) }
 {
-    writing::remove(&mut room[0..n], s, host, destination, organization)
+    writing::remove(
+        &mut room[0..n],
+        s,
+        Path {
+            host,
+            destination,
+            organization,
+        },
+    )
 }
 
-fn text_into(room: &mut [u8], n: usize, s: &[u8]) -> Written
+fn text_into(room: &mut [u8], n: usize, s: &[u8]) -> Result<usize, Refusal>
     requires { n ≤ length room.old }
     ensures { Writes (take n room.old) (texting s.now) result (take n room.new) }
 {
@@ -258,11 +271,13 @@ fn reply_to(
     requires { (2 * d + length words.now ≤ 170000) × (d ≤ length bytes.old) }
     ensures { Puts out.old (on_last words.now (λ n s. wrote_line n (replying s code (take d bytes.old)))) result out.new }
 {
-    let e = take_last(bytes, d, words);
-    if 85000 < e {
+    let Some(n) = first_number(words, 40000) else {
         return put_unknown(out);
-    }
-    let n = room_in(words) as usize;
+    };
+    let Some(e) = take_bytes(bytes, d, rest(words)) else {
+        return put_unknown(out);
+    };
+    let n = n as usize;
     let b: &[u8] = bytes;
     write_reply(out, room, n, &b[d..e], code, &b[0..d])
 }
@@ -278,10 +293,9 @@ fn reply_dated(
     requires { length words.now ≤ 170000 }
     ensures { Puts out.old (on_first words.now (λ date words₂. on_last words₂ (λ n s. wrote_line n (replying s code date)))) result out.new }
 {
-    let d = take_first(bytes, 0, words);
-    if 85000 < d {
+    let Some(d) = take_first(bytes, 0, words) else {
         return put_unknown(out);
-    }
+    };
     reply_to(out, bytes, room, code, d, rest(words))
 }
 
@@ -295,13 +309,9 @@ pub fn reply(
     requires { length words.now ≤ 170000 }
     ensures { Puts out.old (reply_line words.now) result out.new }
 {
-    if !has_space(words) {
+    let Some(code) = first_number(words, 65535) else {
         return put_unknown(out);
-    }
-    let code = number_to(first(words), 65535);
-    if 65535 < code {
-        return put_unknown(out);
-    }
+    };
     reply_dated(out, bytes, room, code as u16, rest(words))
 }
 
@@ -319,11 +329,13 @@ fn edit_to(
     requires { (a ≤ b) × (b ≤ c) × (2 * c + length words.now ≤ 170000) × (c ≤ length bytes.old) }
     ensures { Puts out.old (on_last words.now (λ n s. edited adds n s (take a bytes.old) (take (b - a) (drop a bytes.old)) (take (c - b) (drop b bytes.old)))) result out.new }
 {
-    let e = take_last(bytes, c, words);
-    if 85000 < e {
+    let Some(n) = first_number(words, 40000) else {
         return put_unknown(out);
-    }
-    let n = room_in(words) as usize;
+    };
+    let Some(e) = take_bytes(bytes, c, rest(words)) else {
+        return put_unknown(out);
+    };
+    let n = n as usize;
     let t: &[u8] = bytes;
     write_edit(out, room, adds, n, &t[c..e], &t[0..a], &t[a..b], &t[b..c])
 }
@@ -339,12 +351,12 @@ fn edit_organization(
     words: &[u8],
 ) -> usize
     requires { (a ≤ b) × (2 * b + length words.now ≤ 170000) × (b ≤ length bytes.old) }
-    ensures { Puts out.old (on_first words.now (λ organization words₃. on_last words₃ (λ n s. edited adds n s (take a bytes.old) (take (b - a) (drop a bytes.old)) organization))) result out.new }
+    ensures { Puts out.old (on_first words.now (λ organization words₃. on_last words₃ (λ n s. edited adds n s (take a bytes.old) (take (b - a) (drop a bytes.old)) organization)))
+        result out.new }
 {
-    let c = take_first(bytes, b, words);
-    if 85000 < c {
+    let Some(c) = take_first(bytes, b, words) else {
         return put_unknown(out);
-    }
+    };
     edit_to(out, bytes, room, adds, a, b, c, rest(words))
 }
 
@@ -358,12 +370,12 @@ fn edit_destination(
     words: &[u8],
 ) -> usize
     requires { (2 * a + length words.now ≤ 170000) × (a ≤ length bytes.old) }
-    ensures { Puts out.old (on_first words.now (λ destination words₂. on_first words₂ (λ organization words₃. on_last words₃ (λ n s. edited adds n s (take a bytes.old) destination organization)))) result out.new }
+    ensures { Puts out.old (on_first words.now
+        (λ destination words₂. on_first words₂ (λ organization words₃. on_last words₃ (λ n s. edited adds n s (take a bytes.old) destination organization)))) result out.new }
 {
-    let b = take_first(bytes, a, words);
-    if 85000 < b {
+    let Some(b) = take_first(bytes, a, words) else {
         return put_unknown(out);
-    }
+    };
     edit_organization(out, bytes, room, adds, a, b, rest(words))
 }
 
@@ -378,10 +390,9 @@ pub fn edit(
     requires { length words.now ≤ 170000 }
     ensures { Puts out.old (edit_text adds words.now) result out.new }
 {
-    let a = take_first(bytes, 0, words);
-    if 85000 < a {
+    let Some(a) = take_first(bytes, 0, words) else {
         return put_unknown(out);
-    }
+    };
     edit_destination(out, bytes, room, adds, a, rest(words))
 }
 
@@ -395,11 +406,13 @@ pub fn text(
     requires { length words.now ≤ 170000 }
     ensures { Puts out.old (text_line words.now) result out.new }
 {
-    let e = take_last(bytes, 0, words);
-    if 85000 < e {
+    let Some(n) = first_number(words, 40000) else {
         return put_unknown(out);
-    }
-    let n = room_in(words) as usize;
+    };
+    let Some(e) = take_bytes(bytes, 0, rest(words)) else {
+        return put_unknown(out);
+    };
+    let n = n as usize;
     let b: &[u8] = bytes;
     write_text(out, room, n, &b[0..e])
 }

@@ -5,9 +5,9 @@ use Rattle.octets.proofs.NumberLaws.{length-bytes_of}
 use Rattle.octets.specs.Splice.{splice}
 use Rattle.octets.proofs.Chain.{splice-two}
 use Rattle.table.proofs.SpliceLaws.{splice-whole}
-use Rattle.table.specs.Blank.{blank_fits, blank_of, blank_answer, blank_after}
+use Rattle.std.specs.Prelude.{Ok, Err}
+use Rattle.table.specs.Blank.{Made, blank_fits, blank_of, blank_answer, blank_after}
 use Rattle.table.specs.Image.{header_of}
-use Rattle.table.specs.declared.blanking.Made.TheVariants.{Done, Refused}
 use borrow.Author.Tests.{eq-eqb, ne_eqb}
 use lib.ListN.{length, replicate, length-append, length-replicate}
 use mathlib.Core.Bool.{true, false}
@@ -19,21 +19,27 @@ pub length_header : (count : ℕ) → length (header_of count) ≡ 16
 unfolding header_of
 length_header count = simp (length-append, length-bytes_of)
 
+abbrev done : Made
+done = Ok tt
+
+abbrev misfit : Made
+misfit = Err record {}
+
 module _ (out : List ℕ) (count : ℕ) where
-  refused : blank_fits count (length out) ≡ false → (Refused ≡ blank_answer out count) × (out ≡ blank_after out count)
+  refused : blank_fits count (length out) ≡ false → (misfit ≡ blank_answer out count) × (out ≡ blank_after out count)
   refused e = (rw e, rw e)
 
-  pub too_few : count < 1 → (Refused ≡ blank_answer out count) × (out ≡ blank_after out count)
+  pub too_few : count < 1 → (misfit ≡ blank_answer out count) × (out ≡ blank_after out count)
   unfolding blank_fits
   too_few h = refused (rw (among-low 1 255 count h))
 
   module _ (low : 1 ≤ count) where
-    pub too_many : 255 < count → (Refused ≡ blank_answer out count) × (out ≡ blank_after out count)
+    pub too_many : 255 < count → (misfit ≡ blank_answer out count) × (out ≡ blank_after out count)
     unfolding blank_fits
     too_many h = refused (rw (among-high 1 255 count low h))
 
     module _ (high : count ≤ 255) where
-      pub wrong-length : (length out ≡ 16 + 160 * count → ⊥) → (Refused ≡ blank_answer out count) × (out ≡ blank_after out count)
+      pub wrong-length : (length out ≡ 16 + 160 * count → ⊥) → (misfit ≡ blank_answer out count) × (out ≡ blank_after out count)
       unfolding blank_fits
       wrong-length ne = refused (rw (in_among 1 255 count low high, ne_eqb (length out) (16 + 160 * count) ne))
 
@@ -56,5 +62,5 @@ module _ (out : List ℕ) (count : ℕ) where
           (sym v))
 
       pub made : {h a b : List ℕ} → length out ≡ 16 + 160 * count → h ≡ header_of count → a ≡ splice out 0 h
-          → b ≡ splice a 16 (replicate (16 + 160 * count - 16) 0) → (Done ≡ blank_answer out count) × (b ≡ blank_after out count)
+          → b ≡ splice a 16 (replicate (16 + 160 * count - 16) 0) → (done ≡ blank_answer out count) × (b ≡ blank_after out count)
       made l p q r = (rw (fits l), rw (fits l) (written l p q r))

@@ -1,9 +1,8 @@
 -- The contracts of `blank` and `well_formed` determine the answer and every lent byte: two results that one allows are equal.
 -- Assumes nothing.
 use Prim.Native.Nat.{ℕ}
-use Rattle.table.specs.Blank.{blank_after, blank_answer}
+use Rattle.table.specs.Blank.{Made, blank_after, blank_answer}
 use Rattle.table.specs.WellFormed.{well_formed}
-use Rattle.table.specs.declared.blanking.Made.{Made}
 use mathlib.Core.Bool.{Bool}
 use mathlib.Core.List.{List}
 use mathlib.Core.Path.{◌≡◌, sym, ◌∙◌}

@@ -1,5 +1,6 @@
 -- Where a call's record is after a store, and how many records are free: the same call, another call, a call that is gone.
 -- Assumes nothing.
+use Rattle.std.specs.Prelude.{Some, None}
 use Prim.Native.Nat.{ℕ, ◌+◌, ◌<◌}
 use Rattle.octets.proofs.TextLaws.{eq-same}
 use Rattle.octets.proofs.TestLaws.{clash, Either, either}
@@ -11,7 +12,6 @@ use Rattle.table.specs.Record.{record_call_id, is_free, is_named}
 use Rattle.table.specs.Search.{lowest_found, place_named, free_place}
 use Rattle.table.specs.inner.Count.{bit, tally, free_count}
 use Rattle.table.specs.WellFormed.{distinct}
-use Rattle.table.specs.declared.searching.Found.TheVariants.{At, Nothing}
 use lib.ListN.{length}
 use mathlib.Core.Bool.{Bool, true, false}
 use mathlib.Core.List.{List}
@@ -23,21 +23,21 @@ use native.Mathlib.Omega.{arith}
 -- What a search says.
 
 module _ (id t : List ℕ) where
-  pub found : (k : ℕ) → place_named id t ≡ At k → Is (λ j. is_named id (record_at t j)) (record_count t) k
+  pub found : (k : ℕ) → place_named id t ≡ Some k → Is (λ j. is_named id (record_at t j)) (record_count t) k
   unfolding place_named
   found k e = lowest-is (λ j. is_named id (record_at t j)) (record_count t) k e
 
-  pub not_found : place_named id t ≡ Nothing → (k : ℕ) → k < record_count t → is_named id (record_at t k) ≡ false
+  pub not_found : place_named id t ≡ None → (k : ℕ) → k < record_count t → is_named id (record_at t k) ≡ false
   unfolding place_named
   not_found e = lowest-none (λ j. is_named id (record_at t j)) (record_count t) e
 
-  nowhere : ((k : ℕ) → k < record_count t → is_named id (record_at t k) ≡ false) → place_named id t ≡ Nothing
+  nowhere : ((k : ℕ) → k < record_count t → is_named id (record_at t k) ≡ false) → place_named id t ≡ None
   unfolding place_named
   nowhere f = sym (none-lowest (λ j. is_named id (record_at t j)) (record_count t) f)
 
   -- the one place of a call
   only-place : (k : ℕ) → k < record_count t → is_named id (record_at t k) ≡ true → ((l : ℕ) → l < record_count t → is_named id (record_at t l) ≡ true
-      → l ≡ k) → place_named id t ≡ At k
+      → l ≡ k) → place_named id t ≡ Some k
   unfolding place_named
   only-place k h e f = sym (at-lowest (λ j. is_named id (record_at t j)) (record_count t) k h e (λ l g. go l g (either (is_named id (record_at t l)))))
     where
@@ -46,14 +46,14 @@ module _ (id t : List ℕ) where
       go l g (inr w) = w
 
   -- a record of a call is where its search ends
-  pub place-one : distinct t ≡ true → (k : ℕ) → k < record_count t → is_named id (record_at t k) ≡ true → place_named id t ≡ At k
+  pub place-one : distinct t ≡ true → (k : ℕ) → k < record_count t → is_named id (record_at t k) ≡ true → place_named id t ≡ Some k
   place-one d k h e = only-place k h e (λ l g q. one_record t d id k l h g e q)
 
-pub free-found : (t : List ℕ) (k : ℕ) → free_place t ≡ At k → Is (λ j. is_free (record_at t j)) (record_count t) k
+pub free-found : (t : List ℕ) (k : ℕ) → free_place t ≡ Some k → Is (λ j. is_free (record_at t j)) (record_count t) k
 unfolding free_place
 free-found t k e = lowest-is (λ j. is_free (record_at t j)) (record_count t) k e
 
-pub none_free : (t : List ℕ) → free_place t ≡ Nothing → (k : ℕ) → k < record_count t → is_free (record_at t k) ≡ false
+pub none_free : (t : List ℕ) → free_place t ≡ None → (k : ℕ) → k < record_count t → is_free (record_at t k) ≡ false
 unfolding free_place
 none_free t e = lowest-none (λ j. is_free (record_at t j)) (record_count t) e
 
@@ -98,7 +98,7 @@ module _ (t : List ℕ) (k : ℕ) (h : k < record_count t) (x : List ℕ) (fit :
   other-fails id f j g ne = rw (with_other t k h x fit j g ne) (f j g ne)
 
   -- a call that stood nowhere, and is the new record's
-  pub place-new : (id : List ℕ) → place_named id t ≡ Nothing → is_named id x ≡ true → place_named id t' ≡ At k
+  pub place-new : (id : List ℕ) → place_named id t ≡ None → is_named id x ≡ true → place_named id t' ≡ Some k
   place-new id e q =
       let s : record_count t' ≡ record_count t = size_with t k h x fit in
       only-place id t' k (omega arith) (rw (with_same t k h x fit) q) (λ l g w. go l (omega arith) (ℕ_discrete l k) w)
@@ -108,7 +108,7 @@ module _ (t : List ℕ) (k : ℕ) (h : k < record_count t) (x : List ℕ) (fit :
       go l g (no d) w = absurd (clash w (other-fails id (λ j i ne. not_found id t e j i) l g d))
 
   -- a call that was the record's, and is not the new one's
-  pub place-gone : (id : List ℕ) → distinct t ≡ true → is_named id (record_at t k) ≡ true → is_named id x ≡ false → place_named id t' ≡ Nothing
+  pub place-gone : (id : List ℕ) → distinct t ≡ true → is_named id (record_at t k) ≡ true → is_named id x ≡ false → place_named id t' ≡ None
   place-gone id d e q =
       let s : record_count t' ≡ record_count t = size_with t k h x fit in
       nowhere id t' (λ l g. go l (omega arith) (ℕ_discrete l k))

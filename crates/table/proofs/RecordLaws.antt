@@ -168,15 +168,6 @@ numbers-written o p f {a} h q1 q2 =
 
 -- Whose a record is.
 
-module _ (id r : List ℕ) where
-  pub named-free : get_or r 0 0 ≡ 0 → false ≡ is_named id r
-  unfolding is_named
-  named-free e = simp (eq-eqb _ _ e)
-
-  pub named-text : {x : List ℕ} {b : Bool} → (get_or r 0 0 ≡ 0 → ⊥) → x ≡ room_text 1 64 r → b ≡ same x id → b ≡ is_named id r
-  unfolding is_named
-  named-text ne e q = q ∙ simp (e, ne_eqb _ _ ne)
-
 module _ (r s : List ℕ) where
   pub apart-first : get_or r 0 0 ≡ 0 → true ≡ apart r s
   unfolding apart

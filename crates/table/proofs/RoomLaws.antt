@@ -51,9 +51,6 @@ module _ (a b : List ℕ) (i : ℕ) (e : length a ≡ length b) where
       length-take-le i a (omega arith) ∙ sym (length-take-le i b (omega arith)) in
       rw (add-one, take-suc a i 0 h, take-suc b i 0 (omega arith)) (sym (same_snoc (take i a) (take i b) (get_or a i 0) (get_or b i 0) l))
 
-  pub same-all : {t : Bool} → i ≡ length a → t ≡ same (take i a) (take i b) → t ≡ same a b
-  same-all g q = q ∙ rw (take_all i a (omega arith), take_all i b (omega arith))
-
 -- The room.
 
 -- bytes that are all 00

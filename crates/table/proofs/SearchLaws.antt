@@ -1,9 +1,9 @@
 -- What a test on every number below a bound, a search and a count say, each by one number more. Assumes nothing.
+use Rattle.std.specs.Prelude.{Some, None}
 use Prim.Native.Nat.{ℕ, zero, suc, ◌+◌, ◌<◌}
 use Rattle.octets.proofs.TestLaws.{clash, and_both, and_left, and_right, Either, either}
 use Rattle.table.specs.Search.{found_if, or_else, lowest_found, every}
 use Rattle.table.specs.inner.Count.{bit, tally}
-use Rattle.table.specs.declared.searching.Found.TheVariants.{At, Nothing}
 use mathlib.Core.Bool.{Bool, true, false}
 use mathlib.Core.Logic.{inl, inr}
 use mathlib.Core.Path.{◌≡◌, refl, sym}
@@ -33,17 +33,17 @@ every-stops p n k h e = go (either (every p n))
     go (inr w) = w
 
 -- the search
-pub none-lowest : (p : ℕ → Bool) (n : ℕ) → ((k : ℕ) → k < n → p k ≡ false) → Nothing ≡ lowest_found p n
+pub none-lowest : (p : ℕ → Bool) (n : ℕ) → ((k : ℕ) → k < n → p k ≡ false) → None ≡ lowest_found p n
 unfolding lowest_found
 none-lowest p zero f = refl
 none-lowest p (suc n) f = rw (← none-lowest p n (λ k h. f k (omega arith)), f n (omega arith))
 
-pub at-lowest : (p : ℕ → Bool) (n i : ℕ) → i < n → p i ≡ true → ((k : ℕ) → k < i → p k ≡ false) → At i ≡ lowest_found p n
+pub at-lowest : (p : ℕ → Bool) (n i : ℕ) → i < n → p i ≡ true → ((k : ℕ) → k < i → p k ≡ false) → Some i ≡ lowest_found p n
 unfolding lowest_found
 at-lowest p zero i h e f = absurd (omega arith)
 at-lowest p (suc n) i h e f = go (ℕ_discrete i n) (λ g. at-lowest p n i g e f)
   where
-    go : Dec (i ≡ n) → (i < n → At i ≡ lowest_found p n) → At i ≡ or_else (lowest_found p n) (found_if (p n) n)
+    go : Dec (i ≡ n) → (i < n → Some i ≡ lowest_found p n) → Some i ≡ or_else (lowest_found p n) (found_if (p n) n)
     go (yes w) g = rw (← none-lowest p n (λ k l. f k (omega arith)), ← w, e)
     go (no w) g = rw (← g (omega arith))
 
@@ -55,8 +55,8 @@ pub record Is (p : ℕ → Bool) (n i : ℕ) : Type 0 where
 
 -- a search finds the lowest, or nothing passes
 pub data Searched (p : ℕ → Bool) (n : ℕ) : Type 0 where
-  at : (i : ℕ) → lowest_found p n ≡ At i → Is p n i → Searched p n
-  nowhere : lowest_found p n ≡ Nothing → ((k : ℕ) → k < n → p k ≡ false) → Searched p n
+  at : (i : ℕ) → lowest_found p n ≡ Some i → Is p n i → Searched p n
+  nowhere : lowest_found p n ≡ None → ((k : ℕ) → k < n → p k ≡ false) → Searched p n
 
 pub searched : (p : ℕ → Bool) (n : ℕ) → Searched p n
 unfolding lowest_found
@@ -73,14 +73,14 @@ searched p (suc n) = go (searched p n) (either (p n))
         last k h (no q) f = f k (omega arith)
 
 -- found at i: the record there passes, and none before it
-pub lowest-is : (p : ℕ → Bool) (n i : ℕ) → lowest_found p n ≡ At i → Is p n i
+pub lowest-is : (p : ℕ → Bool) (n i : ℕ) → lowest_found p n ≡ Some i → Is p n i
 lowest-is p n i e = go (searched p n)
   where
     go : Searched p n → Is p n i
     go (at j q s) = let w : j ≡ i = cc in rw w at s
     go (nowhere q f) = absurd (let z : ◌≡◌ {A = ℕ} 0 1 = cc in omega arith)
 
-pub lowest-none : (p : ℕ → Bool) (n : ℕ) → lowest_found p n ≡ Nothing → (k : ℕ) → k < n → p k ≡ false
+pub lowest-none : (p : ℕ → Bool) (n : ℕ) → lowest_found p n ≡ None → (k : ℕ) → k < n → p k ≡ false
 lowest-none p n e = go (searched p n)
   where
     go : Searched p n → (k : ℕ) → k < n → p k ≡ false

@@ -6,7 +6,10 @@ use Rattle.octets.specs.Splice.{splice}
 use Rattle.table.proofs.SpliceLaws.{take_of_drop, Run, further}
 use Rattle.table.specs.Record.{room_at, room_text, slot_of}
 use Rattle.table.specs.WellFormed.{padded, is_zero, zeros}
-use borrow.Author.Tests.{le-leb, lt-leb}
+use Rattle.octets.proofs.TestLaws.{Either, either}
+use Rattle.std.specs.Prelude.{min, leb}
+use borrow.Author.Tests.{le-leb, lt-leb, leb-true, leb-false}
+use mathlib.Core.Logic.{inl, inr}
 use lib.ListN.{length, get_or, take, drop, replicate, length-drop, length-append, length-replicate}
 use lib.Seq.{take-suc, take-take, take_all, length-take-le, drop-drop}
 use mathlib.Core.Bool.{Bool, true, false, ◌&&◌, and-true}
@@ -21,14 +24,22 @@ module _ (r : List ℕ) (at room n : ℕ) (fits : at + 1 + room ≤ length r) (l
   room-length = length-take-le room (drop (at + 1) r) (rw length-drop (omega arith))
 
   -- a text within its room
-  pub text-short : n ≤ room → take (at + 1 + n - (at + 1)) (drop (at + 1) r) ≡ room_text at room r
+  text-short : n ≤ room → take (at + 1 + n - (at + 1)) (drop (at + 1) r) ≡ room_text at room r
   unfolding room_text
   text-short h = rw (add-sub_cancel_left (at + 1) n, ← len) (sym (take-take n room (drop (at + 1) r) h))
 
   -- a length beyond the room: all of it
-  pub text-long : room < n → take (at + 1 + room - (at + 1)) (drop (at + 1) r) ≡ room_text at room r
+  text-long : room < n → take (at + 1 + room - (at + 1)) (drop (at + 1) r) ≡ room_text at room r
   unfolding room_text
   text-long h = rw (add-sub_cancel_left (at + 1) room, ← len) (sym (take_all n (room_at at room r) (rw room-length (omega arith))))
+
+  -- the one or the other
+  pub text-cut : (k : ℕ) → k ≡ min n room → take (at + 1 + k - (at + 1)) (drop (at + 1) r) ≡ room_text at room r
+  text-cut k e = go (either (leb n room))
+    where
+      go : Either (leb n room) → take (at + 1 + k - (at + 1)) (drop (at + 1) r) ≡ room_text at room r
+      go (inl w) = let h : n ≤ room = leb-true n room w in let q : k ≡ n = omega arith in rw q (text-short h)
+      go (inr w) = let h : room < n = leb-false n room w in let q : k ≡ room = omega arith in rw q (text-long h)
 
   -- what the text leaves of its room
   pub rest-zero : n ≤ room → zeros (take (at + 1 + room - (at + 1 + n)) (drop (at + 1 + n) r)) ≡ padded at room r
@@ -71,6 +82,3 @@ zeros-none s = refl
 pub zeros-more : (s : List ℕ) (i : ℕ) → i < length s → (zeros (take i s) && is_zero (get_or s i 0)) ≡ zeros (take (i + 1) s)
 unfolding all
 zeros-more s i h = rw (add-one, take-suc s i 0 h, all_append is_zero (take i s) (get_or s i 0 ∷ []), and-true (is_zero (get_or s i 0)))
-
-pub zeros-all : (s : List ℕ) (i : ℕ) {b : Bool} → i ≡ length s → b ≡ zeros (take i s) → b ≡ zeros s
-zeros-all s i e q = q ∙ ap zeros (take_all i s (omega arith))

@@ -1,8 +1,9 @@
 -- Each answer of the functions that test a table, as a law over plain variables. Assumes nothing.
-use Prim.Native.Nat.{ℕ, zero, suc, ◌+◌, ◌*◌, ◌≤◌, ◌<◌}
+use Prim.Native.Nat.{ℕ, ◌+◌, ◌*◌, ◌≤◌, ◌<◌}
 use Rattle.octets.proofs.ClassLaws.{among_in, among-low, among-high, in_among}
 use Rattle.octets.specs.Class.{among, all}
-use Rattle.octets.proofs.NumberLaws.{capacity}
+use Rattle.octets.proofs.NumberLaws.{capacity, number-below}
+use Rattle.octets.specs.Number.{big_endian}
 use Rattle.octets.specs.Text.{same}
 use Rattle.octets.proofs.TestLaws.{and_left, and_right}
 use Rattle.table.specs.Image.{record_count, header_of}
@@ -10,7 +11,8 @@ use Rattle.table.specs.Record.{record_fields}
 use Rattle.table.specs.WellFormed.{zeros, fields_sound, spare_sound, texts_sound, used_sound, record_sound, records_sound, distinct, frame_sound, well_formed}
 use borrow.Author.Tests.{eq-eqb, ne_eqb}
 use lib.Dec.{eqb}
-use lib.ListN.{length, get_or, take}
+use lib.ListN.{length, get_or, take, drop, length-drop}
+use lib.Seq.{length-take-le, get_or-take, get_or-drop}
 use mathlib.Core.Bool.{Bool, true, false, and-false, or-false}
 use mathlib.Core.List.{List, [], ◌∷◌}
 use mathlib.Core.Path.{◌≡◌, refl, sym, ap, ◌∙◌}
@@ -76,14 +78,14 @@ module _ (t : List ℕ) where
   unfolding frame_sound
   frame-size e = (among_in 1 255 (record_count t) (and_left (among 1 255 (record_count t)) _ (and_right (eqb (length t) (16 + 160 * record_count t)) _ e))).1
 
--- a number of fewer than four bytes, and one more, fits 32 bits
-pub span_three : (i v : ℕ) → i < 4 → v < capacity i → v < 16777216
+-- a number of four bytes fits 32 bits
+pub word-below : (s : List ℕ) (at : ℕ) → at + 4 ≤ length s → ((i : ℕ) → get_or s i 0 < 256) → big_endian (take 4 (drop at s)) < 4294967296
 unfolding capacity
-span_three zero v h g = omega arith
-span_three (suc zero) v h g = omega arith
-span_three (suc (suc zero)) v h g = omega arith
-span_three (suc (suc (suc zero))) v h g = omega arith
-span_three (suc (suc (suc (suc i)))) v h g = absurd (omega arith)
+word-below s at h b =
+    let l : length (take 4 (drop at s)) ≡ 4 = length-take-le 4 (drop at s) (simp length-drop (omega arith)) in
+    number-below 4 (take 4 (drop at s)) l (record {
+      each = λ k g. let q : k < 4 = omega arith in rw (get_or-take 4 (drop at s) k 0 q, get_or-drop at s k 0) (b (at + k));
+    })
 
 -- a test of a part is a test of what the part is
 pub through : (f : List ℕ → Bool) {x y : List ℕ} {b v : Bool} → b ≡ f x → x ≡ y → b ≡ v → f y ≡ v

@@ -2,6 +2,7 @@
 use Prim.Native.Nat.{ℕ, zero, suc, ◌+◌, ◌-◌, ◌≤◌, ◌<◌}
 use Rattle.octets.proofs.Chain.{length-splice, set-one, splice-two}
 use Rattle.octets.specs.Splice.{splice}
+use borrow.Rule.Slice.PartMut.{put_mid}
 use lib.ListN.{length, take, drop, set, replicate, length-append, length-drop, length-replicate, take-append-drop, drop_of_length-le, replicate-append-replicate}
 use lib.Seq.{length-take-le, take_at, drop_at, take-append-le, drop-append-le, take-append-add, drop-append-add, drop-drop, take-take, take-nil}
 use mathlib.Core.List.{List, [], ◌∷◌, ◌++◌, append_assoc, append-nil}
@@ -63,28 +64,10 @@ splice-behind o b p m n l h =
     rw (← append_assoc (take b o) p d)
     (ap (λ (i : ℕ). drop (i + n) (f ++ d)) (sym a) ∙ drop-append-add f d n ∙ rw l (drop-drop n (b + m) o))
 
--- nothing written
-pub splice-none : (o : List ℕ) (b n : ℕ) → n ≡ 0 → splice o b (replicate n 0) ≡ o
-unfolding splice
-splice-none o b n e = rw e (let z : b + 0 ≡ b = omega arith in rw z (take-append-drop b o))
-
 -- all of it written
 pub splice-whole : (o p : List ℕ) → length o ≡ length p → splice o 0 p ≡ p
 unfolding splice
 splice-whole o p e = rw (drop_of_length-le o {i = 0 + length p} (omega arith)) (append-nil p)
-
--- one 00 more
-pub clear-more : (o : List ℕ) (b i : ℕ) → b ≤ i → i < length o
-    → set (splice o b (replicate (i - b) 0)) i 0 ≡ splice o b (replicate (i + 1 - b) 0)
-clear-more o b i h g =
-    let z : List ℕ = replicate (i - b) 0 in
-    let l : length z ≡ i - b = length-replicate (i - b) 0 in
-    let n : i ≡ b + length z = omega arith in
-    let m : i - b + 1 ≡ i + 1 - b = omega arith in
-    set-one (splice o b z) i 0 (rw (length-splice o b z (omega arith)) g)
-    ∙ ap (λ (j : ℕ). splice (splice o b z) j (0 ∷ [])) n
-    ∙ splice-two o b z (0 ∷ []) (omega arith)
-    ∙ ap (splice o b) (replicate-append-replicate (i - b) 1 0 ∙ ap (λ (j : ℕ). replicate j 0) m)
 
 -- parts written from b on: w so far, m bytes long, and the list is out
 pub record Run (o : List ℕ) (b : ℕ) (w : List ℕ) (m : ℕ) (out : List ℕ) : Type 0 where
@@ -101,3 +84,11 @@ further {o} {b} {w} {m} {out} {out'} {n} p j r h l e q =
       is = q ∙ rw (r.is, k) (splice-two o b w p (omega arith));
       long = length-append w p ∙ rw (v, l);
     }
+
+-- a part filled where it stands
+pub cleared : (o : List ℕ) (a e : ℕ) {p : List ℕ} → a ≤ e → e ≤ length o → p ≡ replicate (length (take (e - a) (drop a o))) 0
+    → put_mid a (e - a) o p ≡ splice o a (replicate (e - a) 0)
+unfolding splice
+cleared o a e {p} h g q =
+    let l : length (take (e - a) (drop a o)) ≡ e - a = length-take-le (e - a) (drop a o) (simp length-drop (omega arith)) in
+    rw (q, l, length-replicate {A = ℕ} (e - a) 0) (simp drop-drop)

@@ -12,8 +12,8 @@ mod searching;
 mod soundness;
 mod texts;
 
-pub use blanking::{Made, blank, made_number};
+pub use blanking::{Misfit, blank};
 pub use numbers::Fields;
 pub use records::{fields_at, open, release, same_parties, store};
-pub use searching::{Found, find, free_place};
+pub use searching::{find, free_place};
 pub use soundness::well_formed;

@@ -16,10 +16,8 @@ fn mark(s: &[u8]) -> u32
     ensures { result ≡ mark_of s.now }
 {
     let mut v: u64 = 0;
-    let mut i: usize = 0;
-    while i < s.len() {
-        v = (v * 31 + octets::wide(s[i])) % 4294967296;
-        i += 1;
+    for b in s {
+        v = (v * 31 + u64::from(*b)) % 4294967296;
     }
     v as u32
 }
@@ -31,10 +29,8 @@ fn is_marked(marks: &[u32; MOST_RECORDS], n: usize, m: u32) -> bool
     ensures { result ≡ marked marks.now n m }
 {
     let mut hit = false;
-    let mut i: usize = 0;
-    while i < n {
-        hit = octets::or(hit, marks[i] == m);
-        i += 1;
+    for i in 0..n {
+        hit |= marks[i] == m;
     }
     hit
 }
@@ -55,13 +51,7 @@ fn is_apart(r: &[u8], s: &[u8]) -> bool
     requires { (length r.now ≡ record_size) × (length s.now ≡ record_size) × (padded call_id_at call_id_room r.now ≡ true) × (padded call_id_at call_id_room s.now ≡ true) }
     ensures { result ≡ apart r.now s.now }
 {
-    if !same_at_once(call_id_room(r), call_id_room(s)) {
-        return true;
-    }
-    if r[STATE_AT] == 0 {
-        return true;
-    }
-    if s[STATE_AT] == 0 {
+    if !same_at_once(call_id_room(r), call_id_room(s)) || r[STATE_AT] == 0 || s[STATE_AT] == 0 {
         return true;
     }
     !octets::same(
@@ -76,12 +66,10 @@ fn is_apart_before(t: &[u8], k: usize) -> bool
     ensures { result ≡ apart_before t.now k }
 {
     let r = record_at(t, k);
-    let mut l: usize = 0;
-    while l < k {
+    for l in 0..k {
         if !is_apart(r, record_at(t, l)) {
             return false;
         }
-        l += 1;
     }
     true
 }
@@ -92,13 +80,7 @@ fn is_new(t: &[u8], marks: &[u32; MOST_RECORDS], k: usize, m: u32) -> bool
     requires { (k < record_count t.now) × (k < most_records) × (m ≡ mark_of (record_call_id (record_at t.now k))) × Marks t.now marks.now k × (records_sound t.now ≡ true) }
     ensures { result ≡ apart_before t.now k }
 {
-    if t[HEADER_SIZE + RECORD_SIZE * k] == 0 {
-        return true;
-    }
-    if is_marked(marks, k, m) {
-        return is_apart_before(t, k);
-    }
-    true
+    t[HEADER_SIZE + RECORD_SIZE * k] == 0 || !is_marked(marks, k, m) || is_apart_before(t, k)
 }
 
 // Whether no Call-ID stands in two records that are not free, of records each well-formed by itself.
@@ -108,14 +90,12 @@ pub fn is_distinct(t: &[u8]) -> bool
 {
     let n = record_count(t);
     let mut marks = [0u32; MOST_RECORDS];
-    let mut k: usize = 0;
-    while k < n {
+    for k in 0..n {
         let m = mark(text(record_at(t, k), CALL_ID_AT, CALL_ID_ROOM));
         if !is_new(t, &marks, k, m) {
             return false;
         }
         marks[k] = m;
-        k += 1;
     }
     true
 }

@@ -31,13 +31,7 @@ fn word_at(s: &[u8], at: usize) -> u32
     requires { at + 4 ≤ length s.now }
     ensures { result ≡ big_endian (take 4 (drop at s.now)) }
 {
-    let mut v: u32 = 0;
-    let mut i: usize = 0;
-    while i < 4 {
-        v = v * 256 + octets::wide(s[at + i]) as u32;
-        i += 1;
-    }
-    v
+    octets::number_at(s, at, 4) as u32
 }
 
 // The numbers of a record.

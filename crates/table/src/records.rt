@@ -29,15 +29,15 @@ pub fn fields_at(t: &[u8], k: usize) -> Fields
 }
 
 // Whether user and both Fire-IDs are those of record k.
+#[tactic(auto, unfolding(crate::specs::Record::same_parties))]
 pub fn same_parties(t: &[u8], k: usize, user: &[u8], caller_fire: &[u8], callee_fire: &[u8]) -> bool
     requires { k < record_count t.now }
     ensures { result ≡ same_parties user.now caller_fire.now callee_fire.now (record_at t.now k) }
 {
     let r = record_at(t, k);
-    let a = octets::same(text(r, USER_AT, PARTY_ROOM), user);
-    let b = octets::same(text(r, CALLER_FIRE_AT, PARTY_ROOM), caller_fire);
-    let c = octets::same(text(r, CALLEE_FIRE_AT, PARTY_ROOM), callee_fire);
-    octets::and(a, octets::and(b, c))
+    octets::same(text(r, USER_AT, PARTY_ROOM), user)
+        && octets::same(text(r, CALLER_FIRE_AT, PARTY_ROOM), caller_fire)
+        && octets::same(text(r, CALLEE_FIRE_AT, PARTY_ROOM), callee_fire)
 }
 
 // Stores other numbers in record k; its texts stay.

@@ -15,20 +15,14 @@ use crate::numbers::{Fields, fields_of};
 use crate::records::record_at;
 use crate::searching::record_count;
 use crate::texts::{all_zero, is_padded, text};
-use octets::{among, and, or};
+use octets::among;
 
 // Whether header and length are right.
 fn is_frame_sound(t: &[u8]) -> bool
     ensures { result ≡ frame_sound t.now }
 {
     let n = record_count(t);
-    if n < 1 {
-        return false;
-    }
-    if MOST_RECORDS < n {
-        return false;
-    }
-    if t.len() != HEADER_SIZE + RECORD_SIZE * n {
+    if n < 1 || MOST_RECORDS < n || t.len() != HEADER_SIZE + RECORD_SIZE * n {
         return false;
     }
     let h = header(n);
@@ -36,85 +30,78 @@ fn is_frame_sound(t: &[u8]) -> bool
 }
 
 // Whether the callee's highest number and its method agree.
+#[tactic(auto, unfolding(crate::specs::WellFormed::callee_sound))]
 fn is_callee_sound(callee: u32, method: u8) -> bool
     ensures { result ≡ callee_sound callee method }
 {
-    or(
-        and(callee == 0, method == 0),
-        and(!(callee == 0), among(1, 8, method)),
-    )
+    if callee == 0 {
+        method == 0
+    } else {
+        among(1, 8, method)
+    }
 }
 
 // Whether the numbers of a record in use are right.
+#[tactic(auto, unfolding(crate::specs::WellFormed::fields_sound))]
 fn are_fields_sound(f: Fields) -> bool
     ensures { result ≡ fields_sound f }
 {
-    let callee = is_callee_sound(f.callee, f.calleemethod);
-    let times = and(f.entry <= f.last, f.chat <= f.last);
-    let methods = and(
-        among(1, 8, f.callermethod),
-        and(callee, and(f.secure <= 1, times)),
-    );
-    and(
-        among(1, 6, f.state),
-        and(1 <= f.invite, and(f.invite <= f.caller, methods)),
-    )
+    among(1, 6, f.state)
+        && 1 <= f.invite
+        && f.invite <= f.caller
+        && among(1, 8, f.callermethod)
+        && is_callee_sound(f.callee, f.calleemethod)
+        && f.secure <= 1
+        && f.entry <= f.last
+        && f.chat <= f.last
 }
 
 // Whether a record's Call-ID is within its rule and its room.
+#[tactic(auto, unfolding(crate::specs::WellFormed::slot_sound))]
 fn is_call_id_sound(r: &[u8]) -> bool
     requires { length r.now ≡ record_size }
     ensures { result ≡ slot_sound call_id_rule call_id_at call_id_room r.now }
 {
-    and(
-        is_padded(r, CALL_ID_AT, CALL_ID_ROOM),
-        rules::is_call_id(text(r, CALL_ID_AT, CALL_ID_ROOM)),
-    )
+    is_padded(r, CALL_ID_AT, CALL_ID_ROOM) && rules::is_call_id(text(r, CALL_ID_AT, CALL_ID_ROOM))
 }
 
 // Whether its user is.
+#[tactic(auto, unfolding(crate::specs::WellFormed::slot_sound))]
 fn is_user_sound(r: &[u8]) -> bool
     requires { length r.now ≡ record_size }
     ensures { result ≡ slot_sound user_rule user_at party_room r.now }
 {
-    and(
-        is_padded(r, USER_AT, PARTY_ROOM),
-        rules::is_user_id(text(r, USER_AT, PARTY_ROOM)),
-    )
+    is_padded(r, USER_AT, PARTY_ROOM) && rules::is_user_id(text(r, USER_AT, PARTY_ROOM))
 }
 
 // Whether the Fire-ID whose length stands at `at` is.
+#[tactic(auto, unfolding(crate::specs::WellFormed::slot_sound))]
 fn is_fire_sound(r: &[u8], at: usize) -> bool
     requires { at + 1 + party_room ≤ length r.now }
     ensures { result ≡ slot_sound fire_rule at party_room r.now }
 {
-    and(
-        is_padded(r, at, PARTY_ROOM),
-        rules::is_fire_id(text(r, at, PARTY_ROOM)),
-    )
+    is_padded(r, at, PARTY_ROOM) && rules::is_fire_id(text(r, at, PARTY_ROOM))
 }
 
 // Whether the four texts of a record are within their rules and their rooms.
+#[tactic(auto, unfolding(crate::specs::WellFormed::texts_sound))]
 fn are_texts_sound(r: &[u8]) -> bool
     requires { length r.now ≡ record_size }
     ensures { result ≡ texts_sound r.now }
 {
-    let fires = and(
-        is_fire_sound(r, CALLER_FIRE_AT),
-        is_fire_sound(r, CALLEE_FIRE_AT),
-    );
-    and(is_call_id_sound(r), and(is_user_sound(r), fires))
+    is_call_id_sound(r)
+        && is_user_sound(r)
+        && is_fire_sound(r, CALLER_FIRE_AT)
+        && is_fire_sound(r, CALLEE_FIRE_AT)
 }
 
 // Whether a record in use is well-formed by itself.
+#[tactic(auto, unfolding(crate::specs::WellFormed::used_sound))]
 fn is_used_sound(r: &[u8]) -> bool
     requires { length r.now ≡ record_size }
     ensures { result ≡ used_sound r.now }
 {
-    and(
-        are_fields_sound(fields_of(r)),
-        and(all_zero(&r[SPARE_AT..CHAT_AT]), are_texts_sound(r)),
-    )
+    are_fields_sound(fields_of(r)) && all_zero(&r[SPARE_AT..CHAT_AT]) && are_texts_sound(r)
 }
 
 // Whether a record is well-formed by itself. The state tells which of the two it may be.
@@ -123,9 +110,10 @@ fn is_record_sound(r: &[u8]) -> bool
     ensures { result ≡ record_sound r.now }
 {
     if r[STATE_AT] == 0 {
-        return all_zero(r);
+        all_zero(r)
+    } else {
+        is_used_sound(r)
     }
-    is_used_sound(r)
 }
 
 // Whether each record is well-formed by itself.
@@ -133,12 +121,10 @@ fn are_records_sound(t: &[u8]) -> bool
     ensures { result ≡ records_sound t.now }
 {
     let n = record_count(t);
-    let mut k: usize = 0;
-    while k < n {
+    for k in 0..n {
         if !is_record_sound(record_at(t, k)) {
             return false;
         }
-        k += 1;
     }
     true
 }
@@ -149,11 +135,5 @@ fn are_records_sound(t: &[u8]) -> bool
 pub fn well_formed(t: &[u8]) -> bool
     ensures { result ≡ well_formed t.now }
 {
-    if !is_frame_sound(t) {
-        return false;
-    }
-    if !are_records_sound(t) {
-        return false;
-    }
-    is_distinct(t)
+    is_frame_sound(t) && are_records_sound(t) && is_distinct(t)
 }

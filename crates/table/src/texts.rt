@@ -11,12 +11,7 @@ pub fn text(r: &[u8], at: usize, room: usize) -> &[u8]
     ensures { result.now ≡ room_text at room r.now }
 {
     let a = at + 1;
-    let n = octets::wide(r[at]) as usize;
-    if n <= room {
-        let e = a + n;
-        return &r[a..e];
-    }
-    let e = a + room;
+    let e = a + usize::from(r[at]).min(room);
     &r[a..e]
 }
 
@@ -26,10 +21,8 @@ pub fn all_zero(s: &[u8]) -> bool
     ensures { result ≡ zeros s.now }
 {
     let mut clean = true;
-    let mut i: usize = 0;
-    while i < s.len() {
-        clean = octets::and(clean, s[i] == 0);
-        i += 1;
+    for b in s {
+        clean &= *b == 0;
     }
     clean
 }
@@ -41,10 +34,8 @@ pub fn same_at_once(a: &[u8], b: &[u8]) -> bool
     ensures { result ≡ same a.now b.now }
 {
     let mut alike = true;
-    let mut i: usize = 0;
-    while i < a.len() {
-        alike = octets::and(alike, a[i] == b[i]);
-        i += 1;
+    for i in 0..a.len() {
+        alike &= a[i] == b[i];
     }
     alike
 }
@@ -54,13 +45,9 @@ pub fn is_padded(r: &[u8], at: usize, room: usize) -> bool
     requires { at + 1 + room ≤ length r.now }
     ensures { result ≡ padded at room r.now }
 {
-    let n = octets::wide(r[at]) as usize;
-    if room < n {
-        return false;
-    }
-    let a = at + 1 + n;
+    let n = usize::from(r[at]);
     let e = at + 1 + room;
-    all_zero(&r[a..e])
+    n <= room && all_zero(&r[at + 1 + n..e])
 }
 
 // Writes 00 from `from` to before `to`.
@@ -68,11 +55,7 @@ pub fn clear(out: &mut [u8], from: usize, to: usize)
     requires { (from ≤ to) × (to ≤ length out.old) }
     ensures { out.new ≡ splice out.old from (replicate (to - from) 0) }
 {
-    let mut i = from;
-    while i < to {
-        out[i] = 0;
-        i += 1;
-    }
+    out[from..to].fill(0);
 }
 
 // Writes a text into its room: its length at `at`, the text, and 00 to the room's end.

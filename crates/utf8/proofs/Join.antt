@@ -1,14 +1,13 @@
 -- Texts joined and cut: good texts joined are good, and a good text cut before an ASCII byte is good on both sides.
 -- Copies of parts of a message rest on these. Assumes nothing.
+use Rattle.std.proofs.Common.{Ok, Err}
 use Prim.Native.Nat.{ℕ, zero, suc, ◌≤◌, ◌<◌}
 use Rattle.octets.proofs.ClassLaws.{among-low}
 use Rattle.octets.proofs.TestLaws.{and_parts, picked}
 use Rattle.octets.specs.Class.{among, all}
 use Rattle.utf8.proofs.Rows.{one}
 use Rattle.utf8.proofs.Walk.{char_at-length}
-use Rattle.utf8.specs.Rfc3629.{row_of, syntax, Bounds, Begins, char, none, begins, goes_on, counted, char_of, char_at, opened, octets, verdict}
-use Rattle.utf8.specs.declared.Verdict.TheVariants.{Good, Bad}
-use Rattle.utf8.specs.declared.Verdict.{Verdict}
+use Rattle.utf8.specs.Rfc3629.{row_of, syntax, Bounds, Begins, char, none, begins, goes_on, counted, char_of, char_at, opened, octets, verdict, Verdict}
 use borrow.Author.Tests.{leb-true}
 use lib.Dec.{leb}
 use lib.ListN.{length}
@@ -19,7 +18,7 @@ use native.Mathlib.Omega.{arith}
 
 -- a verdict is good
 abbrev Fine : Verdict → Type 0
-Fine v = v ≡ Good
+Fine v = v ≡ Ok tt
 
 -- A char at the front stays one, whatever stands behind.
 
@@ -48,11 +47,11 @@ char_at-append (b ∷ s) t k e = char_of-append (begins b) s t k e
 
 -- where a good text goes on, a char began
 opened-fine : (n i : ℕ) (f : ℕ → Verdict) → Fine (opened n i f) → (k : ℕ) × ((n ≡ suc k) × Fine (f k))
-opened-fine zero i f e = let z : Bad i ≡ Good = e in let y : ◌≡◌ {A = ℕ} 0 1 = cc in absurd (omega arith)
+opened-fine zero i f e = let z : Err i ≡ Ok tt = e in let y : ◌≡◌ {A = ℕ} 0 1 = cc in absurd (omega arith)
 opened-fine (suc k) i f e = (k, (refl, e))
 
 -- the place does not matter for a good text
-pub anywhere : (k i j : ℕ) (s : List ℕ) → octets k i s ≡ Good → octets k j s ≡ Good
+pub anywhere : (k i j : ℕ) (s : List ℕ) → octets k i s ≡ Ok tt → octets k j s ≡ Ok tt
 unfolding octets
 anywhere k i j [] e = refl
 anywhere (suc k) i j (b ∷ s) e = anywhere k (suc i) (suc j) s e
@@ -61,7 +60,7 @@ anywhere zero i j (b ∷ s) e =
     rw o.1.0 (anywhere o.0 (suc i) (suc j) s o.1.1)
 
 -- joined from within a char
-join-from : (k i : ℕ) (s t : List ℕ) → k ≤ length s → octets k i s ≡ Good → verdict t ≡ Good → octets k i (s ++ t) ≡ Good
+join-from : (k i : ℕ) (s t : List ℕ) → k ≤ length s → octets k i s ≡ Ok tt → verdict t ≡ Ok tt → octets k i (s ++ t) ≡ Ok tt
 unfolding octets
 join-from zero i [] t h e g = anywhere 0 0 i t g
 join-from (suc k) i [] t h e g = absurd (omega arith)
@@ -72,7 +71,7 @@ join-from zero i (b ∷ s) t h e g =
     (join-from o.0 (suc i) s t (let w = char_at-length (b ∷ s) in omega (arith, o.1.0)) o.1.1 g)
 
 -- good texts joined are good
-pub join : (s t : List ℕ) → verdict s ≡ Good → verdict t ≡ Good → verdict (s ++ t) ≡ Good
+pub join : (s t : List ℕ) → verdict s ≡ Ok tt → verdict t ≡ Ok tt → verdict (s ++ t) ≡ Ok tt
 join s t e g = join-from 0 0 s t (omega arith) e g
 
 -- A char holds no ASCII byte behind its first, so it ends before one.
@@ -126,7 +125,7 @@ module _ (b : ℕ) (q : List ℕ) (low : b < 0x80) where
       rw (goes-cut rs s h g) (rw g at e)
   char_of-cut none s k h e = e
 
-  cut-from : (k i : ℕ) (s : List ℕ) → k ≤ length s → octets k i (s ++ (b ∷ q)) ≡ Good → (octets k i s ≡ Good) × (verdict (b ∷ q) ≡ Good)
+  cut-from : (k i : ℕ) (s : List ℕ) → k ≤ length s → octets k i (s ++ (b ∷ q)) ≡ Ok tt → (octets k i s ≡ Ok tt) × (verdict (b ∷ q) ≡ Ok tt)
   unfolding octets char_at
   cut-from zero i [] h e = (refl, anywhere 0 i 0 (b ∷ q) e)
   cut-from (suc k) i [] h e = absurd (omega arith)
@@ -138,10 +137,10 @@ module _ (b : ℕ) (q : List ℕ) (low : b < 0x80) where
       (rw f r.0, r.1)
 
   -- a good text cut before an ASCII byte is good on both sides
-  pub cut : (s : List ℕ) → verdict (s ++ (b ∷ q)) ≡ Good → (verdict s ≡ Good) × (verdict (b ∷ q) ≡ Good)
+  pub cut : (s : List ℕ) → verdict (s ++ (b ∷ q)) ≡ Ok tt → (verdict s ≡ Ok tt) × (verdict (b ∷ q) ≡ Ok tt)
   cut s e = cut-from 0 0 s (omega arith) e
 
-ascii-from : (i : ℕ) (s : List ℕ) → all (λ b. leb b 0x7F) s ≡ true → octets 0 i s ≡ Good
+ascii-from : (i : ℕ) (s : List ℕ) → all (λ b. leb b 0x7F) s ≡ true → octets 0 i s ≡ Ok tt
 unfolding octets all char_at goes_on
 ascii-from i [] h = refl
 ascii-from i (b ∷ s) h =
@@ -150,5 +149,5 @@ ascii-from i (b ∷ s) h =
     rw (one b (omega arith)) (ascii-from (suc i) s p.1)
 
 -- a text of ASCII bytes alone is good
-pub ascii-good : (s : List ℕ) → all (λ b. leb b 0x7F) s ≡ true → verdict s ≡ Good
+pub ascii-good : (s : List ℕ) → all (λ b. leb b 0x7F) s ≡ true → verdict s ≡ Ok tt
 ascii-good s h = ascii-from 0 s h

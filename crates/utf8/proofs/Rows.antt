@@ -1,14 +1,17 @@
 -- The rows of the RFC's syntax, one law a row, and a sequence's bytes one at a time. Assumes nothing.
-use Prim.Native.Nat.{ℕ, ◌+◌, ◌≤◌, ◌<◌}
+use Prim.Native.Nat.{ℕ, zero, suc, ◌+◌, ◌≤◌, ◌<◌}
 use Rattle.octets.proofs.ClassLaws.{in_among, among-low, among-high, among_in}
 use Rattle.octets.proofs.TestLaws.{and_parts}
 use Rattle.octets.specs.Class.{among}
 use Rattle.utf8.specs.Rfc3629.{Bounds, ◌to◌, tail, char, none, begins, goes_on, counted, char_of, char_at}
+use Rattle.std.proofs.Common.{None, Some}
+use Rattle.std.specs.Bool.{then_some}
+use Rattle.utf8.specs.inner.Sized.{sized}
 use lib.ListN.{length, drop, get_or, drop_of_length-le, get_or-eq_default}
 use lib.Seq.{drop-cons}
 use mathlib.Core.Bool.{Bool, true, false, ◌&&◌, cond, and-true}
 use mathlib.Core.List.{List, [], ◌∷◌}
-use mathlib.Core.Path.{◌≡◌, sym, ◌∙◌}
+use mathlib.Core.Path.{◌≡◌, refl, sym, ◌∙◌}
 use native.Mathlib.Decide.{dec_lt}
 use native.Mathlib.Numerals.{add-one}
 use native.Mathlib.Omega.{arith}
@@ -162,6 +165,19 @@ module _ (lo hi : ℕ) (rs : List Bounds) (s : List ℕ) (i : ℕ) (h : 0 < lo) 
 pub last : (lo hi : ℕ) (s : List ℕ) (i : ℕ) → 0 < lo → among lo hi (get_or s i 0) ≡ goes_on ((lo to hi) ∷ []) (drop i s)
 unfolding goes_on
 last lo hi s i h = sym (goes-more (lo to hi) [] s i h ∙ and-true (among lo hi (get_or s i 0)))
+
+-- what the code answers by a test of the last byte
+pub whole : (t : Bool) (n : ℕ) → then_some t (suc n) ≡ sized (counted t (suc n))
+whole true n = refl
+whole false n = refl
+
+pub sized-some : {n : ℕ} (m : ℕ) → Some n ≡ sized m → (n ≡ m) × (n ≡ 0 → ⊥)
+sized-some zero e = cc
+sized-some {n} (suc k) e = let q : n ≡ suc k = cc in (q, λ f. omega (arith, q, f))
+
+pub sized-none : (m : ℕ) → None ≡ sized m → 0 ≡ m
+sized-none zero e = refl
+sized-none (suc k) e = cc
 
 -- the character at a place, by its first byte
 pub char-here : (s : List ℕ) (i : ℕ) → i < length s → char_at (drop i s) ≡ char_of (begins (get_or s i 0)) (drop (i + 1) s)

@@ -1,9 +1,9 @@
 -- The walk over a text, one character at a time. Assumes nothing.
+use Rattle.std.proofs.Common.{Ok, Err}
 use Prim.Native.Nat.{ℕ, zero, suc, ◌+◌, ◌≤◌, ◌<◌}
 use Rattle.octets.proofs.TestLaws.{and_parts}
 use Rattle.octets.specs.Class.{among}
 use Rattle.utf8.specs.Rfc3629.{Bounds, Begins, char, none, begins, goes_on, counted, char_of, char_at, octets}
-use Rattle.utf8.specs.declared.Verdict.TheVariants.{Good, Bad}
 use lib.ListN.{length, drop, get_or, drop_of_length-le}
 use lib.Seq.{drop-cons, drop-drop}
 use mathlib.Core.Bool.{Bool, true, false}
@@ -54,13 +54,13 @@ module _ (s : List ℕ) (i : ℕ) where
       ∙ ap (octets 0 (i + suc k)) (drop-drop k (suc i) s ∙ ap (λ (n : ℕ). drop n s) (let z : suc i + k ≡ i + suc k = omega arith in z)))
 
   -- no char at i
-  pub char-bad : i < length s → 0 ≡ char_at (drop i s) → Bad i ≡ octets 0 i (drop i s)
+  pub char-bad : i < length s → 0 ≡ char_at (drop i s) → Err i ≡ octets 0 i (drop i s)
   unfolding octets
   char-bad h e =
       let d : drop i s ≡ get_or s i 0 ∷ drop (suc i) s = drop-cons s i 0 h in
       let z : char_at (get_or s i 0 ∷ drop (suc i) s) ≡ 0 = ap char_at (sym d) ∙ sym e in
       rw (d, z)
 
-  pub ends : length s ≤ i → Good ≡ octets 0 i (drop i s)
+  pub ends : length s ≤ i → Ok tt ≡ octets 0 i (drop i s)
   unfolding octets
   ends h = rw (drop_of_length-le s h)

@@ -1,8 +1,6 @@
 -- RFC 3629, section 4: which octets are UTF-8 (01 Reading, row 3). The contracts of `src/` cite it. Assumes nothing.
-use Rattle.std.specs.Prelude.{ℕ, zero, suc, Bool, true, false, ◌&&◌, cond, List, [], ◌∷◌, length}
+use Rattle.std.specs.Prelude.{ℕ, zero, suc, Bool, true, false, ◌&&◌, cond, List, [], ◌∷◌, length, Result, Ok, Err}
 use Rattle.octets.specs.Class.{among}
-use Rattle.utf8.specs.declared.Verdict.{Verdict}
-use Rattle.utf8.specs.declared.Verdict.TheVariants.{Good, Bad}
 
 -- an ABNF range such as %xA0-BF
 pub record Bounds : Type 0 where
@@ -68,15 +66,19 @@ unfoldable pub char_at : List ℕ → ℕ
 char_at [] = 0
 char_at (b ∷ s) = char_of (begins b) s
 
+-- good, or the first octet of the first bad sequence
+abbrev pub Verdict : Type 0
+Verdict = Result (Unit {0}) ℕ
+
 -- a char of so many octets begins at octet i, and rest answers for the octets behind its first; or none does, and a bad sequence begins there
 abbrev pub opened : ℕ → ℕ → (ℕ → Verdict) → Verdict
-opened zero i rest = Bad i
+opened zero i rest = Err i
 opened (suc k) i rest = rest k
 
 -- UTF8-octets = *( UTF8-char ): the octets begin at octet i, and the first k of them belong to a char already begun. A char is begun only
 -- where it stands whole, so none is open at the end
 unfoldable pub octets : ℕ → ℕ → List ℕ → Verdict
-octets k i [] = Good
+octets k i [] = Ok tt
 octets (suc k) i (b ∷ s) = octets k (suc i) s
 octets zero i (b ∷ s) = opened (char_at (b ∷ s)) i (λ k. octets k (suc i) s)
 

@@ -1,2 +1,2 @@
-pub mod Ascii
 pub mod Passed
+pub mod Sized

@@ -15,38 +15,29 @@ use ascii::past_ascii;
 use sequences::sequence;
 use threes::past_threes;
 
-#[derive(Drop)]
-pub enum Verdict {
-    Good,
-    // Where the first bad sequence begins.
-    Bad(usize),
-}
-
 // Past the characters that mostly follow one of n bytes: behind ASCII more of it, then three-byte ones; behind three bytes more of these.
 fn past_alike(s: &[u8], at: usize, n: usize) -> usize
     requires { at ≤ length s.now }
     ensures { Passed s.now at result }
 {
-    if n == 1 {
-        return past_threes(s, past_ascii(s, at));
+    match n {
+        1 => past_threes(s, past_ascii(s, at)),
+        3 => past_threes(s, at),
+        _ => at,
     }
-    if n == 3 {
-        return past_threes(s, at);
-    }
-    at
 }
 
-// Good, or the first byte of the first bad sequence.
-pub fn check(s: &[u8]) -> Verdict
+// Whether a text is good; the error is the place where its first bad sequence begins. The place is counted, since a turn passes a
+// character and all that are like it.
+pub fn check(s: &[u8]) -> Result<(), usize>
     ensures { result ≡ verdict s.now }
 {
     let mut i: usize = 0;
     while i < s.len() {
-        let n = sequence(s, i);
-        if n == 0 {
-            return Verdict::Bad(i);
-        }
+        let Some(n) = sequence(s, i) else {
+            return Err(i);
+        };
         i = past_alike(s, i + n, n);
     }
-    Verdict::Good
+    Ok(())
 }

@@ -6,14 +6,12 @@ ghost use Rattle.std.specs.Prelude.{◌≡◌, length};
 ghost use Rattle.utf8.specs.Rfc3629.{verdict};
 ghost use Rattle.utf8_alone.specs.Alone.{good_bytes};
 
-use utf8::Verdict;
-
 // How many bytes are good: all, or those before the first bad sequence.
 pub fn utf8_alone(text: &[u8]) -> usize
     ensures { result ≡ good_bytes (verdict text.now) (length text.now) }
 {
     match utf8::check(text) {
-        Verdict::Good => text.len(),
-        Verdict::Bad(place) => place,
+        Ok(()) => text.len(),
+        Err(place) => place,
     }
 }

@@ -1,5 +1,6 @@
 -- An accepted message with another Via in its place, one that keeps Via's rule, is accepted again, with the same facts (`via-changed`): frame says that
 -- the text is JSON, with its tag and all other members as they were, and the reading goes by those alone. Assumes nothing.
+use Rattle.std.proofs.Common.{Ok}
 use Rattle.fields.proofs.SpellingLaws.{left_cut}
 use Prim.Native.Nat.{ℕ, zero, suc, ◌+◌, ◌-◌, ◌≤◌, ◌<◌}
 use Rattle.frame.proofs.Forwarding.{Changed}
@@ -11,7 +12,6 @@ use Rattle.fields.specs.Value.{word_spelled}
 use Rattle.fields.specs.Via.{via_rule}
 use Rattle.rules.specs.Names.{fields, tags}
 use Rattle.utf8.specs.Rfc3629.{verdict}
-use Rattle.utf8.specs.declared.Verdict.TheVariants as verdicts
 use Rattle.message.proofs.AcceptedRows.{Accepted}
 use Rattle.message.proofs.AlikeLaws.{AlikeAt, neither, both, Alike, field-there, alike-accepted}
 use Rattle.message.proofs.MemberLaws.{fields-few, tag_of_lem, members_of, pairs_once, via_where, shape}
@@ -138,7 +138,7 @@ module _ {s : List ℕ} {tag : ℕ} {t : List ℕ} (a : Accepted s tag t) (s' v 
       ∙ sym c.again.place
 
   -- THE LAW
-  pub via-changed : via_rule v ≡ true → 1 ≤ length s' → length s' ≤ 32768 → verdict s' ≡ verdicts.Good → Again s tag t s'
+  pub via-changed : via_rule v ≡ true → 1 ≤ length s' → length s' ≤ 32768 → verdict s' ≡ Ok tt → Again s tag t s'
   unfolding places'
   via-changed r x y u = record {
     t' = places';

@@ -1,4 +1,5 @@
 -- Via of an accepted message edited: our entry added (`entry-added`), the last object taken off (`entry-removed`). Assumes nothing.
+use Rattle.std.proofs.Common.{Ok}
 use Rattle.octets.proofs.TextLaws.{there}
 use Prim.Native.Nat.{ℕ, ◌≤◌}
 use Rattle.frame.proofs.ArrayEdits.{Solids, front, back, items-split, items-grow, grow, grow₁, grow-solid, grow-values, prior, gap, front-gap, items-shrink, shrink, shrink₁}
@@ -11,7 +12,6 @@ use Rattle.json_text.proofs.Listing.{Item, items, values}
 use Rattle.json_text.specs.Places.{bytes, behind, elements}
 use Rattle.fields.specs.Via.{via_rule}
 use Rattle.utf8.specs.Rfc3629.{verdict}
-use Rattle.utf8.specs.declared.Verdict.TheVariants.{Good}
 use Rattle.message.proofs.AcceptedRows.{Accepted, good-sound, is-kept}
 use Rattle.message.specs.Message.{first_setting}
 use Rattle.message.proofs.AlikeLaws.{field-there}
@@ -130,13 +130,13 @@ module _ {s : List ℕ} {tag : ℕ} {t : List ℕ} (a : Accepted s tag t) where
         let is = via-array.is in
         text-is ∙ ap (λ (l : List ℕ). ahead ++ (91 ∷ l)) (items-split i is rest) ∙ sym (append_assoc ahead (91 ∷ front i is) (back i is ++ (93 ∷ rest)))
 
-    added-good : verdict (added s (get_or t 6 0) (entry h d o)) ≡ Good
+    added-good : verdict (added s (get_or t 6 0) (entry h d o)) ≡ Ok tt
     added-good =
         let i = via-array.i in
         let is = via-array.is in
         let f = ahead ++ (91 ∷ front i is) in
         let l = back i is ++ (93 ∷ rest) in
-        let g : verdict (f ++ l) ≡ Good = subst (λ (x : List ℕ). verdict x ≡ Good) old-text a.utf in
+        let g : verdict (f ++ l) ≡ Ok tt = subst (λ (x : List ℕ). verdict x ≡ Ok tt) old-text a.utf in
         rw added-text (utf_insert f (44 ∷ entry h d o) l (back-front 5 i is rest via-array.solid) g (entry-good h d o k))
 
     -- THE LAW: the message with our entry is accepted again
@@ -169,7 +169,7 @@ module _ {s : List ℕ} {tag : ℕ} {t : List ℕ} (a : Accepted s tag t) where
           value-apart s (shape a).x (shape a).y (via_where a).n (get_or t 6 0) (via-member a)
           ∙ ap (λ (v : List ℕ). ahead ++ (v ++ rest)) e ∙ ap (λ (l : List ℕ). ahead ++ (91 ∷ l)) (items-append i (j ∷ js) rest)
 
-      removed-good-by : verdict (removed s (get_or t 6 0)) ≡ Good
+      removed-good-by : verdict (removed s (get_or t 6 0)) ≡ Ok tt
       removed-good-by =
           let f = ahead ++ (91 ∷ prior i j js) in
           let l = back i (j ∷ js) ++ (93 ∷ rest) in
@@ -178,10 +178,10 @@ module _ {s : List ℕ} {tag : ℕ} {t : List ℕ} (a : Accepted s tag t) where
           ∙ sym (append_assoc ahead (91 ∷ prior i j js) (gap i j js ++ l)) in
           let y : removed s (get_or t 6 0) ≡ f ++ l = ap (removed s) (sym ahead-long) ∙ ap (λ (z : List ℕ). removed z (length ahead)) text-by ∙ removed-is 5 ahead i j js rest h
           ∙ ap (λ (z : List ℕ). ahead ++ (91 ∷ z)) (items-shrink i j js rest) ∙ sym (append_assoc ahead (91 ∷ prior i j js) l) in
-          rw y (utf-remove f (gap i j js) l (gap-front 5 i j js h) (back-front 5 i (j ∷ js) rest h) (subst (λ (z : List ℕ). verdict z ≡ Good) x a.utf))
+          rw y (utf-remove f (gap i j js) l (gap-front 5 i j js h) (back-front 5 i (j ∷ js) rest h) (subst (λ (z : List ℕ). verdict z ≡ Ok tt) x a.utf))
 
     removed-by : (i : Item) (is : List Item) → bytes s (get_or t 6 0) ≡ 91 ∷ items i is [] → Solids 5 i is → AllHops (values (i ∷ is)) → length (values (i ∷ is)) ≤ 16
-        → 2 ≤ length (values (i ∷ is)) → (via_rule (removed (bytes s (get_or t 6 0)) 0) ≡ true) × (verdict (removed s (get_or t 6 0)) ≡ Good)
+        → 2 ≤ length (values (i ∷ is)) → (via_rule (removed (bytes s (get_or t 6 0)) 0) ≡ true) × (verdict (removed s (get_or t 6 0)) ≡ Ok tt)
     removed-by i [] e h k m n = absurd (omega arith)
     removed-by i (j ∷ js) e h k m n = (removed-rule-by i j js e h k m, removed-good-by i j js e h k m)
 

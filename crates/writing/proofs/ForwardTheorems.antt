@@ -11,12 +11,12 @@ use Rattle.message.specs.Message.{setting_of, message_of}
 use Rattle.message.specs.Reading.{ample, reading}
 use Rattle.message.specs.declared.facts.Message.{Message}
 use Rattle.fields.specs.declared.spans.Span.{Span}
-use Rattle.message.specs.declared.reading.Reading.TheVariants.{Read}
 use Rattle.message.proofs.AcceptedRows.{Accepted, accepted-read, read_taken}
 use Rattle.message.proofs.AlikeLaws.{SameFacts, same_bytes, alike-facts}
 use Rattle.writing.proofs.ChangeLaws.{Again}
 use Rattle.writing.proofs.ForwardLaws.{forward-all, added-again, reduce-all, removed-again}
 use Rattle.message.proofs.MemberLaws.{shape, via_where}
+use Rattle.std.specs.Prelude.{Result, Ok, Err}
 use Rattle.writing.proofs.OutcomeLaws.{stood, Added, was-added, TakenOff, was-taken}
 use Rattle.writing.proofs.PartLaws.{last_in, prior-last}
 use Rattle.writing.proofs.PutLaws.{halves}
@@ -27,10 +27,7 @@ use Rattle.writing.specs.Outcome.{Outcome, answered, Writes}
 use Rattle.writing.specs.Removing.{removing, host_in, host_shown, Took, next_hop}
 use Rattle.writing.specs.Objects.{objects}
 use Rattle.writing.specs.declared.answers.Refusal.{Refusal}
-use Rattle.writing.specs.declared.answers.Removed.TheVariants as removals
-use Rattle.writing.specs.declared.answers.Removed.{Removed}
-use Rattle.writing.specs.declared.answers.Written.TheVariants.{Done, Refused}
-use Rattle.writing.specs.declared.answers.Written.{Written}
+use Rattle.writing.specs.declared.answers.Taken.{Taken}
 use lib.ListN.{length, get_or, take, drop, length-append}
 use mathlib.Core.Bool.{true}
 use mathlib.Core.List.{List, [], ◌∷◌, ◌++◌}
@@ -47,7 +44,7 @@ pub record SameValues (s : List ℕ) (m : Message) (s' : List ℕ) (m' : Message
 -- s' is the message s, read as m, with v for its Via value: it is accepted, with the same facts, and every byte outside that value is as it was
 pub record Edited (s : List ℕ) (m : Message) (s' v : List ℕ) : Type 0 where
   pub message : Message
-  pub read : reading ample s' ≡ Read message
+  pub read : reading ample s' ≡ Ok message
   pub facts : SameFacts m message
   pub values : SameValues s m s' message
   pub via : message.via ≡ m.via
@@ -110,8 +107,8 @@ forwarded_by s h d o w e l =
     subst (λ (x : List ℕ). Forwarded s e.m (entry h d o) x) (sym q) (subst (λ (m : Message). Forwarded s m (entry h d o) (added s (get_or t 6 0) (entry h d o))) a.is f)
 
 -- THEOREM: what `add` writes is forwarded as document 01 says
-pub add_forwards : (s h d g : List ℕ) {o : List ℕ} {n : ℕ} {o' : List ℕ} → Writes o (adding s h d g) (Done n) o'
-    → (m : Message) × ((reading ample s ≡ Read m) × Forwarded s m (entry h d g) (take n o'))
+pub add_forwards : (s h d g : List ℕ) {o : List ℕ} {n : ℕ} {o' : List ℕ} → Writes o (adding s h d g) (Ok n) o'
+    → (m : Message) × ((reading ample s ≡ Ok m) × Forwarded s m (entry h d g) (take n o'))
 add_forwards s h d g {o} {n} {o'} w =
     let x = stood w in
     let e = was-added s h d g x.w x.is in
@@ -148,37 +145,37 @@ returned_by s h d o w e l =
     subst (λ (x : List ℕ). Returned s e.m x) (sym q) (subst (λ (m : Message). Returned s m (removed s (get_or t 6 0))) a.is f)
 
 -- what `remove` answers, and what it writes
-done_of : (h : Span) (w : Written) (n a e : ℕ) → removals.Done n a e ≡ host_shown h w → (w ≡ Done n) × ((a ≡ h.start) × (e ≡ h.end))
-done_of h (Done k) n a e q = (let z : k ≡ n = cc in ap Done z, ((let z : a ≡ h.start = cc in z), (let z : e ≡ h.end = cc in z)))
-done_of h (Refused r) n a e q = absurd (let z : ◌≡◌ {A = ℕ} 0 1 = cc in omega arith)
+done_of : (h : Span) (w : Result ℕ Refusal) (t : Taken) → Ok t ≡ host_shown h w → (w ≡ Ok t.length) × (t.host ≡ h)
+done_of h (Ok k) t q = let z : ◌≡◌ {A = Taken} t (record { length = k; host = h }) = cc in (ap Ok (sym (ap (λ (x : Taken). x.length) z)), ap (λ (x : Taken). x.host) z)
+done_of h (Err r) t q = absurd (let z : ◌≡◌ {A = ℕ} 0 1 = cc in omega arith)
 
-pub took-wrote : {h : Span} {o : List ℕ} {x : Outcome} {n a e : ℕ} {o' : List ℕ} → Took o h x (removals.Done n a e) o' → Writes o x (Done n) o'
-took-wrote {h} {o} {x} {n} {a} {e} w = record { answer = sym (done_of h (answered (length o) x) n a e w.answer).0; output = w.output }
+pub took-wrote : {h : Span} {o : List ℕ} {x : Outcome} {t : Taken} {o' : List ℕ} → Took o h x (Ok t) o' → Writes o x (Ok t.length) o'
+took-wrote {h} {o} {x} {t} w = record { answer = sym (done_of h (answered (length o) x) t w.answer).0; output = w.output }
 
 -- THEOREM: what `remove` writes is the response less its last Via object, and the next host is that of the last one left
-pub remove_returns : (s h d g : List ℕ) {o : List ℕ} {n a e : ℕ} {o' : List ℕ} → Took o (host_in (reading ample s)) (removing s h d g) (removals.Done n a e) o'
-    → (m : Message) × ((reading ample s ≡ Read m) × (Returned s m (take n o') × (next_hop s (removals.Done n a e) ≡ host_of (last_in (objects (take n o') m.via)))))
-remove_returns s h d g {o} {n} {a} {e} {o'} w =
-    let q = done_of (host_in (reading ample s)) (answered (length o) (removing s h d g)) n a e w.answer in
+pub remove_returns : (s h d g : List ℕ) {o : List ℕ} {t : Taken} {o' : List ℕ} → Took o (host_in (reading ample s)) (removing s h d g) (Ok t) o'
+    → (m : Message) × ((reading ample s ≡ Ok m) × (Returned s m (take t.length o') × (next_hop s (Ok t) ≡ host_of (last_in (objects (take t.length o') m.via)))))
+remove_returns s h d g {o} {t} {o'} w =
+    let q = done_of (host_in (reading ample s)) (answered (length o) (removing s h d g)) t w.answer in
     let x = stood (took-wrote w) in
     let k = was-taken s h d g x.w x.is in
     let r = subst (λ (z : List ℕ). Returned s k.m z) (sym x.front) (returned_by s h d g x.w k x.short) in
     let v = host_of_lem s k.m k.read in
     let p = trail-passed s k.m k.read (omega (arith, k.response)) in
-    let f : part s a e ≡ host_of (bytes s (prev_of (elements s k.m.via))) = ap (λ (i : ℕ). part s i e) (q.1.0 ∙ ap (λ (j : Span). j.start) v)
-    ∙ ap (part s k.m.trail.host.start) (q.1.1 ∙ ap (λ (j : Span). j.end) v) ∙ p.host (omega (arith, k.two, p.count)) in
+    let f : part s t.host.start t.host.end ≡ host_of (bytes s (prev_of (elements s k.m.via))) =
+    ap (λ (j : Span). part s j.start j.end) (q.1 ∙ v) ∙ p.host (omega (arith, k.two, p.count)) in
     (k.m, (k.read, (r, f ∙ ap host_of (sym (ap last_in r.objects ∙ prior-last (bytes s) (elements s k.m.via) k.two)))))
 
 -- THEOREM: on refusal the part is empty
-pub refused-empty : (s : List ℕ) (r : Refusal) → next_hop s (removals.Refused r) ≡ []
+pub refused-empty : (s : List ℕ) (r : Refusal) → next_hop s (Err r) ≡ []
 refused-empty s r = refl
 
 -- THEOREMS: each contract determines answer and output
-pub wrote-determined : {o : List ℕ} {x : Outcome} {r₁ r₂ : Written} {o₁ o₂ : List ℕ} → Writes o x r₁ o₁ → Writes o x r₂ o₂ → (r₁ ≡ r₂) × (o₁ ≡ o₂)
+pub wrote-determined : {o : List ℕ} {x : Outcome} {r₁ r₂ : Result ℕ Refusal} {o₁ o₂ : List ℕ} → Writes o x r₁ o₁ → Writes o x r₂ o₂ → (r₁ ≡ r₂) × (o₁ ≡ o₂)
 wrote-determined a b = (a.answer ∙ sym b.answer, a.output ∙ sym b.output)
 
-pub took-determined : {o : List ℕ} {h : Span} {x : Outcome} {r₁ r₂ : Removed} {o₁ o₂ : List ℕ} → Took o h x r₁ o₁ → Took o h x r₂ o₂ → (r₁ ≡ r₂) × (o₁ ≡ o₂)
+pub took-determined : {o : List ℕ} {h : Span} {x : Outcome} {r₁ r₂ : Result Taken Refusal} {o₁ o₂ : List ℕ} → Took o h x r₁ o₁ → Took o h x r₂ o₂ → (r₁ ≡ r₂) × (o₁ ≡ o₂)
 took-determined a b = (a.answer ∙ sym b.answer, a.output ∙ sym b.output)
 
-pub next-hop-determined : (s : List ℕ) (r : Removed) {p₁ p₂ : List ℕ} → p₁ ≡ next_hop s r → p₂ ≡ next_hop s r → p₁ ≡ p₂
+pub next-hop-determined : (s : List ℕ) (r : Result Taken Refusal) {p₁ p₂ : List ℕ} → p₁ ≡ next_hop s r → p₂ ≡ next_hop s r → p₁ ≡ p₂
 next-hop-determined s r a b = a ∙ sym b

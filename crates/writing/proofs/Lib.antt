@@ -1,4 +1,3 @@
-pub mod Bounds
 pub mod ChangeLaws
 pub mod EntryLaws
 pub mod Example

@@ -34,13 +34,13 @@ use Rattle.rules.specs.Pieces.{digits, word_number_from, reads, run_length, deci
 use Rattle.rules.specs.Sequence as sequence
 use Rattle.rules.specs.Sequence.{number_end, sequence_of, sequence_rule}
 use Rattle.rules.specs.Texts.{call_id_rule, destination_rule, host_rule, organization_rule}
+use Rattle.std.specs.Prelude.{Ok, Err}
 use Rattle.utf8.specs.Rfc3629.{begins, char_at, goes_on, octets}
 use Rattle.writing.specs.Adding.{add_to, adding, entry, path_rule}
 use Rattle.writing.specs.Objects.{is_ours, some}
 use Rattle.writing.specs.Outcome.{answered, fitted, output_left, put, refuse, write}
 use Rattle.writing.specs.Texting.{texting}
 use Rattle.writing.specs.declared.answers.Refusal.TheVariants.{Broken, Full, Long, Loop, Room}
-use Rattle.writing.specs.declared.answers.Written.TheVariants.{Done, Refused}
 use lib.ListN.{replicate}
 use mathlib.Core.Bool.{true}
 use mathlib.Core.List.{List, ◌++◌}
@@ -100,9 +100,9 @@ by-texts = (refl, refl, refl)
 
 -- 39, result over 32,768; 33, output shorter than the result
 pub answers :
-    (answered 40000 (write (replicate 32768 97)) ≡ Done 32768)
-    × (answered 40000 (write (replicate 32769 97)) ≡ Refused Long)
-    × (answered 32767 (write (replicate 32768 97)) ≡ Refused Room)
+    (answered 40000 (write (replicate 32768 97)) ≡ Ok 32768)
+    × (answered 40000 (write (replicate 32769 97)) ≡ Err Long)
+    × (answered 32767 (write (replicate 32768 97)) ≡ Err Room)
 unfolding fitted
 answers = (refl, refl, refl)
 

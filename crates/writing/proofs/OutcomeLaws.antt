@@ -4,8 +4,8 @@ use Rattle.frame.specs.Edit.{added, removed}
 use Rattle.json_text.specs.Places.{bytes, elements, last_of}
 use Rattle.message.specs.Reading.{ample, reading}
 use Rattle.message.specs.declared.facts.Message.{Message}
-use Rattle.message.specs.declared.reading.Reading.TheVariants as readings
-use Rattle.message.specs.declared.reading.Reading.{Reading}
+use Rattle.std.specs.Prelude.{Ok, Err}
+use Rattle.message.specs.Refusal.{Reading}
 use Rattle.octets.specs.Splice.{written}
 use Rattle.octets.proofs.TestLaws.{or-none}
 use Rattle.rules.specs.Date.{date_rule}
@@ -16,7 +16,6 @@ use Rattle.writing.specs.Reply.{reply_of, unanswered, wrong_code, reply_to, repl
 use Rattle.writing.specs.Objects.{is_ours, some, objects}
 use Rattle.writing.specs.declared.answers.Refusal.TheVariants.{Path, Kind, Code, Date, Loop, Full, Few, Foreign, Long, Room}
 use Rattle.writing.specs.declared.answers.Refusal.{Refusal}
-use Rattle.writing.specs.declared.answers.Written.TheVariants.{Done, Refused}
 use borrow.Author.Tests.{le-leb, ltb-false, eqb-true, eqb-false, not-false}
 use lib.Dec.{eqb, ltb}
 use lib.ListN.{length, take, drop}
@@ -35,11 +34,11 @@ pub record Stood (o : List ℕ) (x : Outcome) (n : ℕ) (o' : List ℕ) : Type 0
   pub front : take n o' ≡ w
   pub behind : drop n o' ≡ drop n o
 
-not_done : {A : Type 0} {r : Refusal} {n : ℕ} → Refused r ≡ Done n → A
+not_done : {A : Type 0} {r : Refusal} {n : ℕ} → Err r ≡ Ok n → A
 not_done e = absurd (let z : ◌≡◌ {A = ℕ} 0 1 = cc in omega arith)
 
 fitted-done : (room : ℕ) (w : List ℕ) (n : ℕ) (a b : Bool) → ltb 32768 (length w) ≡ a → ltb room (length w) ≡ b
-    → cond a (Refused Long) (cond b (Refused Room) (Done (length w))) ≡ Done n → (length w ≤ 32768) × ((length w ≤ room) × (n ≡ length w))
+    → cond a (Err Long) (cond b (Err Room) (Ok (length w))) ≡ Ok n → (length w ≤ 32768) × ((length w ≤ room) × (n ≡ length w))
 fitted-done room w n true b f g e = not_done e
 fitted-done room w n false true f g e = not_done e
 fitted-done room w n false false f g e = (ltb-false 32768 (length w) f, (ltb-false room (length w) g, (let z : length w ≡ n = cc in sym z)))
@@ -48,7 +47,7 @@ put-fits : (o w : List ℕ) → length w ≤ 32768 → length w ≤ length o →
 unfolding put
 put-fits o w h g = rw (le-leb (length w) 32768 h, le-leb (length w) (length o) g)
 
-stood-by : (o : List ℕ) (x : Outcome) (n : ℕ) (o' : List ℕ) → Done n ≡ answered (length o) x → o' ≡ output_left o x → Stood o x n o'
+stood-by : (o : List ℕ) (x : Outcome) (n : ℕ) (o' : List ℕ) → Ok n ≡ answered (length o) x → o' ≡ output_left o x → Stood o x n o'
 unfolding fitted written
 stood-by o (refuse r) n o' e f = not_done (sym e)
 stood-by o (write w) n o' e f =
@@ -63,11 +62,11 @@ stood-by o (write w) n o' e f =
       behind = rw (g, r.1.1) (drop-append_seam w (drop (length w) o));
     }
 
-pub stood : {o : List ℕ} {x : Outcome} {n : ℕ} {o' : List ℕ} → Writes o x (Done n) o' → Stood o x n o'
+pub stood : {o : List ℕ} {x : Outcome} {n : ℕ} {o' : List ℕ} → Writes o x (Ok n) o' → Stood o x n o'
 stood {o} {x} {n} {o'} h = stood-by o x n o' h.answer h.output
 
 -- so that front is what was to be written
-pub written-front : {o : List ℕ} {x : Outcome} {n : ℕ} {o' : List ℕ} → Writes o x (Done n) o' → (x ≡ write (take n o')) × (length (take n o') ≤ 32768)
+pub written-front : {o : List ℕ} {x : Outcome} {n : ℕ} {o' : List ℕ} → Writes o x (Ok n) o' → (x ≡ write (take n o')) × (length (take n o') ≤ 32768)
 written-front h = let w = stood h in (w.is ∙ ap write (sym w.front), omega (arith, w.short, ap length w.front))
 
 -- what is written was not refused
@@ -78,9 +77,9 @@ pub past_test : (b : Bool) (r : Refusal) (x : Outcome) (w : List ℕ) → cond b
 past_test true r x w e = not_written e
 past_test false r x w e = (refl, e)
 
-pub was_read : (x : Reading) (f : Message → Outcome) (w : List ℕ) → on_read x f ≡ write w → (m : Message) × ((x ≡ readings.Read m) × (f m ≡ write w))
-was_read (readings.Refused n p) f w e = not_written e
-was_read (readings.Read m) f w e = (m, (refl, e))
+pub was_read : (x : Reading) (f : Message → Outcome) (w : List ℕ) → on_read x f ≡ write w → (m : Message) × ((x ≡ Ok m) × (f m ≡ write w))
+was_read (Err r) f w e = not_written e
+was_read (Ok m) f w e = (m, (refl, e))
 
 write-is : {v w : List ℕ} → write v ≡ write w → v ≡ w
 write-is e = cc
@@ -88,7 +87,7 @@ write-is e = cc
 -- a reply
 pub record Replied (s : List ℕ) (code : ℕ) (date w : List ℕ) : Type 0 where
   pub m : Message
-  pub read : reading ample s ≡ readings.Read m
+  pub read : reading ample s ≡ Ok m
   pub request : m.tag ≡ 1
   pub listed : wrong_code code m.method ≡ false
   pub day : date_rule date ≡ true
@@ -112,7 +111,7 @@ was_replied s code date w e =
 pub record Added (s h d o w : List ℕ) : Type 0 where
   pub path : path_rule h d o ≡ true
   pub m : Message
-  pub read : reading ample s ≡ readings.Read m
+  pub read : reading ample s ≡ Ok m
   pub request : m.tag ≡ 1
   pub new : some (is_ours h d) (objects s m.via) ≡ false
   pub few : length (elements s m.via) ≡ 16 → ⊥
@@ -141,7 +140,7 @@ was-added s h d o w e =
 pub record TakenOff (s h d o w : List ℕ) : Type 0 where
   pub path : path_rule h d o ≡ true
   pub m : Message
-  pub read : reading ample s ≡ readings.Read m
+  pub read : reading ample s ≡ Ok m
   pub response : m.tag ≡ 2
   pub two : 2 ≤ length (elements s m.via)
   pub ours : is_ours h d (bytes s (last_of (elements s m.via))) ≡ true

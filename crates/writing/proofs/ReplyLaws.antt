@@ -13,7 +13,6 @@ use Rattle.json_text.proofs.Listing.{Field, Fine, Fines, items, item, body, entr
 use Rattle.json_text.proofs.ScanLaws.{Opener, Opened}
 use Rattle.json_text.specs.inner.Machine.{answer}
 use Rattle.json_text.specs.Places.{bytes, behind, past, raw, value_of, members, elements, spell}
-use Rattle.json_text.specs.declared.Walked.TheVariants.{End}
 use Rattle.fields.specs.Field.{keeps}
 use Rattle.message.specs.Shape.{tag_of, object_of}
 use Rattle.fields.specs.Value.{is_string, ruled, word_spelled}
@@ -24,7 +23,6 @@ use Rattle.rules.specs.Address.{address_rule}
 use Rattle.rules.specs.Names.{tags}
 use Rattle.rules.specs.Pieces.{word_number_from}
 use Rattle.utf8.specs.Rfc3629.{verdict}
-use Rattle.utf8.specs.declared.Verdict.TheVariants.{Good}
 use Rattle.message.proofs.AcceptedRows.{Accepted, good-sound, is-kept}
 use Rattle.message.specs.Message.{first_setting}
 use Rattle.message.proofs.AlikeLaws.{field-there, tag-asks}
@@ -44,6 +42,7 @@ use mathlib.Core.List.{List, [], ◌∷◌, ◌++◌, append_assoc, map}
 use mathlib.Core.Logic.{◌⊎◌, inl, inr}
 use mathlib.Core.Path.{◌≡◌, refl, sym, ap, subst, ◌∙◌}
 use native.Mathlib.Omega.{arith}
+use Rattle.std.specs.Prelude.{Ok}
 
 -- a member without white space
 abbrev pub field_of : List ℕ → List ℕ → Field
@@ -93,7 +92,7 @@ around-fine = record {
 
 -- what is known of a reply's text
 pub record Shown (w : List ℕ) (status cseq to from call date via : List ℕ) : Type 0 where
-  pub json : answer w ≡ End (length w)
+  pub json : answer w ≡ Ok (length w)
   pub tagged : tag_of w ≡ 2
   pub read : members_of w ≡ read_all (status₇ status cseq to from call date via ∷ rest₇ status cseq to from call date via)
   pub object : object_of w ≡ 12
@@ -232,7 +231,7 @@ ruled-string rule v e = eqb-true (get_or v 0 0) 34 (and_parts (eqb (get_or v 0 0
 -- what is known of a value that a reply copies
 pub record Copied (v : List ℕ) : Type 0 where
   pub piece : Piece 6 v
-  pub utf : verdict v ≡ Good
+  pub utf : verdict v ≡ Ok tt
 
 opener_low : (b : ℕ) → Opener b → b < 128
 opener_low b (inl e) = omega arith
@@ -252,7 +251,7 @@ module _ {s : List ℕ} {tag : ℕ} {t : List ℕ} (a : Accepted s tag t) (n : �
       record {
         piece = p;
         utf = utf-part (take (get_or t n 0) s) (bytes s (get_or t n 0)) (drop (behind s (get_or t n 0)) s) (opened-front (bytes s (get_or t n 0)) p.opened)
-            (value-followed s (shape a).x (shape a).y (field_where a n h g).n (get_or t n 0) m) (subst (λ (x : List ℕ). verdict x ≡ Good) e a.utf);
+            (value-followed s (shape a).x (shape a).y (field_where a n h g).n (get_or t n 0) m) (subst (λ (x : List ℕ). verdict x ≡ Ok tt) e a.utf);
       }
 
   kept_field : keeps (first_setting tag) n (bytes s (get_or t n 0)) ≡ true

@@ -1,6 +1,7 @@
 -- THEOREMS on replies: what `reply` writes is accepted by the reading as a response with the status code given; its members are the seven of document 01,
 -- in its order, with the Date given and CSeq, To, From, Call-ID and Via byte for byte the request's. And where nothing is refused, the reply to a
 -- forwarded request, less our entry, is the reply to the original. Over the public contracts of `reply`, `add` and `remove`. Assumes nothing.
+use Rattle.std.proofs.Common.{Ok}
 use Prim.Native.Nat.{ℕ, zero, suc, ◌≤◌, ◌<◌}
 use Rattle.escapes.specs.Rfc7159 as strings
 use Rattle.escapes.specs.Rfc7159.{is_broken, letter_of, letters_from, lone, spelt, took}
@@ -19,7 +20,7 @@ use Rattle.message.specs.Reading.{ample, reading}
 use Rattle.message.specs.Shape.{object_of}
 use Rattle.fields.specs.Value.{is_string, text_of, freely, ruled, word_spelled}
 use Rattle.message.specs.declared.facts.Message.{Message}
-use Rattle.message.specs.declared.reading.Reading.TheVariants.{Read}
+use Rattle.std.specs.Prelude.{Ok}
 use Rattle.octets.specs.Ascii.{ascii}
 use Rattle.octets.specs.Class.{all}
 use Rattle.octets.specs.Text.{same}
@@ -31,7 +32,6 @@ use Rattle.rules.specs.Pieces.{word_number_from}
 use Rattle.rules.specs.Status.{listed, status_text, status_rule}
 use Rattle.utf8.proofs.Join.{join, ascii-good}
 use Rattle.utf8.specs.Rfc3629.{verdict}
-use Rattle.utf8.specs.declared.Verdict.TheVariants.{Good}
 use Rattle.message.proofs.AcceptedRows.{Accepted, Sound, accepted-read, read_taken, same-message, sound-good}
 use Rattle.message.proofs.AcceptedVia.{via-keeps}
 use Rattle.writing.proofs.EntryLaws.{quoted-text, quoted-ruled, entry-piece}
@@ -52,8 +52,7 @@ use Rattle.writing.specs.Outcome.{write, Writes}
 use Rattle.writing.specs.Removing.{removing, host_in, Took}
 use Rattle.writing.specs.Reply.{reply_text, reply_of, wrong_code, replying}
 use Rattle.writing.specs.Objects.{objects}
-use Rattle.writing.specs.declared.answers.Removed.TheVariants as removals
-use Rattle.writing.specs.declared.answers.Written.TheVariants.{Done}
+use Rattle.writing.specs.declared.answers.Taken.{Taken}
 use borrow.Author.Tests.{ne_eqb, ltb-true, ltb-false, not-false}
 use lib.Dec.{eqb, ltb}
 use lib.ListN.{length, get_or, take}
@@ -78,7 +77,7 @@ seven_of s m code date =
 -- w is the reply to the request s, read as m, and is read back
 pub record ReadBack (s : List ℕ) (m : Message) (code : ℕ) (date w : List ℕ) : Type 0 where
   pub message : Message
-  pub read : reading ample w ≡ Read message
+  pub read : reading ample w ≡ Ok message
   pub response : message.tag ≡ 2
   pub status : message.status ≡ code
   pub method : message.method ≡ m.method
@@ -274,7 +273,7 @@ module _ {s t : List ℕ} (a : Accepted s 1 t) (code : ℕ) (date : List ℕ) (o
     unfolding disagrees setting_of
     agree = rw (method-same, number_same, from-same, to_same, code_is, sides-agree, fit)
 
-    good : verdict text ≡ Good
+    good : verdict text ≡ Ok tt
     unfolding reply_text all
     good =
         join (ascii "[\"response\",{\"Status\":\"") _ (ascii-good _ refl)
@@ -380,8 +379,8 @@ read-back-by s code date w e l =
     (replied_at s a.t e.m code date e.m.tag e.request a.accepted a.is e.listed e.day (omega (arith, ap length e.is)))
 
 -- THEOREM: what `reply` writes is read back
-pub reply-read-back : (s : List ℕ) (code : ℕ) (date : List ℕ) {o : List ℕ} {n : ℕ} {o' : List ℕ} → Writes o (replying s code date) (Done n) o'
-    → (m : Message) × ((reading ample s ≡ Read m) × ReadBack s m code date (take n o'))
+pub reply-read-back : (s : List ℕ) (code : ℕ) (date : List ℕ) {o : List ℕ} {n : ℕ} {o' : List ℕ} → Writes o (replying s code date) (Ok n) o'
+    → (m : Message) × ((reading ample s ≡ Ok m) × ReadBack s m code date (take n o'))
 reply-read-back s code date {o} {n} {o'} w =
     let x = stood w in
     let e = was_replied s code date x.w x.is in
@@ -401,7 +400,7 @@ unfolding text_at
 reply-same-texts b = let v = b.values in record { cseq = ap text_of v.cseq; to = ap text_of v.to; from = ap text_of v.from; call = ap text_of v.call; via = b.objects }
 
 -- The reply to a forwarded request, less our entry.
-one-read : (s : List ℕ) (a b : Message) → reading ample s ≡ Read a → reading ample s ≡ Read b → a ≡ b
+one-read : (s : List ℕ) (a b : Message) → reading ample s ≡ Ok a → reading ample s ≡ Ok b → a ≡ b
 one-read s a b e f = same-message (sym e ∙ f)
 
 undone-at : {s t : List ℕ} {tag : ℕ} (a : Accepted s tag t) (p q z : List ℕ) → Piece 5 z → (es : List ℕ) → elements s (get_or t 6 0) ≡ es
@@ -414,7 +413,7 @@ via-is : (s : List ℕ) (tag : ℕ) (t : List ℕ) (m : Message) → message_of 
 unfolding message_of
 via-is s tag t m e = ap (λ (x : Message). x.via) e
 
-undone : (s : List ℕ) (m : Message) → reading ample s ≡ Read m → m.tag ≤ 2 → (p q z : List ℕ) → Piece 5 z
+undone : (s : List ℕ) (m : Message) → reading ample s ≡ Ok m → m.tag ≤ 2 → (p q z : List ℕ) → Piece 5 z
     → removed (p ++ (added (bytes s m.via) 0 z ++ q)) (length p) ≡ p ++ (bytes s m.via ++ q)
 undone s m e l p q z g =
     let a = read_taken ample s m e l in
@@ -453,15 +452,15 @@ reply-less-ours s h d g code date s' w' w w₀ e₁ l₁ e₂ l₂ e₃ e₄ =
     ∙ sym (k.is ∙ ap (λ (j : Message). reply_of s j code date) v)
 
 -- the same of what the functions write
-pub returned_reply : (s h d g : List ℕ) (code : ℕ) (date : List ℕ) {o₁ o₂ o₃ o₄ : List ℕ} {n₁ n₂ n₃ n₄ a e : ℕ} {p₁ p₂ p₃ p₄ : List ℕ} → Writes o₁ (adding s h d g) (Done n₁) p₁
-    → Writes o₂ (replying (take n₁ p₁) code date) (Done n₂) p₂ → Took o₃ (host_in (reading ample (take n₂ p₂))) (removing (take n₂ p₂) h d g) (removals.Done n₃ a e) p₃
-    → Writes o₄ (replying s code date) (Done n₄) p₄ → take n₃ p₃ ≡ take n₄ p₄
-returned_reply s h d g code date {o₁} {o₂} {o₃} {o₄} {n₁} {n₂} {n₃} {n₄} {a} {e} {p₁} {p₂} {p₃} {p₄} w₁ w₂ w₃ w₄ =
+pub returned_reply : (s h d g : List ℕ) (code : ℕ) (date : List ℕ) {o₁ o₂ o₃ o₄ : List ℕ} {n₁ n₂ n₄ : ℕ} {t₃ : Taken} {p₁ p₂ p₃ p₄ : List ℕ} → Writes o₁ (adding s h d g) (Ok n₁) p₁
+    → Writes o₂ (replying (take n₁ p₁) code date) (Ok n₂) p₂ → Took o₃ (host_in (reading ample (take n₂ p₂))) (removing (take n₂ p₂) h d g) (Ok t₃) p₃
+    → Writes o₄ (replying s code date) (Ok n₄) p₄ → take t₃.length p₃ ≡ take n₄ p₄
+returned_reply s h d g code date {o₁} {o₂} {o₃} {o₄} {n₁} {n₂} {n₄} {t₃} {p₁} {p₂} {p₃} {p₄} w₁ w₂ w₃ w₄ =
     let x₁ = written-front w₁ in
     let x₂ = written-front w₂ in
     let x₃ = written-front (took-wrote w₃) in
     let x₄ = written-front w₄ in
-    reply-less-ours s h d g code date (take n₁ p₁) (take n₂ p₂) (take n₃ p₃) (take n₄ p₄) x₁.0 x₁.1 x₂.0 x₂.1 x₃.0 x₄.0
+    reply-less-ours s h d g code date (take n₁ p₁) (take n₂ p₂) (take t₃.length p₃) (take n₄ p₄) x₁.0 x₁.1 x₂.0 x₂.1 x₃.0 x₄.0
 
 -- THEOREM: a writer of one fixed text is shut out: one text is the reply to requests with the same values only, and with one code
 pub reply-tells : {s : List ℕ} {m : Message} {code : ℕ} {date w s₂ : List ℕ} {m₂ : Message} {code₂ : ℕ} {date₂ : List ℕ} → ReadBack s m code date w → ReadBack s₂ m₂ code₂ date₂ w

@@ -16,7 +16,7 @@ use Rattle.fields.specs.Trail.{host_span, host_start, host_end, trail_of, trail_
 use Rattle.fields.specs.Via.{hop_places, is_hop}
 use Rattle.message.specs.declared.facts.Message.{Message}
 use Rattle.fields.specs.declared.trails.Trail.{Trail}
-use Rattle.message.specs.declared.reading.Reading.TheVariants.{Read}
+use Rattle.std.specs.Prelude.{Ok}
 use Rattle.octets.proofs.TestLaws.{and_parts}
 use Rattle.octets.specs.Class.{all}
 use Rattle.message.proofs.AcceptedRows.{Accepted, read_taken}
@@ -166,7 +166,7 @@ module _ {s : List ℕ} {tag : ℕ} {t : List ℕ} (a : Accepted s tag t) where
   trail-read = trail-found
 
 -- what the reading says of a request's or a response's Via
-pub trail-passed : (s : List ℕ) (m : Message) → reading ample s ≡ Read m → m.tag ≤ 2 → Passed s m.via m.trail
+pub trail-passed : (s : List ℕ) (m : Message) → reading ample s ≡ Ok m → m.tag ≤ 2 → Passed s m.via m.trail
 trail-passed s m e l = let a = read_taken ample s m e l in rw (← a.is) (trail-read a.accepted)
 
 -- Whether one object of those is ours: the objects qs of s are still to come.

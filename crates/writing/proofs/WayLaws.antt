@@ -5,9 +5,9 @@ use Rattle.json_text.specs.Places.{bytes}
 use Rattle.message.specs.Reading.{ample, reading}
 use Rattle.message.specs.declared.facts.Message.{Message}
 use Rattle.fields.specs.declared.spans.Span.{Span}
-use Rattle.message.specs.declared.reading.Reading.TheVariants as readings
 use Rattle.rules.specs.Date.{date_rule}
 use Rattle.rules.specs.Status.{status_text}
+use Rattle.std.specs.Prelude.{Result, Ok, Err}
 use Rattle.writing.proofs.TrailLaws.{Passed}
 use Rattle.writing.specs.Adding.{entry, path_rule, add_to, adding}
 use Rattle.writing.specs.Outcome.{Outcome, refuse, write, Writes}
@@ -15,11 +15,9 @@ use Rattle.writing.specs.Removing.{remove_from, removing, host_in, Took}
 use Rattle.writing.specs.Reply.{reply_of, reply_text, unanswered, wrong_code, reply_to, replying}
 use Rattle.writing.specs.Objects.{objects, is_ours, some}
 use Rattle.writing.specs.declared.answers.Refusal.TheVariants.{Path, Kind, Code, Date, Loop, Full, Few, Foreign}
+use Rattle.message.specs.declared.refusals.Refusal.{Refusal as Unread}
 use Rattle.writing.specs.declared.answers.Refusal.{Refusal}
-use Rattle.writing.specs.declared.answers.Removed.TheVariants as removals
-use Rattle.writing.specs.declared.answers.Removed.{Removed}
-use Rattle.writing.specs.declared.answers.Written.TheVariants as writings
-use Rattle.writing.specs.declared.answers.Written.{Written}
+use Rattle.writing.specs.declared.answers.Taken.{Taken}
 use borrow.Author.Tests.{eq-eqb, ne_eqb, lt-ltb, le-ltb}
 use lib.ListN.{take, drop}
 use mathlib.Core.Bool.{Bool, true, false}
@@ -27,10 +25,10 @@ use mathlib.Core.List.{List, ◌∷◌, ◌++◌}
 use mathlib.Core.Path.{◌≡◌, ◌∙◌}
 
 -- what is refused leaves the output
-pub refused_as : (o : List ℕ) (r : Refusal) {x : Outcome} → x ≡ refuse r → Writes o x (writings.Refused r) o
+pub refused_as : (o : List ℕ) (r : Refusal) {x : Outcome} → x ≡ refuse r → Writes o x (Err r) o
 refused_as o r e = record { answer = rw e; output = rw e }
 
-pub wrote_as : {o : List ℕ} {x y : Outcome} {r : Written} {o' : List ℕ} → x ≡ y → Writes o y r o' → Writes o x r o'
+pub wrote_as : {o : List ℕ} {x y : Outcome} {r : Result ℕ Refusal} {o' : List ℕ} → x ≡ y → Writes o y r o' → Writes o x r o'
 wrote_as e w = record { answer = w.answer ∙ rw e; output = w.output ∙ rw e }
 
 -- the reply
@@ -54,13 +52,13 @@ module _ (s : List ℕ) (m : Message) (code : ℕ) (date : List ℕ) where
       unfolding reply_to reply_of
       a-reply e f₁ f₂ f₃ f₄ f₅ = rw (a, b, e, f₁, f₂, f₃, f₄, f₅)
 
-  pub reply_of_lem : reading ample s ≡ readings.Read m → replying s code date ≡ reply_to s m code date
+  pub reply_of_lem : reading ample s ≡ Ok m → replying s code date ≡ reply_to s m code date
   unfolding replying
   reply_of_lem e = rw e
 
-pub reply-none : (s : List ℕ) (code : ℕ) (date : List ℕ) (n p : ℕ) → reading ample s ≡ readings.Refused n p → replying s code date ≡ refuse Kind
+pub reply-none : (s : List ℕ) (code : ℕ) (date : List ℕ) (e : Unread) → reading ample s ≡ Err e → replying s code date ≡ refuse Kind
 unfolding replying
-reply-none s code date n p e = rw e
+reply-none s code date e q = rw q
 
 -- adding
 module _ (s : List ℕ) (m : Message) (host destination organization : List ℕ) where
@@ -89,19 +87,19 @@ module _ (s host destination organization : List ℕ) where
   bad-path e = rw e
 
   module _ (k : path_rule host destination organization ≡ true) where
-    pub add_none : (n p : ℕ) → reading ample s ≡ readings.Refused n p → adding s host destination organization ≡ refuse Kind
+    pub add_none : (e : Unread) → reading ample s ≡ Err e → adding s host destination organization ≡ refuse Kind
     unfolding adding
-    add_none n p e = rw (k, e)
+    add_none e q = rw (k, q)
 
-    pub add_of : (m : Message) → reading ample s ≡ readings.Read m → adding s host destination organization ≡ add_to s m host destination organization
+    pub add_of : (m : Message) → reading ample s ≡ Ok m → adding s host destination organization ≡ add_to s m host destination organization
     unfolding adding
     add_of m e = rw (k, e)
 
 -- removing
-pub took-refused : (o : List ℕ) (h : Span) (r : Refusal) {x : Outcome} → x ≡ refuse r → Took o h x (removals.Refused r) o
+pub took-refused : (o : List ℕ) (h : Span) (r : Refusal) {x : Outcome} → x ≡ refuse r → Took o h x (Err r) o
 took-refused o h r e = record { answer = rw e; output = rw e }
 
-pub took_as : {o : List ℕ} {h h' : Span} {x y : Outcome} {r : Removed} {o' : List ℕ} → h ≡ h' → x ≡ y → Took o h' y r o' → Took o h x r o'
+pub took_as : {o : List ℕ} {h h' : Span} {x y : Outcome} {r : Result Taken Refusal} {o' : List ℕ} → h ≡ h' → x ≡ y → Took o h' y r o' → Took o h x r o'
 took_as e f w = record { answer = w.answer ∙ rw (e, f); output = w.output ∙ rw f }
 
 module _ (s : List ℕ) (m : Message) (host destination : List ℕ) where
@@ -124,12 +122,12 @@ module _ (s : List ℕ) (m : Message) (host destination : List ℕ) where
         unfolding remove_from removed
         a-removing = rw (eq-eqb m.tag 2 a, ← w.count, le-ltb m.trail.count 2 b, ← w.last, ← f, e, ← (w.seam b), ← w.end)
 
-        pub took-done : {o : List ℕ} {n : ℕ} {z : Written} {o' : List ℕ} → z ≡ writings.Done n → Writes o (write (take m.trail.seam s ++ drop m.trail.end s)) z o'
-            → Took o m.trail.host (remove_from s m host destination) (removals.Done n m.trail.host.start m.trail.host.end) o'
+        pub took-done : {o : List ℕ} {n : ℕ} {z : Result ℕ Refusal} {o' : List ℕ} → z ≡ Ok n → Writes o (write (take m.trail.seam s ++ drop m.trail.end s)) z o'
+            → Took o m.trail.host (remove_from s m host destination) (Ok (record { length = n; host = m.trail.host })) o'
         took-done i g = record { answer = rw (a-removing, ← g.answer, i); output = g.output ∙ rw a-removing }
 
-        pub took-not : {o : List ℕ} {y : Refusal} {z : Written} {o' : List ℕ} → z ≡ writings.Refused y → Writes o (write (take m.trail.seam s ++ drop m.trail.end s)) z o'
-            → Took o m.trail.host (remove_from s m host destination) (removals.Refused y) o'
+        pub took-not : {o : List ℕ} {y : Refusal} {z : Result ℕ Refusal} {o' : List ℕ} → z ≡ Err y → Writes o (write (take m.trail.seam s ++ drop m.trail.end s)) z o'
+            → Took o m.trail.host (remove_from s m host destination) (Err y) o'
         took-not i g = record { answer = rw (a-removing, ← g.answer, i); output = g.output ∙ rw a-removing }
 
 module _ (s host destination organization : List ℕ) where
@@ -138,13 +136,13 @@ module _ (s host destination organization : List ℕ) where
   wrong-path e = rw e
 
   module _ (k : path_rule host destination organization ≡ true) where
-    pub remove-none : (n p : ℕ) → reading ample s ≡ readings.Refused n p → removing s host destination organization ≡ refuse Kind
+    pub remove-none : (e : Unread) → reading ample s ≡ Err e → removing s host destination organization ≡ refuse Kind
     unfolding removing
-    remove-none n p e = rw (k, e)
+    remove-none e q = rw (k, q)
 
-    pub remove_of : (m : Message) → reading ample s ≡ readings.Read m → removing s host destination organization ≡ remove_from s m host destination
+    pub remove_of : (m : Message) → reading ample s ≡ Ok m → removing s host destination organization ≡ remove_from s m host destination
     unfolding removing
     remove_of m e = rw (k, e)
 
-pub host_of_lem : (s : List ℕ) (m : Message) → reading ample s ≡ readings.Read m → host_in (reading ample s) ≡ m.trail.host
+pub host_of_lem : (s : List ℕ) (m : Message) → reading ample s ≡ Ok m → host_in (reading ample s) ≡ m.trail.host
 host_of_lem s m e = rw e

@@ -8,7 +8,7 @@ use Rattle.rules.proofs.PlainLaws.{are_plain, is_plain, plain_byte, word_at}
 use Rattle.rules.specs.Pieces as pieces
 use Rattle.rules.specs.Pieces.{digits, decimal_at, reads}
 use Rattle.rules.specs.Status.{codes, texts, index_in, listed, status_text, status_rule, status_of}
-use Rattle.rules.specs.declared.statuses.Status.TheVariants.{Code}
+use Rattle.std.specs.Prelude.{Some}
 use borrow.Author.Tests.{eqb-true, le-ltb, ltb-true}
 use lib.Dec.{eqb}
 use lib.ListN.{length, get_or}
@@ -73,6 +73,6 @@ status-right code e =
 pub status-kept : (code : ℕ) → listed code ≡ true → status_rule (status_text code) ≡ true
 status-kept code e = (status-right code e).0
 
-pub status-code : (code : ℕ) → listed code ≡ true → status_of (status_text code) ≡ Code code
+pub status-code : (code : ℕ) → listed code ≡ true → status_of (status_text code) ≡ Some code
 unfolding status_of
-status-code code e = rw (status-right code e).0 (ap Code (status-right code e).1)
+status-code code e = rw (status-right code e).0 (ap Some (status-right code e).1)

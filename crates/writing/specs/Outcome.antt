@@ -1,14 +1,11 @@
 -- What becomes of a writing (01 Writing): the number of a refusal, the last two refusals, which go by the result's length, the answer, and the
 -- output after it. Cited by the contracts of the entries and of what they write with. Assumes nothing.
-use Rattle.std.specs.Prelude.{ℕ, leb, ltb, length, ◌&&◌, cond, List, ◌≡◌}
+use Rattle.std.specs.Prelude.{ℕ, leb, ltb, length, ◌&&◌, cond, List, ◌≡◌, Result, Ok, Err}
 use Rattle.message.specs.declared.facts.Message.{Message}
-use Rattle.message.specs.declared.reading.Reading.TheVariants as readings
-use Rattle.message.specs.declared.reading.Reading.{Reading}
+use Rattle.message.specs.Refusal.{Reading}
 use Rattle.octets.specs.Splice.{written}
 use Rattle.writing.specs.declared.answers.Refusal.TheVariants.{Path, Kind, Code, Date, Loop, Full, Few, Foreign, Long, Room, Broken}
 use Rattle.writing.specs.declared.answers.Refusal.{Refusal}
-use Rattle.writing.specs.declared.answers.Written.TheVariants.{Done, Refused}
-use Rattle.writing.specs.declared.answers.Written.{Written}
 
 -- the paper's number of a refusal; 9 is a text's alone (02 §2)
 abbrev pub writing_number : Refusal → ℕ
@@ -31,16 +28,16 @@ pub data Outcome : Type 0 where
 
 -- 30: what is not accepted by the reading is refused; else f of what is read
 abbrev pub on_read : Reading → (Message → Outcome) → Outcome
-on_read (readings.Refused n p) f = refuse Kind
-on_read (readings.Read m) f = f m
+on_read (Err e) f = refuse Kind
+on_read (Ok m) f = f m
 
 -- into an output of so many bytes: 39, the result is over 32,768; 33, the output is shorter than the result; or done
-unfoldable pub fitted : ℕ → List ℕ → Written
-fitted room w = cond (ltb 32768 (length w)) (Refused Long) (cond (ltb room (length w)) (Refused Room) (Done (length w)))
+unfoldable pub fitted : ℕ → List ℕ → Result ℕ Refusal
+fitted room w = cond (ltb 32768 (length w)) (Err Long) (cond (ltb room (length w)) (Err Room) (Ok (length w)))
 
 -- the answer
-abbrev pub answered : ℕ → Outcome → Written
-answered room (refuse r) = Refused r
+abbrev pub answered : ℕ → Outcome → Result ℕ Refusal
+answered room (refuse r) = Err r
 answered room (write w) = fitted room w
 
 -- the output with the result at its front, if it fits; bytes past the result stay
@@ -53,6 +50,6 @@ output_left o (refuse r) = o
 output_left o (write w) = put o w
 
 -- answer and output of a writing into o
-pub record Writes (o : List ℕ) (x : Outcome) (r : Written) (o' : List ℕ) : Type 0 where
+pub record Writes (o : List ℕ) (x : Outcome) (r : Result ℕ Refusal) (o' : List ℕ) : Type 0 where
   pub answer : r ≡ answered (length o) x
   pub output : o' ≡ output_left o x

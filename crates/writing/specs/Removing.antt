@@ -1,23 +1,20 @@
 -- 01 Writing, taking our Via entry off a response, and the next host. The contract of `remove` cites `Took`, `host_in` and `removing`, that of
 -- `next_hop` `next_hop`. Assumes nothing.
-use Rattle.std.specs.Prelude.{ℕ, eqb, ltb, length, not, cond, List, [], ◌≡◌}
+use Rattle.std.specs.Prelude.{ℕ, eqb, ltb, length, not, cond, List, [], ◌≡◌, Result, Ok, Err}
 use Rattle.frame.specs.Edit.{removed}
 use Rattle.json_text.specs.Places.{bytes, elements, part, last_of}
 use Rattle.message.specs.Reading.{ample, reading}
 use Rattle.fields.specs.Spans.{nowhere}
 use Rattle.message.specs.declared.facts.Message.{Message}
 use Rattle.fields.specs.declared.spans.Span.{Span}
-use Rattle.message.specs.declared.reading.Reading.TheVariants as readings
-use Rattle.message.specs.declared.reading.Reading.{Reading}
+use Rattle.message.specs.Refusal.{Reading}
 use Rattle.writing.specs.Adding.{path_rule}
 use Rattle.writing.specs.Outcome.{Outcome, refuse, write, on_read, answered, output_left}
 use Rattle.writing.specs.Objects.{is_ours}
 use Rattle.writing.specs.declared.answers.Refusal.TheVariants.{Path, Kind, Few, Foreign}
-use Rattle.writing.specs.declared.answers.Removed.TheVariants as removals
-use Rattle.writing.specs.declared.answers.Removed.{Removed}
-use Rattle.writing.specs.declared.answers.Written.TheVariants as writings
-use Rattle.writing.specs.declared.answers.Written.{Written}
+use Rattle.writing.specs.declared.answers.Taken.{Taken}
 use Rattle.rules.specs.Numbers.{tag_response}
+use Rattle.writing.specs.declared.answers.Refusal.{Refusal}
 
 -- 30 (not a response, tag 2), 37 (fewer than two objects), 36 (the last has another host or destination), and the message less what stands
 -- from the end of the last but one Via object to the end of the last
@@ -35,20 +32,20 @@ removing s host destination organization =
 
 -- where the host of the last but one Via object stands in what is read; `host_shown` has it only where there are two
 abbrev pub host_in : Reading → Span
-host_in (readings.Refused n p) = nowhere
-host_in (readings.Read m) = m.trail.host
+host_in (Err e) = nowhere
+host_in (Ok m) = m.trail.host
 
 -- the answer, where that host stands at h
-abbrev pub host_shown : Span → Written → Removed
-host_shown h (writings.Done n) = removals.Done n h.start h.end
-host_shown h (writings.Refused r) = removals.Refused r
+abbrev pub host_shown : Span → Result ℕ Refusal → Result Taken Refusal
+host_shown h (Ok n) = Ok (record { length = n; host = h })
+host_shown h (Err r) = Err r
 
 -- answer and output, where x is what becomes of the response on its way into o, and its next host stands at h
-pub record Took (o : List ℕ) (h : Span) (x : Outcome) (r : Removed) (o' : List ℕ) : Type 0 where
+pub record Took (o : List ℕ) (h : Span) (x : Outcome) (r : Result Taken Refusal) (o' : List ℕ) : Type 0 where
   pub answer : r ≡ host_shown h (answered (length o) x)
   pub output : o' ≡ output_left o x
 
 -- the next host, as a part of the message itself; on refusal the part is empty
-abbrev pub next_hop : List ℕ → Removed → List ℕ
-next_hop s (removals.Done n a e) = part s a e
-next_hop s (removals.Refused r) = []
+abbrev pub next_hop : List ℕ → Result Taken Refusal → List ℕ
+next_hop s (Ok t) = part s t.host.start t.host.end
+next_hop s (Err r) = []

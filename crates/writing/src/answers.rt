@@ -1,63 +1,69 @@
-// What the writer answers (01 Writing): how long the result is, or why there is none.
-// The paper's number of each refusal is a definition of specs/Outcome.antt; `number` gives it.
+// What the writer answers (01 Writing): `Ok` with how many bytes of the output are the result, or why there is none, and the output is as it was.
 ghost use Rattle.std.specs.Prelude.{◌≡◌};
 ghost use Rattle.writing.specs.Outcome.{writing_number};
 
-#[derive(Clone, Copy)]
+use fields::Span;
+use std::error::Error;
+use std::fmt;
+
+// Why there is none, by the numbers of document 01; 9 is a text's alone (02 §2).
+#[derive(Clone, Copy, Debug, PartialEq, Eq)]
 pub enum Refusal {
-    // 38: our own path breaks the Via rules.
-    Path,
-    // 30: not an accepted request (ACK too, for a reply) or response.
-    Kind,
-    // 31: the code is not listed, or 202 without REFER.
-    Code,
-    // 32: a bad Date.
-    Date,
-    // 34: our host and destination in one Via object.
-    Loop,
-    // 35: sixteen objects.
-    Full,
-    // 37: fewer than two.
-    Few,
-    // 36: the last has another host or destination.
-    Foreign,
-    // 39: the result is over 32,768 bytes.
-    Long,
-    // 33: the output is shorter than the result.
-    Room,
-    // 9: a lone surrogate is in the text.
-    Broken,
+    // Our own path breaks the Via rules.
+    Path = 38,
+    // Not an accepted request (ACK too, for a reply) or response.
+    Kind = 30,
+    // The code is not listed, or 202 without REFER.
+    Code = 31,
+    // A bad Date.
+    Date = 32,
+    // Our host and destination in one Via object.
+    Loop = 34,
+    // Sixteen objects.
+    Full = 35,
+    // Fewer than two.
+    Few = 37,
+    // The last has another host or destination.
+    Foreign = 36,
+    // The result is over 32,768 bytes.
+    Long = 39,
+    // The output is shorter than the result.
+    Room = 33,
+    // A lone surrogate is in the text.
+    Broken = 9,
 }
 
-// How many bytes of the output are the result; or refused, and the output as it was.
-#[derive(Drop)]
-pub enum Written {
-    Done(usize),
-    Refused(Refusal),
+impl fmt::Display for Refusal {
+    fn fmt<W: fmt::Write>(&self, f: &mut fmt::Formatter<W>) -> fmt::Result {
+        f.write_str(match self {
+            Refusal::Path => "our own path breaks the Via rules",
+            Refusal::Kind => "not an accepted request or response, or a reply to an ACK",
+            Refusal::Code => "the code is not listed, or 202 without REFER",
+            Refusal::Date => "a bad Date",
+            Refusal::Loop => "our host and destination are in one Via object",
+            Refusal::Full => "sixteen Via objects",
+            Refusal::Few => "fewer than two Via objects",
+            Refusal::Foreign => "the last Via object has another host or destination",
+            Refusal::Long => "the result is over 32,768 bytes",
+            Refusal::Room => "the output is shorter than the result",
+            Refusal::Broken => "a lone surrogate is in the text",
+        })
+    }
 }
 
-// The same, and where the next host begins and ends in the message.
+impl Error for Refusal {}
+
+// An entry taken off: how many bytes of the output are the result, and where the next host stands in the message.
 #[derive(Clone, Copy)]
-pub enum Removed {
-    Done(usize, usize, usize),
-    Refused(Refusal),
+pub struct Taken {
+    pub length: usize,
+    pub host: Span,
 }
 
-// The number of a refusal in document 01; 9 is a text's alone (02 §2).
-pub fn number(r: Refusal) -> u8
-    ensures { result ≡ writing_number r }
-{
-    match r {
-        Refusal::Path => 38,
-        Refusal::Kind => 30,
-        Refusal::Code => 31,
-        Refusal::Date => 32,
-        Refusal::Loop => 34,
-        Refusal::Full => 35,
-        Refusal::Few => 37,
-        Refusal::Foreign => 36,
-        Refusal::Long => 39,
-        Refusal::Room => 33,
-        Refusal::Broken => 9,
+impl From<Refusal> for u8 {
+    ghost from_gives = { λ r n. n ≡ writing_number r };
+
+    fn from(r: Refusal) -> u8 {
+        r as u8
     }
 }

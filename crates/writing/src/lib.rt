@@ -7,11 +7,13 @@
 mod answers;
 mod edits;
 mod objects;
+mod paths;
 mod putting;
 mod replies;
 mod texts;
 
-pub use answers::{Refusal, Removed, Written, number};
+pub use answers::{Refusal, Taken};
 pub use edits::{add, next_hop, remove};
+pub use paths::Path;
 pub use replies::reply;
 pub use texts::text;

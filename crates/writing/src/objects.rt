@@ -2,35 +2,35 @@
 ghost use Rattle.std.specs.Prelude.{◌≡◌, ◌<◌, length};
 ghost use Rattle.writing.specs.Objects.{is_ours, objects, some};
 
+use crate::paths::Path;
 use escapes::spells;
 use fields::{hop_of, spelling_of};
 use json_text::{element_at, part, skip, value_part};
-use octets::{and, byte};
+use octets::byte;
 
 // Whether the object x has this host and this destination.
-pub fn is_ours(x: &[u8], host: &[u8], destination: &[u8]) -> bool
-    ensures { result ≡ is_ours host.now destination.now x.now }
+pub fn is_ours(x: &[u8], path: Path) -> bool
+    ensures { result ≡ is_ours path.entry.host.now path.entry.destination.now x.now }
 {
     let h = hop_of(x);
     let its_host = spelling_of(value_part(x, h.host));
     let its_destination = spelling_of(value_part(x, h.destination));
-    and(spells(its_host, host), spells(its_destination, destination))
+    spells(its_host, path.host) && spells(its_destination, path.destination)
 }
 
 // Whether one of the objects of the Via that opens at v is ours.
-pub fn has_ours(s: &[u8], v: usize, host: &[u8], destination: &[u8]) -> bool
+pub fn has_ours(s: &[u8], v: usize, path: Path) -> bool
     requires { v < length s.now }
-    ensures { result ≡ some (is_ours host.now destination.now) (objects s.now v) }
+    ensures { result ≡ some (is_ours path.entry.host.now path.entry.destination.now) (objects s.now v) }
 {
     if byte(s, skip(s, v + 1)) == b']' {
         return false;
     }
     let mut p = v + 1;
-    let mut n = s.len();
-    while 0 < n {
+    for _ in 0..s.len() {
         let q = skip(s, p);
         let e = element_at(s, q);
-        if is_ours(part(s, q, e.end), host, destination) {
+        if is_ours(part(s, q, e.end), path) {
             return true;
         }
         let then = e.then;
@@ -38,7 +38,6 @@ pub fn has_ours(s: &[u8], v: usize, host: &[u8], destination: &[u8]) -> bool
             return false;
         }
         p = then + 1;
-        n -= 1;
     }
     false
 }

@@ -1,14 +1,27 @@
-// Two parts at once: what every text here is made of.
-ghost use Rattle.std.specs.Prelude.{◌++◌, ◌≡◌, ◌+◌, ◌≤◌, length};
-ghost use Rattle.octets.specs.Splice.{splice};
+// A text is a list of parts: what every result here is written by.
+ghost use Rattle.writing.specs.Outcome.{Writes, write};
+ghost use Rattle.writing.specs.Parts.{joined};
 
+use crate::answers::Refusal;
 use octets::put;
 
-// Copies two parts into `out`, one after the other, from index `at` on, and answers the index behind them.
-pub fn put_both(out: &mut [u8], at: usize, first: &[u8], second: &[u8]) -> usize
-    requires { at + length (first.now ++ second.now) ≤ length out.old }
-    ensures { (result ≡ at + length (first.now ++ second.now)) × (out.new ≡ splice out.old at (first.now ++ second.now)) }
+// Writes the parts one after the other, if they fit.
+pub fn put_parts(out: &mut [u8], parts: &[&[u8]]) -> Result<usize, Refusal>
+    ensures { Writes out.old (write (joined parts.now)) result out.new }
 {
-    let p = put(out, at, first);
-    put(out, p, second)
+    let mut total = 0;
+    for part in parts {
+        total += part.len();
+        if 32768 < total {
+            return Err(Refusal::Long);
+        }
+    }
+    if out.len() < total {
+        return Err(Refusal::Room);
+    }
+    let mut at = 0;
+    for part in parts {
+        at = put(out, at, part);
+    }
+    Ok(at)
 }

@@ -2,23 +2,22 @@
 ghost use Rattle.writing.specs.Outcome.{Writes};
 ghost use Rattle.writing.specs.Texting.{texting};
 
-use crate::answers::{Refusal, Written};
+use crate::answers::Refusal;
 use escapes::{decode, measure};
 
 // Writes the text that the bytes s between a string's quotes spell into `out`.
-pub fn text(out: &mut [u8], s: &[u8]) -> Written
+pub fn text(out: &mut [u8], s: &[u8]) -> Result<usize, Refusal>
     ensures { Writes out.old (texting s.now) result out.new }
 {
     let m = measure(s);
-    let length = m.length;
     if m.broken {
-        return Written::Refused(Refusal::Broken);
+        return Err(Refusal::Broken);
     }
-    if 32768 < length {
-        return Written::Refused(Refusal::Long);
+    if 32768 < m.length {
+        return Err(Refusal::Long);
     }
-    if out.len() < length {
-        return Written::Refused(Refusal::Room);
+    if out.len() < m.length {
+        return Err(Refusal::Room);
     }
-    Written::Done(decode(s, out))
+    Ok(decode(s, out))
 }

@@ -1,10 +1,8 @@
 -- Inner: what the numbers of a record in use meet (01 The table image, 'Well-formed'); `decided-sound` in `proofs/Soundness.antt` says that the rule
 -- keeps it. Tied to `table`'s `fields_sound`, which the paper's words are, by `sound-call` and `sound-fields` in keeper's `proofs/FactLaws.antt`.
 -- Assumes nothing.
-use Rattle.std.specs.Prelude.{◌≡◌, ◌≤◌, ◌<◌}
+use Rattle.std.specs.Prelude.{◌≡◌, ◌≤◌, ◌<◌, Option, Some, None}
 use Rattle.call.specs.declared.records.Call.{Call}
-use Rattle.call.specs.declared.records.Held.{Held}
-use Rattle.call.specs.declared.records.Held.TheVariants.{Nothing, Is}
 use Rattle.call.specs.declared.records.After.{After}
 use Rattle.call.specs.declared.records.After.TheVariants.{Same, Set, Free}
 use Rattle.call.specs.declared.events.Event.{Event}
@@ -28,9 +26,9 @@ pub record Sound (c : Call) : Type 0 where
   pub last_fits : c.last < 18446744073709551616
 
 -- of the record that an event finds: none, or a sound one
-abbrev pub SoundHeld : Held → Type 0
-SoundHeld Nothing = Unit
-SoundHeld (Is c) = Sound c
+abbrev pub SoundHeld : Option Call → Type 0
+SoundHeld None = Unit
+SoundHeld (Some c) = Sound c
 
 -- of what becomes of a record: where it is set, it is sound
 abbrev pub SoundAfter : After → Type 0

@@ -2,9 +2,10 @@
 -- `over` and `goes_on` of proofs/GatherLaws.antt, ties it to `noted` and `repeated` in Known.antt; and where the object is shut, by the brackets that are open
 -- (`shut` of proofs/ClosingLaws.antt). Assumes nothing.
 use Prim.Native.Char.{code}
-use Rattle.std.specs.Prelude.{ℕ, ◌+◌, ◌<◌, eqb, drop, get_or, replicate, Bool, ◌&&◌, ◌||◌, cond, List, [], ◌∷◌, map, ◌≡◌}
+use Rattle.std.specs.Prelude.{ℕ, ◌+◌, ◌<◌, eqb, drop, get_or, replicate, Bool, ◌&&◌, ◌||◌, cond, List, [], ◌∷◌, map, ◌≡◌, MatchOption, None, Option, Some}
 use Rattle.fields.specs.Known.{empty, has, note, noted, repeated}
 use Rattle.fields.specs.declared.hops.Members.{Members}
+use Rattle.fields.specs.declared.hops.Value.{Value}
 use Rattle.json_text.specs.Places.{behind, left, members, outside, past}
 
 -- t with the values of these members, up to the first repeat
@@ -30,12 +31,23 @@ ends_of s t = map (end_at s) t
 pub record Ended (s t e : List ℕ) : Type 0 where
   pub ends : (n : ℕ) → 0 < get_or e n 0 → get_or e n 0 ≡ behind s (get_or t n 0)
 
--- the places of host, destination and organization by number, as `noted` lists them: where the values begin, and where they end
-abbrev pub places_in : Members → List ℕ
-places_in m = 0 ∷ (m.host.at ∷ (m.destination.at ∷ (m.organization.at ∷ replicate 23 0)))
+-- where a value begins; 0 for one that is missing
+abbrev pub begin_of : Option Value → ℕ
+begin_of None = 0
+begin_of (Some x) = x.at
 
-abbrev pub ends_in : Members → List ℕ
-ends_in m = 0 ∷ (m.host.end ∷ (m.destination.end ∷ (m.organization.end ∷ replicate 23 0)))
+-- a value that is there begins behind the first byte of v, and ends where v says
+abbrev pub Found : List ℕ → Option Value → Type 0
+Found v o = MatchOption o (Unit {0}) (λ x. (0 < x.at) × (x.end ≡ behind v x.at))
+
+pub record AllFound (v : List ℕ) (m : Members) : Type 0 where
+  pub host : Found v m.host
+  pub destination : Found v m.destination
+  pub organization : Found v m.organization
+
+-- the places of host, destination and organization by number, as `noted` lists them
+abbrev pub places_in : Members → List ℕ
+places_in m = 0 ∷ (begin_of m.host ∷ (begin_of m.destination ∷ (begin_of m.organization ∷ replicate 23 0)))
 
 -- of the object that opens at o nothing but its own brace is open at p
 pub record Open (v : List ℕ) (o p : ℕ) : Type 0 where

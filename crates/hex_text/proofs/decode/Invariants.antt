@@ -1,5 +1,4 @@
 -- The first bytes are decoded already. Assumes nothing.
-use Prim.Native.Nat.{◌-◌, ◌/◌, ◌≤◌}
 use Rattle.hex_text.proofs.decode.Given as goal
 use Rattle.hex_text.specs.Digits.{decoded}
 use Rattle.octets.specs.Splice.{written}
@@ -7,7 +6,4 @@ use lib.ListN.{length, take}
 use mathlib.Core.Path.{◌≡◌}
 
 abbrev pub invariant-loop-i : goal.invariant-loop-i
-invariant-loop-i l = (l.i ≤ length l.s / 2) × (length l.out ≡ length l.initial.out) × (l.out ≡ written l.initial.out (take l.i (decoded l.s)))
-
-abbrev pub decreases-loop-i : goal.decreases-loop-i
-decreases-loop-i l = length l.s / 2 - l.i
+invariant-loop-i l = (length l.out ≡ length l.initial.out) × (l.out ≡ written l.initial.out (take l.i (decoded l.s)))

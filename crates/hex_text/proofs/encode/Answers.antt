@@ -9,7 +9,7 @@ use mathlib.Core.Path.{◌≡◌, refl, sym, ◌∙◌}
 use native.Mathlib.Omega.{arith}
 
 pub loop-i-init : goal.loop-i-init
-loop-i-init c = (search rules, refl, written_none c.args.out.now (encoded c.args.s.now))
+loop-i-init c = (refl, written_none c.args.out.now (encoded c.args.s.now))
 
 pub digit-requires : goal.digit-requires
 digit-requires c = omega (arith, c.shared_slice_known-in-loop-i-1.given c.loop-i.i)
@@ -27,10 +27,9 @@ loop-i-preserved c =
     let z : 2 * (l.i + 1) ≡ 2 * l.i + 1 + 1 = omega arith in
     let n = length-encoded s in (
       search rules,
-      search rules,
       rw (
         z,
-        l.invariant.2,
+        l.invariant.1,
         written-more x.out.now (encoded s) (2 * l.i) c.digit.result (omega arith) (omega arith)
             (c.digit.ensures ∙ sym (encoded-high s l.i h)),
       )
@@ -42,4 +41,4 @@ returns c =
     let l = c.loop-i in
     let x = c.args in
     let all : 2 * l.i ≡ 2 * length x.s.now = omega arith in
-    (all, l.invariant.2 ∙ written_all x.out.now (encoded x.s.now) (2 * l.i) (rw (length-encoded x.s.now) all))
+    (refl, l.invariant.1 ∙ written_all x.out.now (encoded x.s.now) (2 * l.i) (rw (length-encoded x.s.now) all))

@@ -1,33 +1,20 @@
+-- Every byte, two for each byte. Assumes nothing.
 use Rattle.hex_text.proofs.is_hex.Goals as goal
 use Rattle.hex_text.specs.Digits.{is_hex, is_lower_hex}
-use Rattle.octets.proofs.ClassLaws.{all-ends, all_more, all-stops}
+use Rattle.octets.proofs.ClassLaws.{every}
+use Rattle.std.proofs.lemmas.Iterator.Search.{all_from_yields_List}
+use Rattle.std.proofs.lemmas.Iterator.{YieldsList-from_slice}
 use borrow.Author.Rules.{rules}
-use borrow.Author.Tests.{eq-eqb, ne_eqb, not-false, not-true}
-use mathlib.Core.Path.{refl, sym, ◌∙◌}
-use native.Mathlib.Omega.{arith}
+use borrow.Author.Tests.{eq-eqb, ne_eqb, tests}
+use mathlib.Core.Path.{◌∙◌}
 
-pub returns-then-s-ne0 : goal.returns-then-s-ne0
+pub returns-then-s-eq0 : goal.returns-then-s-eq0
 unfolding is_hex
-returns-then-s-ne0 c = rw (ne_eqb _ _ c.if-s-ne0.true)
-
-pub loop-i-init : goal.loop-i-init
-loop-i-init c = (search rules, c.if-s-ne0.false, refl)
-
-pub returns-then-not-is_hex_digit : goal.returns-then-not-is_hex_digit
-unfolding is_hex
-returns-then-not-is_hex_digit c =
-    let l = c.loop-i in
+returns-then-s-eq0 c =
     let s = c.args.s.now in
-    rw (eq-eqb _ _ l.invariant.1) (sym (l.invariant.2 ∙ all-stops is_lower_hex s l.i (omega arith) (sym c.is_hex_digit.ensures ∙ not-true _ c.if-not-is_hex_digit.true-raw)))
+    let e = all_from_yields_List is_lower_hex _ _ c.all.result c.all.ensures.ran (YieldsList-from_slice s cc) (λ x b q k. search (rules, tests)) in
+    rw (eq-eqb _ _ c.if-s-eq0.true) (e ∙ every is_lower_hex s)
 
-pub loop-i-preserved : goal.loop-i-preserved
-loop-i-preserved c =
-    let l = c.loop-i in
-    let s = c.args.s.now in
-    (search rules, l.invariant.1, l.invariant.2 ∙ all_more is_lower_hex s l.i (omega arith) (sym c.is_hex_digit.ensures ∙ not-false _ c.if-not-is_hex_digit.false-raw))
-
-pub returns : goal.returns
+pub returns-else-s-eq0 : goal.returns-else-s-eq0
 unfolding is_hex
-returns c =
-    let l = c.loop-i in
-    rw (eq-eqb _ _ l.invariant.1) (sym (l.invariant.2 ∙ all-ends is_lower_hex c.args.s.now l.i (omega arith)))
+returns-else-s-eq0 c = rw (ne_eqb _ _ c.if-s-eq0.false)

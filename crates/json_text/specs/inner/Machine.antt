@@ -1,13 +1,23 @@
 -- JSON as a machine that takes one byte at a time: where it stands (a Mode) and which arrays and objects are open (a Stack, innermost first).
 -- It is what the readers of src/ are proved against. Inner: `says` and `says-one` in proofs/AnswerLaws.antt say that its answer on a text
 -- is the true one, in the words of the grammar alone; Tour.antt puts a ceiling on it. Assumes nothing.
-use Rattle.std.specs.Prelude.{◌≡◌, Bool, true, false, not, ◌&&◌, ◌||◌, cond, List, [], ◌∷◌, ℕ, zero, suc, ◌+◌, ◌≤◌, ◌<◌, ◌-◌, length, drop, get_or, eqb, leb, ltb}
+use Rattle.std.specs.Prelude.{◌≡◌, Bool, true, false, not, ◌&&◌, ◌||◌, cond, List, [], ◌∷◌, ℕ, zero, suc, ◌+◌, ◌≤◌, ◌<◌, ◌-◌, length, drop, get_or, eqb, leb, ltb, Result, Ok, Err}
 use Prim.Native.Char.{code}
 use Rattle.octets.specs.Ascii.{ascii}
 use Rattle.octets.specs.Class.{is_digit, among}
 use Rattle.json_text.specs.Places.{is_ws}
-use Rattle.json_text.specs.declared.Walked.{Walked}
-use Rattle.json_text.specs.declared.Walked.TheVariants.{End, Bad, Deep}
+use Rattle.json_text.specs.declared.Fault.{Fault}
+use Rattle.json_text.specs.declared.Fault.TheVariants.{Bad, Deep, Many}
+
+-- an answer: the place behind what was read, or why there is none
+abbrev pub Walked : Type 0
+Walked = Result ℕ Fault
+
+-- where a fault lies
+abbrev pub spotted : Fault → ℕ
+spotted (Bad p) = p
+spotted (Deep p) = p
+spotted (Many p) = p
 
 -- what stands around a value
 pub data Stack : Type 0 where
@@ -174,22 +184,22 @@ over power = true
 
 -- the answer where the bytes stop
 abbrev pub ended : Bool → ℕ → Walked
-ended true i = End i
-ended false i = Bad i
+ended true i = Ok i
+ended false i = Err (Bad i)
 
 -- the bytes stop: a whole text, or one that stops short
 unfoldable pub stops : Mode → Stack → ℕ → Walked
 stops m (alone d) i = ended (over m) i
 stops m (text d) i = ended (over m) i
-stops m (arr k) i = Bad i
-stops m (obj k) i = Bad i
+stops m (arr k) i = Err (Bad i)
+stops m (obj k) i = Err (Bad i)
 
 -- byte i does n, and f answers on the bytes after it
 abbrev pub takes : Next → (Mode → Stack → ℕ → Walked) → ℕ → Walked
 takes (live m k) f i = f m k (i + 1)
-takes dead f i = Bad i
-takes deep f i = Deep i
-takes done f i = End i
+takes dead f i = Err (Bad i)
+takes deep f i = Err (Deep i)
+takes done f i = Ok i
 
 -- the machine's answer on bytes of which the first is byte i of the text
 unfoldable pub walk : List ℕ → Mode → Stack → ℕ → Walked
@@ -208,17 +218,15 @@ answer s = from s 0 value (text 8)
 abbrev pub one : ℕ → List ℕ → ℕ → Walked
 one d s a = from s a value (alone d)
 
--- a reader that came to its end hands on to the machine at m and k there; a place where it stopped is the answer
+-- a reader that came to its end hands on to the machine at m and k there; its fault is the answer
 abbrev pub onward : List ℕ → Mode → Stack → Walked → Walked
-onward s m k (End e) = from s e m k
-onward s m k (Bad p) = Bad p
-onward s m k (Deep p) = Deep p
+onward s m k (Ok e) = from s e m k
+onward s m k (Err f) = Err f
 
 -- where a reader came to its end or stopped
 abbrev pub place : Walked → ℕ
-place (End e) = e
-place (Bad p) = p
-place (Deep p) = p
+place (Ok e) = e
+place (Err f) = spotted f
 
 -- a leaf reader: it starts at byte a of s in mode m, and where it comes to its end it leaves the machine in m', with the same brackets open
 pub record Leaf (s : List ℕ) (a : ℕ) (m m' : Role → Mode) (r : Walked) : Type 0 where

@@ -1,6 +1,6 @@
 -- How many letters of a text begin what a rule allows, found letter by letter: `Theorems` of proofs/ says that it is the bad letter's place in every
 -- text that breaks the rule, in the words of BadLetter.antt. Behind a piece K goes on. Assumes nothing.
-use Rattle.std.specs.Prelude.{ℕ, zero, suc, ◌+◌, ◌-◌, ◌*◌, eqb, leb, ltb, length, Bool, true, not, ◌&&◌, ◌||◌, cond, List, [], ◌∷◌}
+use Rattle.std.specs.Prelude.{ℕ, zero, suc, ◌+◌, ◌-◌, ◌*◌, eqb, leb, ltb, length, max, Bool, true, not, ◌&&◌, ◌||◌, cond, List, [], ◌∷◌}
 use Rattle.octets.specs.Ascii.{ascii}
 use Rattle.octets.specs.Class.{among, is_digit}
 use Rattle.rules.specs.Address.{callee, caller}
@@ -71,13 +71,10 @@ count_reach hi K v [] = cond (ltb 0 v) (K []) 0
 count_reach hi K v (x ∷ u) =
     cond (is_digit x && among 1 hi (v * 10 + (x - 48))) (suc (count_reach hi K (v * 10 + (x - 48)) u)) (cond (ltb 0 v) (K (x ∷ u)) 0)
 
--- the higher of two places: of two rules, one of which is to be kept, the one that goes further decides; and so of some words
-unfoldable pub higher : ℕ → ℕ → ℕ
-higher a b = cond (leb b a) a b
-
+-- of two rules, one of which is to be kept, the one that goes further decides; and so of some words
 unfoldable pub words_reach : List (List ℕ) → List ℕ → ℕ
 words_reach [] t = 0
-words_reach (w ∷ ws) t = higher (common t w) (words_reach ws t)
+words_reach (w ∷ ws) t = max (common t w) (words_reach ws t)
 
 -- the text's end: no letter goes on
 unfoldable pub end_reach : List ℕ → ℕ
@@ -99,7 +96,7 @@ unfoldable pub sequence_reach : List ℕ → ℕ
 sequence_reach = reach_of sequence
 
 unfoldable pub address_reach : List ℕ → ℕ
-address_reach t = higher (reach_of caller t) (reach_of callee t)
+address_reach t = max (reach_of caller t) (reach_of callee t)
 
 -- Date: the days go by the year and the month that were read
 unfoldable pub day_reach : ℕ → ℕ → List ℕ → ℕ

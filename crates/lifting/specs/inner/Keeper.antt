@@ -1,9 +1,8 @@
 -- Inner: a table of records, a rule for one call, what an event does to the table, and the statement of the exchange, for any of each. Tied to the
 -- keeper's contracts and to `exchange`'s Sequence by `agrees` and `look_is` in exchange's `proofs/Agreement.antt`: with `ours` put in for the
 -- parameters, answers, tables and records are the keeper's. Assumes nothing.
-use Rattle.std.specs.Prelude.{ℕ, ◌<◌, ltb, length, Bool, true, false, cond, List, [], ◌∷◌, ◌++◌, ◌≡◌}
+use Rattle.std.specs.Prelude.{ℕ, ◌<◌, ltb, length, Bool, true, false, cond, List, [], ◌∷◌, ◌++◌, ◌≡◌, Option, Some, None}
 use Rattle.lifting.specs.inner.First.{first, count}
-use Rattle.std.proofs.Math.Option.{Option, none, some}
 
 -- What a table, its records, the events and the rule of one call are.
 --   names e: the call that the event e names, if it names one; mute e: the answer to an event that names none;
@@ -49,22 +48,22 @@ module _ (K : Keeper) where
 
   -- a call's record, looked up by its name
   abbrev pub look : Id → Tab → Option Rec
-  look i t = cond (ltb (place i t) (size t)) (some (at t (place i t))) none
+  look i t = cond (ltb (place i t) (size t)) (Some (at t (place i t))) None
 
   -- the answer, by the record before and after, and whether a new call is taken
   abbrev pub reply : Option Rec → Option Rec → Bool → Ans → Ans → Ans
-  reply (some r) m b a f = a
-  reply none none b a f = a
-  reply none (some x) true a f = a
-  reply none (some x) false a f = f
+  reply (Some r) m b a f = a
+  reply None None b a f = a
+  reply None (Some x) true a f = a
+  reply None (Some x) false a f = f
 
   -- the table after: i is the record's place, h the lowest free one
   abbrev pub store : Tab → ℕ → ℕ → Option Rec → Option Rec → Bool → Tab
-  store t i h (some r) (some x) b = put t i x
-  store t i h (some r) none b = put t i blank
-  store t i h none none b = t
-  store t i h none (some x) true = put t h x
-  store t i h none (some x) false = t
+  store t i h (Some r) (Some x) b = put t i x
+  store t i h (Some r) None b = put t i blank
+  store t i h None None b = t
+  store t i h None (Some x) true = put t h x
+  store t i h None (Some x) false = t
 
   -- an event that names the call i
   unfoldable pub answer_to : Tab → Ev → Id → Ans
@@ -74,12 +73,12 @@ module _ (K : Keeper) where
   next_to t e i = store t (place i t) (hole t) (look i t) (rule e (look i t)).1 (admits t e)
 
   abbrev pub answer_of : Tab → Ev → Option Id → Ans
-  answer_of t e none = mute e
-  answer_of t e (some i) = answer_to t e i
+  answer_of t e None = mute e
+  answer_of t e (Some i) = answer_to t e i
 
   abbrev pub next_of : Tab → Ev → Option Id → Tab
-  next_of t e none = t
-  next_of t e (some i) = next_to t e i
+  next_of t e None = t
+  next_of t e (Some i) = next_to t e i
 
   -- the answer to an event, and the table after it
   unfoldable pub answer : Tab → Ev → Ans
@@ -99,10 +98,10 @@ module _ (K : Keeper) where
   -- e would open a new call, and the table does not take it
   pub record Away (t : Tab) (e : Ev) : Type 0 where
     pub call : Id
-    pub by_name : names e ≡ some call
-    pub unheld : look call t ≡ none
+    pub by_name : names e ≡ Some call
+    pub unheld : look call t ≡ None
     pub opened : Rec
-    pub opens : (rule e none).1 ≡ some opened
+    pub opens : (rule e None).1 ≡ Some opened
     pub full : admits t e ≡ false
 
   -- neither order turns one of the two away
@@ -114,7 +113,7 @@ module _ (K : Keeper) where
 
   -- a and b do not name the same call
   abbrev pub Apart : Ev → Ev → Type 0
-  Apart a b = (i : Id) → names a ≡ some i → names b ≡ some i → ⊥
+  Apart a b = (i : Id) → names a ≡ Some i → names b ≡ Some i → ⊥
 
   -- what the exchange of a and b, after xs and before ys, leaves: every answer, and each call's final record
   pub record Exchanged (t : Tab) (xs : List Ev) (a b : Ev) (ys : List Ev) : Type 0 where
@@ -152,8 +151,8 @@ module _ (K : Keeper) where
     pub free_nameless : (i : Id) (r : Rec) → free r ≡ true → named i r ≡ false
     pub one_name : (i j : Id) (r : Rec) → named i r ≡ true → named j r ≡ true → i ≡ j
     -- the rule gives a record of the same call, from none or from a record of that call
-    pub new-own : (e : Ev) (i : Id) (x : Rec) → names e ≡ some i → (rule e none).1 ≡ some x → Fit x × (named i x ≡ true)
-    pub keep-own : (e : Ev) (i : Id) (r x : Rec) → names e ≡ some i → Fit r → named i r ≡ true → (rule e (some r)).1 ≡ some x → Fit x × (named i x ≡ true)
+    pub new-own : (e : Ev) (i : Id) (x : Rec) → names e ≡ Some i → (rule e None).1 ≡ Some x → Fit x × (named i x ≡ true)
+    pub keep-own : (e : Ev) (i : Id) (r x : Rec) → names e ≡ Some i → Fit r → named i r ≡ true → (rule e (Some r)).1 ≡ Some x → Fit x × (named i x ≡ true)
     -- a new call is taken only where a record is free, and tables that hold the same calls take the same
     pub admits-room : (t : Tab) (e : Ev) → admits t e ≡ true → hole t < size t
     pub admits-alike : (t u : Tab) (e : Ev) → Good t → Good u → Alike t u → admits t e ≡ admits u e

@@ -1,20 +1,20 @@
--- What `shape_of` hands on of row 6: the tag, and where the object opens, any string before it. `object-opens` of proofs/ShapeLaws.antt ties it to
--- Shape.antt. Assumes nothing.
-use Prim.Native.Char.{code}
-use Rattle.std.specs.Prelude.{ℕ, ◌<◌, eqb, length, get_or, ◌&&◌, cond, List, ◌≡◌}
-use Rattle.json_text.specs.Places.{past, elements}
-use Rattle.message.specs.Shape.{pair, tag_of}
-
--- the same where a string stands before it, any string; 0 where the text has not this shape
-unfoldable pub open_at : List ℕ → ℕ → ℕ → ℕ
-open_at s x y = cond (eqb (get_or s x 0) (code "\"") && eqb (get_or s y 0) (code "{")) y 0
-
-unfoldable pub open_of : List ℕ → ℕ
-open_of s = cond (eqb (get_or s (past s 0) 0) (code "[")) (pair (elements s (past s 0)) (open_at s)) 0
+-- What `shape_of` and `gather` hand on of rows 6 and 7: the tag and where the object opens, and the places of its fields. Assumes nothing.
+use Rattle.std.specs.Prelude.{ℕ, ◌<◌, length, ltb, cond, List, ◌≡◌, Result, Ok, Err}
+use Rattle.fields.specs.Known.{empty, noted, repeated}
+use Rattle.json_text.specs.Places.{members}
+use Rattle.message.specs.Shape.{object_of, tag_of}
+use Rattle.message.specs.declared.refusals.Refusal.TheVariants.{Twice}
+use Rattle.message.specs.declared.refusals.Refusal.{Refusal}
+use Rattle.rules.specs.Names.{fields}
 
 -- what is found of the shape: the tag, and where the object opens
 pub record Shaped (s : List ℕ) (tag object : ℕ) : Type 0 where
   pub is : tag ≡ tag_of s
   pub few : tag < 5
-  pub opens : object ≡ open_of s
-  pub inside : 0 < tag → object < length s
+  pub opens : object ≡ object_of s
+  pub inside : object < length s
+
+-- the places of the fields of the object that opens at o, or the first repeat
+unfoldable pub gathered : List ℕ → ℕ → Result (List ℕ) Refusal
+gathered s o =
+    cond (ltb 0 (repeated fields s empty (members s o))) (Err (Twice (repeated fields s empty (members s o)))) (Ok (noted fields s empty (members s o)))

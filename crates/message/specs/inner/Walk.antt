@@ -3,13 +3,11 @@
 -- ties it to Reading.antt. Assumes nothing.
 use Rattle.message.specs.inner.Shaping.{Shaped}
 use Rattle.fields.specs.inner.Gathering.{ends_of}
-use Rattle.std.specs.Prelude.{ℕ, suc, ◌<◌, eqb, leb, ltb, length, get_or, Bool, false, ◌&&◌, cond, List, ◌≡◌}
+use Rattle.std.specs.Prelude.{ℕ, suc, eqb, leb, ltb, length, get_or, Bool, true, ◌&&◌, List, ◌≡◌, Ok}
 use Rattle.json_text.specs.inner.Machine.{arr, text, value}
 use Rattle.json_text.specs.inner.Passing.{is_end}
-use Rattle.json_text.specs.inner.Tour.{lone, spot, tour}
+use Rattle.json_text.specs.inner.Tour.{lone, room_in, tour}
 use Rattle.json_text.specs.Places.{follows, members}
-use Rattle.json_text.specs.declared.Toured.TheVariants.{End, Bad, Deep, Many}
-use Rattle.json_text.specs.declared.Toured.{Toured}
 use Rattle.fields.specs.Known.{empty, noted, repeated}
 use Rattle.message.specs.Shape.{tag_of, object_of}
 use Rattle.rules.specs.Names.{fields}
@@ -17,13 +15,6 @@ use Rattle.rules.specs.Names.{fields}
 -- there are members, and no known name stands twice among them
 unfoldable pub is_once : List ℕ → List ℕ → Bool
 is_once s qs = ltb 0 (length qs) && eqb (repeated fields s empty qs) 0
-
--- the room that a reader of values left
-abbrev pub room_in : Toured → ℕ
-room_in (End e n) = n
-room_in (Bad p) = 0
-room_in (Deep p) = 0
-room_in (Many p) = 0
 
 -- the text has the usual shape, under a ceiling of c: the array, its tag and its object are three values
 unfoldable pub is_usual : ℕ → List ℕ → Bool
@@ -33,12 +24,13 @@ is_usual c s = leb 3 c && (is_end (tour s 0 value (text 8) c) && (ltb 0 (tag_of 
 unfoldable pub field_places : List ℕ → List ℕ
 field_places s = noted fields s empty (members s (object_of s))
 
--- what is found of a text: its tag, the room left, and the places and ends of its known fields; nothing of a text that has not the usual shape
+-- what is found of a text of the usual shape: its tag, the room left, and the places and ends of its known fields
 pub record Usual (c : ℕ) (s : List ℕ) (tag room : ℕ) (t es : List ℕ) : Type 0 where
-  pub tagged : tag ≡ cond (is_usual c s) (tag_of s) 0
-  pub spare : room ≡ cond (is_usual c s) (room_in (tour s 0 value (text 8) c)) 0
-  pub places : t ≡ cond (is_usual c s) (field_places s) empty
-  pub ends : es ≡ cond (is_usual c s) (ends_of s (field_places s)) empty
+  pub is : is_usual c s ≡ true
+  pub tagged : tag ≡ tag_of s
+  pub spare : room ≡ room_in (tour s 0 value (text 8) c)
+  pub places : t ≡ field_places s
+  pub ends : es ≡ ends_of s t
 
 -- the text begins with an array whose first element is a tag, and its second opens as an object at o
 pub record Begun (s : List ℕ) (tag o : ℕ) : Type 0 where
@@ -48,18 +40,13 @@ pub record Begun (s : List ℕ) (tag o : ℕ) : Type 0 where
   pub two : (get_or s (follows s o) 0 ≡ 44 → ⊥) → Shaped s tag o
   pub three : get_or s (follows s o) 0 ≡ 44 → 0 ≡ tag_of s
 
--- where the text does not begin so, its shape is not the usual, whatever the ceiling
-pub record Opening (s : List ℕ) (tag o : ℕ) : Type 0 where
-  pub known : 0 < tag → Begun s tag o
-  pub unknown : tag ≡ 0 → (c : ℕ) → is_usual c s ≡ false
-
 -- the object that opens at o, with seven levels left and room for n values inside, passes, and its known members, each once, are listed
 unfoldable pub is_listed : List ℕ → ℕ → ℕ → Bool
 is_listed s o n = is_end (lone 7 (suc n) s o) && is_once s (members s o)
 
--- where it ends and the room left, 0 where it is not so; and where it is, the places and ends of its known members
+-- where it ends, the room left, and the places and ends of its known members
 pub record Listed (s : List ℕ) (o n e room : ℕ) (t es : List ℕ) : Type 0 where
-  pub behind : e ≡ cond (is_listed s o n) (spot (lone 7 (suc n) s o)) 0
-  pub spare : room ≡ cond (is_listed s o n) (room_in (lone 7 (suc n) s o)) 0
-  pub places : 0 < e → t ≡ noted fields s empty (members s o)
-  pub ends : 0 < e → es ≡ ends_of s t
+  pub json : lone 7 (suc n) s o ≡ Ok (e, room)
+  pub once : is_once s (members s o) ≡ true
+  pub places : t ≡ noted fields s empty (members s o)
+  pub ends : es ≡ ends_of s t

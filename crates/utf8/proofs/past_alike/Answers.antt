@@ -2,5 +2,5 @@
 use Rattle.utf8.proofs.PassedLaws.{then}
 use Rattle.utf8.proofs.past_alike.Goals as goal
 
-pub returns-then-n-eq1 : goal.returns-then-n-eq1
-returns-then-n-eq1 c = then c.args.s.now c.past_ascii.ensures c.past_threes.ensures
+pub returns-in-1 : goal.returns-in-1
+returns-in-1 c = then c.args.s.now c.past_ascii.ensures c.past_threes.ensures

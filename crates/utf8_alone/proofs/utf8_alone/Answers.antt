@@ -2,8 +2,8 @@
 use Rattle.utf8_alone.proofs.utf8_alone.Goals as goal
 use mathlib.Core.Path.{sym, ◌∙◌}
 
-pub returns-in-Good : goal.returns-in-Good
-returns-in-Good c = rw (sym c.check.ensures ∙ c.in-Good.is)
+pub returns-in-Ok : goal.returns-in-Ok
+returns-in-Ok c = rw (sym c.check.ensures ∙ c.in-Ok.is)
 
-pub returns-in-Bad : goal.returns-in-Bad
-returns-in-Bad c = rw (sym c.check.ensures ∙ c.in-Bad.is)
+pub returns-in-Err : goal.returns-in-Err
+returns-in-Err c = rw (sym c.check.ensures ∙ c.in-Err.is)

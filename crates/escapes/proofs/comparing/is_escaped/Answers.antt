@@ -1,19 +1,12 @@
-use Rattle.escapes.proofs.PlainLaws.{found_at}
+-- What the search finds decides. Assumes nothing.
+use Rattle.escapes.proofs.PlainLaws.{found}
 use Rattle.escapes.proofs.comparing.is_escaped.Goals as goal
-use borrow.Author.Rules.{rules}
-use mathlib.Core.Path.{◌∙◌, refl, sym}
-
-pub loop-i-init : goal.loop-i-init
-loop-i-init c = (search rules, refl)
-
-pub returns-then-escape_in_32 : goal.returns-then-escape_in_32
-returns-then-escape_in_32 c =
-    let l = c.loop-i in found_at c.args.s.now l.i _ l.invariant.0 c.find.ensures ∙ sym l.invariant.1
-
-pub loop-i-preserved : goal.loop-i-preserved
-loop-i-preserved c = (search rules, c.loop-i.invariant.1 ∙ c.escape_in_32.ensures c.if-escape_in_32.false)
+use Rattle.octets.specs.Text.{before}
+use mathlib.Core.Path.{◌≡◌}
+use native.Mathlib.Omega.{arith}
 
 pub returns : goal.returns
 returns c =
-    let l = c.loop-i in
-    found_at c.args.s.now l.i _ l.invariant.0 c.find-2.ensures ∙ sym l.invariant.1
+    let s = c.args.s.now in
+    let e : c.find.result ≡ before 92 s = omega (arith, c.find.ensures) in
+    rw e (found s)

@@ -1,10 +1,15 @@
 use Rattle.escapes.proofs.LetterLaws.{sound-at, escape-room}
 use Rattle.escapes.proofs.MeasureLaws.{start, step-own, step-escape, ends}
 use Rattle.escapes.proofs.measuring.measure.Goals as goal
+use borrow.Author.Rules.{rules}
+use mathlib.Core.Bool.{false}
+use mathlib.Core.Path.{◌≡◌}
 use native.Mathlib.Omega.{arith}
 
 pub loop-i-init : goal.loop-i-init
-loop-i-init c = start c.args.raw.now
+loop-i-init c =
+    let e : c.default-m.result ≡ (record { length = 0; points = 0; broken = false; breaks = false }) = search rules in
+    rw e (start c.args.raw.now)
 
 pub with_code-m-requires : goal.with_code-m-requires
 with_code-m-requires c =

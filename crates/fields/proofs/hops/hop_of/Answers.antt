@@ -5,8 +5,8 @@ use Rattle.fields.proofs.hops.hop_of.Goals as goal
 pub returns-then-v-eq0 : goal.returns-then-v-eq0
 returns-then-v-eq0 c = no_bytes c.args.v.now c.if-v-eq0.true
 
-pub returns-then-twice-ne0 : goal.returns-then-twice-ne0
-returns-then-twice-ne0 c = member_twice c.args.v.now c.hop_members-w.ensures.0.0 c.if-twice-ne0.true
+pub returns-in-None : goal.returns-in-None
+returns-in-None c = member_twice c.args.v.now c.in-None.ensures
 
-pub returns : goal.returns
-returns c = members-once c.args.v.now c.hop_members-w.ensures.0.0 c.if-twice-ne0.false
+pub returns-in-Some : goal.returns-in-Some
+returns-in-Some c = rw (c.begin.ensures, c.begin-in-Some.ensures) (members-once c.args.v.now c.in-Some.ensures.0.0)

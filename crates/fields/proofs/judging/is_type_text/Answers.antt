@@ -4,16 +4,12 @@ use Rattle.fields.specs.Field.{one_of}
 use Rattle.fields.specs.inner.Chain.{on_type}
 use Rattle.rules.proofs.NameLaws.{some_number}
 use Rattle.rules.specs.Words.{notify_types}
-use borrow.Author.Tests.{eq-eqb, ne_eqb}
+use borrow.Author.Tests.{ne_eqb}
 use lib.Dec.{ltb}
 use mathlib.Core.Path.{ap, ◌∙◌}
 use native.Mathlib.Omega.{arith}
 
-pub returns-then-method-eq-MESSAGE : goal.returns-then-method-eq-MESSAGE
+pub returns-else-method-eq-MESSAGE : goal.returns-else-method-eq-MESSAGE
 unfolding on_type one_of
-returns-then-method-eq-MESSAGE c = rw (eq-eqb _ _ c.if-method-eq-MESSAGE.true) (ap (ltb 0) c.message_type.ensures)
-
-pub returns : goal.returns
-unfolding on_type one_of
-returns c = rw (ne_eqb _ _ c.if-method-eq-MESSAGE.false)
+returns-else-method-eq-MESSAGE c = rw (ne_eqb _ _ c.if-method-eq-MESSAGE.false)
     (ap (ltb 0) c.notify_type.ensures ∙ some_number notify_types 4 1 _ (omega arith) (omega arith))

@@ -1,18 +1,26 @@
 -- `fields::judging::judge_cseq` meets its contract. One law of `JudgingLaws` for each way out. Assumes nothing.
+use Prim.Native.Nat.{◌+◌}
+use Rattle.escapes.specs.Placing.{place_of}
+use Rattle.escapes.specs.Rfc7159.{text}
 use Rattle.fields.proofs.JudgingLaws.{cseq-untold, cseq-kept, cseq-broken}
+use Rattle.fields.proofs.SpelledLaws.{err_told, or_told}
 use Rattle.fields.proofs.judging.judge_cseq.Goals as goal
-use borrow.Author.Tests.{not-true, not-false}
-use mathlib.Core.Path.{sym, ◌∙◌}
+use Rattle.fields.specs.Field.{letter_reach}
+use borrow.Author.Rules.{rules}
+use mathlib.Core.Path.{◌≡◌, refl, sym, ◌∙◌}
 
 pub returns-then-not-is_string : goal.returns-then-not-is_string
-returns-then-not-is_string c = cseq-untold c.args.v.now _ c.own_spelling-w.ensures c.is_string.ensures
-    (not-true _ c.if-not-is_string.true-raw)
+returns-then-not-is_string c = cseq-untold c.args.v.now _ refl c.is_string.ensures
+    (c.if-not-is_string.true)
 
-pub returns-in-Of : goal.returns-in-Of
-returns-in-Of c = cseq-kept c.args.v.now _ c.own_spelling-w.ensures c.is_string.ensures (not-false _ c.if-not-is_string.false-raw)
-    c.in-Of.number c.in-Of.method (sym c.in-Of.is ∙ c.sequence_of.ensures)
-
-pub returns-in-Broken : goal.returns-in-Broken
-returns-in-Broken c = cseq-broken c.args.v.now _ c.own_spelling-w.ensures c.is_string.ensures
-    (not-false _ c.if-not-is_string.false-raw)
-    (sym c.in-Broken.is ∙ c.sequence_of.ensures) c.letter_at.ensures
+pub returns : goal.returns
+returns c =
+    let v = c.args.v.now in
+    let w = c.own_spelling-w in
+    let s = c.is_string.ensures in
+    let e = c.if-not-is_string.false in
+    or_told c.sequence_of.result c.ok_or_else.ensures.cases
+    (λ n h. err_told c.ok_or_else.result h (λ p q l.
+    let place : p ≡ 1 + place_of w.result.now (letter_reach 1 (text w.result.now)) = search rules in
+    q ∙ cseq-broken v _ w.ensures s e (sym n ∙ c.sequence_of.ensures) place))
+    (λ x t h. h ∙ cseq-kept v _ w.ensures s e (sym t ∙ c.sequence_of.ensures))

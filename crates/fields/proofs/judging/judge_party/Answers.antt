@@ -1,23 +1,26 @@
 -- `fields::judging::judge_party` meets its contract. One law of `JudgingLaws` for each way out. Assumes nothing.
-use Rattle.fields.proofs.JudgingLaws.{party_untold, party_caller, party_callee, party_broken}
+use Prim.Native.Nat.{◌+◌}
+use Rattle.escapes.specs.Placing.{place_of}
+use Rattle.escapes.specs.Rfc7159.{text}
+use Rattle.fields.proofs.JudgingLaws.{party_untold, party_kept, party_broken}
+use Rattle.fields.proofs.SpelledLaws.{err_told, or_told}
 use Rattle.fields.proofs.judging.judge_party.Goals as goal
-use borrow.Author.Tests.{not-true, not-false}
+use Rattle.fields.specs.Field.{letter_reach}
+use borrow.Author.Rules.{rules}
+use mathlib.Core.Path.{◌≡◌, refl, sym, ◌∙◌}
 
 pub returns-then-not-is_string : goal.returns-then-not-is_string
-returns-then-not-is_string c = party_untold c.args.v.now _ c.own_spelling-w.ensures c.is_string.ensures
-    (not-true _ c.if-not-is_string.true-raw)
+returns-then-not-is_string c = party_untold c.args.v.now _ refl c.is_string.ensures
+    (c.if-not-is_string.true)
 
-pub returns-in-Caller : goal.returns-in-Caller
-returns-in-Caller c = party_caller c.args.v.now _ c.own_spelling-w.ensures c.is_string.ensures
-    (not-false _ c.if-not-is_string.false-raw) c.address_of-a.ensures
-    c.in-Caller.field-0 c.in-Caller.field-1 c.in-Caller.is
-
-pub returns-in-Callee : goal.returns-in-Callee
-returns-in-Callee c = party_callee c.args.v.now _ c.own_spelling-w.ensures c.is_string.ensures
-    (not-false _ c.if-not-is_string.false-raw) c.address_of-a.ensures
-    c.in-Callee.field-0 c.in-Callee.is
-
-pub returns-in-Broken : goal.returns-in-Broken
-returns-in-Broken c = party_broken c.args.v.now _ c.own_spelling-w.ensures c.is_string.ensures
-    (not-false _ c.if-not-is_string.false-raw) c.address_of-a.ensures
-    c.in-Broken.is c.letter_at.ensures
+pub returns : goal.returns
+returns c =
+    let v = c.args.v.now in
+    let w = c.own_spelling-w in
+    let s = c.is_string.ensures in
+    let e = c.if-not-is_string.false in
+    or_told c.address_of.result c.ok_or_else.ensures.cases
+    (λ n h. err_told c.ok_or_else.result h (λ p q l.
+    let place : p ≡ 1 + place_of w.result.now (letter_reach 2 (text w.result.now)) = search rules in
+    q ∙ party_broken v _ w.ensures s e (sym n ∙ c.address_of.ensures) place))
+    (λ x t h. h ∙ party_kept v _ w.ensures s e (sym t ∙ c.address_of.ensures))

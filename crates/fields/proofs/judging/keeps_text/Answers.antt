@@ -3,22 +3,26 @@ use Rattle.fields.proofs.TriedLaws.{text_tried}
 use Rattle.fields.proofs.ValueLaws.{string-text, no-string}
 use Rattle.fields.proofs.judging.keeps_text.Goals as goal
 use Rattle.fields.specs.inner.Chain.{on_text}
-use borrow.Author.Tests.{not-false, not-true}
+use Rattle.escapes.specs.Rfc7159.{text}
+use borrow.Author.Rules.{rules}
+use lib.ListN.{take}
+use mathlib.Core.Path.{◌≡◌}
 use mathlib.Core.Path.{sym, ◌∙◌}
 
 pub returns-then-not-is_string : goal.returns-then-not-is_string
-returns-then-not-is_string c = let x = c.args in no-string (on_text x.k x.n) x.v.now (sym c.is_string.ensures ∙ not-true _ c.if-not-is_string.true-raw)
+returns-then-not-is_string c = let x = c.args in no-string (on_text x.k x.n) x.v.now (sym c.is_string.ensures ∙ c.if-not-is_string.true)
 
 pub returns-then-is_text : goal.returns-then-is_text
 returns-then-is_text c =
     let x = c.args in
     string-text (on_text x.k x.n) x.v.now c.is_string.ensures c.own_spelling-w.ensures
-    (sym ((text_tried x.k x.n).own c.own_spelling-w.result.now (sym c.is_text.ensures ∙ c.if-is_text.true)))
-    (rw (not-false c.is_string.result c.if-not-is_string.false-raw))
+    (c.if-is_text.true ∙ sym ((text_tried x.k x.n).own c.own_spelling-w.result.now (sym c.is_text.ensures ∙ c.if-is_text.true)))
+    (rw c.if-not-is_string.false)
 
-pub returns : goal.returns
-returns c =
+pub returns-else-is_text : goal.returns-else-is_text
+returns-else-is_text c =
     let x = c.args in
+    let e : c.of_text.result ≡ on_text x.k x.n (take 256 (text c.own_spelling-w.result.now)) = search rules in
     string-text (on_text x.k x.n) x.v.now c.is_string.ensures c.own_spelling-w.ensures
-    (c.is_decoded_text.ensures ∙ (text_tried x.k x.n).within c.own_spelling-w.result.now)
-    (rw (not-false c.is_string.result c.if-not-is_string.false-raw))
+    (e ∙ (text_tried x.k x.n).within c.own_spelling-w.result.now)
+    (rw c.if-not-is_string.false)

@@ -1,21 +1,23 @@
 -- `fields::spelled::field` meets its contract. As it is spelled, and else decoded. Assumes nothing.
+use Rattle.escapes.specs.Rfc7159.{text}
+use Rattle.rules.specs.Pieces.{word_number}
+use borrow.Author.Rules.{rules}
+use lib.ListN.{take}
+use mathlib.Core.Path.{◌≡◌}
 use Rattle.fields.proofs.SpelledLaws.{word-decoded, word_none, word-own}
 use Rattle.fields.proofs.TriedLaws.{field_words}
 use Rattle.fields.proofs.spelled.field.Goals as goal
 use Rattle.rules.specs.Names.{fields}
-use borrow.Author.Tests.{not-true}
 use mathlib.Core.Path.{sym, ◌∙◌}
 use native.Mathlib.Omega.{arith}
 
-pub returns-then-k-ne0 : goal.returns-then-k-ne0
-returns-then-k-ne0 c = (word-own fields field_words c.args.w.now c.field-k.ensures.0 c.if-k-ne0.true, c.field-k.ensures.1)
+pub returns-in-0 : goal.returns-in-0
+returns-in-0 c =
+    let e : c.of_text.result ≡ word_number fields (take 256 (text c.args.w.now)) = search rules in
+    (word-decoded fields field_words c.args.w.now e, search rules)
 
-pub returns-then-not-is_escaped : goal.returns-then-not-is_escaped
-returns-then-not-is_escaped c = (
-  word_none fields field_words c.args.w.now c.field-k.ensures.0 c.if-k-ne0.false
-      (sym c.is_escaped.ensures ∙ not-true _ c.if-not-is_escaped.true-raw),
-  omega arith,
-)
+pub returns-in_default : goal.returns-in_default
+returns-in_default c = (c.in-0.is ∙ word_none fields field_words c.args.w.now c.field.ensures.0 c.in-0.is (sym c.is_escaped.ensures ∙ c.if-is_escaped.false), c.field.ensures.1)
 
-pub returns : goal.returns
-returns c = (word-decoded fields field_words c.args.w.now c.decoded_field.ensures.0, c.decoded_field.ensures.1)
+pub returns-in_default-2 : goal.returns-in_default-2
+returns-in_default-2 c = (word-own fields field_words c.args.w.now c.field.ensures.0 (λ z. omega arith), c.field.ensures.1)

@@ -1,18 +1,23 @@
 -- `fields::spelled::hop_member` meets its contract. As it is spelled, and else decoded. Assumes nothing.
+use Rattle.escapes.specs.Rfc7159.{text}
+use Rattle.rules.specs.Pieces.{word_number}
+use borrow.Author.Rules.{rules}
+use native.Mathlib.Omega.{arith}
+use lib.ListN.{take}
+use mathlib.Core.Path.{◌≡◌}
 use Rattle.fields.proofs.SpelledLaws.{word-decoded, word_none, word-own}
 use Rattle.fields.proofs.TriedLaws.{member_words}
 use Rattle.fields.proofs.spelled.hop_member.Goals as goal
 use Rattle.rules.specs.Names.{hop_members}
-use borrow.Author.Tests.{not-true}
 use mathlib.Core.Path.{sym, ◌∙◌}
 
-pub returns-then-k-ne0 : goal.returns-then-k-ne0
-returns-then-k-ne0 c = word-own hop_members member_words c.args.w.now c.hop_member-k.ensures c.if-k-ne0.true
+pub returns-in-0 : goal.returns-in-0
+returns-in-0 c =
+    let e : c.of_text.result ≡ word_number hop_members (take 256 (text c.args.w.now)) = search rules in
+    word-decoded hop_members member_words c.args.w.now e
 
-pub returns-then-not-is_escaped : goal.returns-then-not-is_escaped
-returns-then-not-is_escaped c =
-    word_none hop_members member_words c.args.w.now c.hop_member-k.ensures c.if-k-ne0.false
-    (sym c.is_escaped.ensures ∙ not-true _ c.if-not-is_escaped.true-raw)
+pub returns-in_default : goal.returns-in_default
+returns-in_default c = c.in-0.is ∙ word_none hop_members member_words c.args.w.now c.hop_member.ensures c.in-0.is (sym c.is_escaped.ensures ∙ c.if-is_escaped.false)
 
-pub returns : goal.returns
-returns c = word-decoded hop_members member_words c.args.w.now c.decoded_hop_member.ensures
+pub returns-in_default-2 : goal.returns-in_default-2
+returns-in_default-2 c = word-own hop_members member_words c.args.w.now c.hop_member.ensures (λ z. omega arith)

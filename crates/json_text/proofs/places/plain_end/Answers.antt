@@ -1,20 +1,20 @@
-use Rattle.json_text.proofs.PlaceLaws as laws
+use Rattle.json_text.proofs.PlaceLaws.{plain_over, plain-stops, plain-ends}
 use Rattle.json_text.proofs.places.plain_end.Goals as goal
-use mathlib.Core.Path.{refl, sym, ◌∙◌}
+use borrow.Author.Rules.{rules}
+use lib.ListN.{length}
+use mathlib.Core.Logic.{⊎_elim}
+use mathlib.Core.Path.{◌≡◌, sym, ◌∙◌}
+use Prim.Native.Nat.{◌<◌}
+use native.Mathlib.Nat.{eq-or-lt_of_le}
 use native.Mathlib.Omega.{arith}
 
-pub loop-i-init : goal.loop-i-init
-loop-i-init c = (omega arith, omega arith, refl)
-
-pub returns-then-is_mark : goal.returns-then-is_mark
-returns-then-is_mark c = (
-  sym (c.loop-i.invariant.2 ∙ laws.plain-stops c.args.s.now c.loop-i.i (omega arith) (sym c.is_mark.ensures ∙ c.if-is_mark.true)),
-  omega arith,
-  omega arith,
-)
-
-pub loop-i-preserved : goal.loop-i-preserved
-loop-i-preserved c = (omega arith, omega arith, c.loop-i.invariant.2 ∙ laws.plain_more c.args.s.now c.loop-i.i (omega arith) (sym c.is_mark.ensures ∙ c.if-is_mark.false))
-
 pub returns : goal.returns
-returns c = (sym (c.loop-i.invariant.2 ∙ laws.plain-ends c.args.s.now c.loop-i.i (omega arith)), omega arith, omega arith)
+returns c =
+    let p = c.past.ensures in
+    let s = c.args.s.now in (
+      sym (plain_over s c.args.a c.past.result p.within.0 p.within.1 (λ k g h. let q = p.passed k g h in search rules)
+          ∙ ⊎_elim (λ (e : c.past.result ≡ length s). plain-ends s c.past.result (omega arith))
+          (λ (h : c.past.result < length s). plain-stops s c.past.result h (let q = p.stopped h in search rules)) (eq-or-lt_of_le p.within.1)),
+      p.within.0,
+      p.within.1,
+    )

@@ -1,8 +1,8 @@
-use Rattle.json_text.proofs.MoveLaws.{moves, run}
+use Rattle.json_text.proofs.MoveLaws.{run, passes}
 use Rattle.json_text.proofs.strings.past_plain.Goals as goal
-use Rattle.json_text.specs.inner.Machine.{live, is_plain}
+use Rattle.json_text.specs.inner.Machine.{is_plain}
 use borrow.Author.Rules.{rules}
-use mathlib.Core.Path.{refl, sym, ◌∙◌}
+use mathlib.Core.Path.{refl, ◌∙◌}
 use native.Mathlib.Omega.{arith}
 
 pub loop-i-init : goal.loop-i-init
@@ -37,28 +37,8 @@ loop-i-preserved c = (
       ∙ run is_plain _ _ _ (omega (arith, c.plain_of_32-n.ensures.few)) c.plain_of_32-n.ensures.plain m k f,
 )
 
-pub loop-i-2-init : goal.loop-i-2-init
-loop-i-2-init c = c.loop-i.invariant
-
-pub loop-i-2-preserved : goal.loop-i-2-preserved
-loop-i-2-preserved c = (
-  search rules,
-  search rules,
-  λ m k f.
-      c.loop-i-2.invariant.2 m k f
-      ∙ moves _ _ m k (live m k) (search rules) (f _ (sym c.is_plain.ensures ∙ c.if-is_plain.true)),
-)
-
-pub returns-else-is_plain : goal.returns-else-is_plain
-returns-else-is_plain c =
-    record {
-      low = search rules;
-      high = search rules;
-      stop = λ h.
-          sym c.is_plain.ensures
-          ∙ c.if-is_plain.false;
-      same = c.loop-i-2.invariant.2;
-    }
-
 pub returns : goal.returns
-returns c = record { low = search rules; high = search rules; stop = λ h. absurd (omega arith); same = c.loop-i-2.invariant.2 }
+returns c =
+    let p = c.past.ensures in
+    let q = passes {f = is_plain} p.within.0 p.within.1 (λ k g h. let q = p.passed k g h in search rules) (λ h. let q = p.stopped h in search rules) in
+    record { low = omega (arith, q.low); high = q.high; stop = q.stop; same = λ m k f. c.loop-i.invariant.2 m k f ∙ q.same m k f }

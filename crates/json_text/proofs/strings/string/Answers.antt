@@ -1,9 +1,10 @@
-use Rattle.json_text.proofs.MoveLaws.{moves, short, leaf_is, stuck}
+use Rattle.json_text.proofs.MoveLaws.{moves, short, leaf_is, raised}
 use Rattle.json_text.proofs.StepLaws.{str-quote, str-back, str_ctl, str-plain, not_plain}
 use Rattle.json_text.proofs.strings.string.Goals as goal
 use Rattle.json_text.specs.inner.Machine.{str, esc, live, dead, closed}
+use Rattle.std.specs.Prelude.{Err}
 use borrow.Author.Rules.{rules}
-use mathlib.Core.Path.{refl, ◌∙◌}
+use mathlib.Core.Path.{refl, sym, ◌∙◌}
 use native.Mathlib.Omega.{arith}
 
 pub loop-at-init : goal.loop-at-init
@@ -43,25 +44,27 @@ returns-then-b-ne92 c =
           (str_ctl w k _ c.if-b-eq34.false c.if-b-ne92.true (not_plain _ (c.past_plain-j.ensures.stop (search rules)) c.if-b-eq34.false c.if-b-ne92.true));
     }
 
-pub returns-in_default : goal.returns-in_default
-returns-in_default c =
-    record {
-      low = omega (arith, c.escaped-r.ensures.low);
-      high = c.escaped-r.ensures.high;
+pub returns-in_err-i : goal.returns-in_err-i
+returns-in_err-i c =
+    let l = leaf_is c.escaped.ensures c.in_err-i.was in
+    leaf_is {r = Err _}
+    (record {
+      low = omega (arith, l.low);
+      high = l.high;
       same = λ w k.
           c.loop-at.invariant.2 w k
           ∙ c.past_plain-j.ensures.same (str w) k (str-plain w k)
           ∙ moves _ _ (str w) k (live (esc w) k) (search rules) (str-back w k _ c.if-b-ne92.false)
-          ∙ c.escaped-r.ensures.same w k
-          ∙ stuck c.escaped-r.result _ (str w) (closed w) k k c.in_default.not-End;
-    }
+          ∙ l.same w k;
+    })
+    (sym (raised c.from_residual.ensures.1))
 
 pub loop-at-smaller : goal.loop-at-smaller
-loop-at-smaller c = let l = leaf_is c.escaped-r.ensures c.in-End.is in omega (arith, l.low, l.high)
+loop-at-smaller c = let l = leaf_is c.escaped.ensures c.in_ok-i.was in omega (arith, l.low, l.high)
 
 pub loop-at-preserved : goal.loop-at-preserved
 loop-at-preserved c =
-    let l = leaf_is c.escaped-r.ensures c.in-End.is in (
+    let l = leaf_is c.escaped.ensures c.in_ok-i.was in (
       omega (arith, l.low),
       l.high,
       λ w k.

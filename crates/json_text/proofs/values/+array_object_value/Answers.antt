@@ -1,13 +1,14 @@
 use mathlib.Core.Bool.{false}
-use mathlib.Core.Path.{refl, ◌∙◌}
+use mathlib.Core.Path.{refl, sym, ◌∙◌}
 use native.Mathlib.Omega.{arith}
 use borrow.Author.Rules.{rules}
 use Rattle.json_text.specs.inner.Machine.{arr, obj, value as val, first, name, name₁, after, live, dead}
+use Rattle.std.specs.Prelude.{Err}
 use Rattle.json_text.proofs.Complete.{first-not}
-use Rattle.json_text.proofs.MoveLaws.{short-arr, short-obj}
+use Rattle.json_text.proofs.MoveLaws.{short-arr, short-obj, raised}
 use Rattle.json_text.proofs.StepLaws.{ws-first, ws-name₁, ws-arr, ws-obj, first_close, first-value, arr-comma, arr_close, arr-miss, name₁_close, name₁-name}
 use Rattle.json_text.proofs.StepLaws.{obj-comma, obj_close, obj-miss}
-use Rattle.json_text.proofs.TourLaws.{tour-moves, tour-short, tour-alike, spaces, close_quiet, first_alike, calm-is, tally-is, remains, label-stops}
+use Rattle.json_text.proofs.TourLaws.{tour-moves, tour-short, tour-alike, spaces, close_quiet, first_alike, calm-is, tally-is}
 use Rattle.json_text.proofs.TourLaws.{value-short, value-text, value_scalar, array-bracket, object-bracket, bracket-deep, bracket-many, bracket_in}
 use Rattle.json_text.proofs.values.+array_object_value.Goals as goal
 
@@ -41,26 +42,26 @@ array-loop-e-init t c = (
       (first-value k _ (c.past_spaces-i.ensures.stop (search rules)) c.if-s-i-eq93.false),
 )
 
-pub array-value-r-requires : goal.array-value-r-requires
-array-value-r-requires t c = (omega (arith, c.requires), search rules)
+pub array-value-requires : goal.array-value-requires
+array-value-requires t c = (omega (arith, c.requires), search rules)
 
-pub array-returns-in_default : goal.array-returns-in_default
-array-returns-in_default t c =
-    record {
-      low = omega (arith, c.value-r.ensures.low);
-      high = c.value-r.ensures.high;
-      same = λ k e.
-          c.loop-e.invariant.2 k e
-          ∙ c.value-r.ensures.same (arr k) e
-          ∙ remains c.value-r.result _ after after (arr k) k c.in_default.not-End;
-    }
+pub array-returns-in_err-e : goal.array-returns-in_err-e
+array-returns-in_err-e t c =
+    let l = tally-is c.value.ensures c.in_err-e.was in
+    tally-is {r = Err _}
+    (record {
+      low = omega (arith, l.low);
+      high = l.high;
+      same = λ k e. c.loop-e.invariant.2 k e ∙ l.same (arr k) e;
+    })
+    (sym (raised c.from_residual.ensures.1))
 
 pub array-past_spaces-j-requires : goal.array-past_spaces-j-requires
-array-past_spaces-j-requires t c = let l = tally-is c.value-r.ensures c.in-End.is in l.high
+array-past_spaces-j-requires t c = let l = tally-is c.value.ensures c.in_ok-e.was in l.high
 
 pub array-returns-then-s-j : goal.array-returns-then-s-j
 array-returns-then-s-j t c =
-    let l = tally-is c.value-r.ensures c.in-End.is in
+    let l = tally-is c.value.ensures c.in_ok-e.was in
     record {
       low = omega (arith, l.low);
       high = search rules;
@@ -73,7 +74,7 @@ array-returns-then-s-j t c =
 
 pub array-returns-then-b-eq93 : goal.array-returns-then-b-eq93
 array-returns-then-b-eq93 t c =
-    let l = tally-is c.value-r.ensures c.in-End.is in
+    let l = tally-is c.value.ensures c.in_ok-e.was in
     record {
       low = omega (arith, l.low);
       high = search rules;
@@ -86,7 +87,7 @@ array-returns-then-b-eq93 t c =
 
 pub array-returns-then-b-ne44 : goal.array-returns-then-b-ne44
 array-returns-then-b-ne44 t c =
-    let l = tally-is c.value-r.ensures c.in-End.is in
+    let l = tally-is c.value.ensures c.in_ok-e.was in
     record {
       low = omega (arith, l.low);
       high = search rules;
@@ -100,12 +101,12 @@ array-returns-then-b-ne44 t c =
 
 pub array-loop-e-smaller : goal.array-loop-e-smaller
 array-loop-e-smaller t c =
-    let l = tally-is c.value-r.ensures c.in-End.is in
+    let l = tally-is c.value.ensures c.in_ok-e.was in
     omega (arith, l.low)
 
 pub array-loop-e-preserved : goal.array-loop-e-preserved
 array-loop-e-preserved t c =
-    let l = tally-is c.value-r.ensures c.in-End.is in (
+    let l = tally-is c.value.ensures c.in_ok-e.was in (
       omega (arith, l.low),
       search rules,
       λ k e.
@@ -144,40 +145,49 @@ object-loop-a-init t c = (
       ∙ tour-alike _ _ name₁ name (obj k) _ (search rules) refl (name₁-name k _ (c.past_spaces-i.ensures.stop (search rules)) c.if-s-i-eq125.false),
 )
 
-pub object-returns-in_default : goal.object-returns-in_default
-object-returns-in_default t c =
-    label-stops _ _ _ c.label-m.result c.loop-a.invariant.0 c.loop-a.invariant.2 c.label-m.ensures c.in_default.not-End c.lifted.ensures
+pub object-returns-in_err-a : goal.object-returns-in_err-a
+object-returns-in_err-a t c =
+    let m = calm-is c.label.ensures c.in_err-a.was in
+    tally-is {r = Err _}
+    (record {
+      low = omega (arith, m.low);
+      high = m.high;
+      same = λ k e. c.loop-a.invariant.2 k e ∙ m.same (obj k) _;
+    })
+    (sym (raised c.from_residual.ensures.1))
 
-pub object-value-r-requires : goal.object-value-r-requires
-object-value-r-requires t c =
-    let m = calm-is c.label-m.ensures c.in-End.is in (
+pub object-value-requires : goal.object-value-requires
+object-value-requires t c =
+    let m = calm-is c.label.ensures c.in_ok-a.was in (
       omega (arith, c.requires),
       m.high,
     )
 
-pub object-returns-in_default-r : goal.object-returns-in_default-r
-object-returns-in_default-r t c =
-    let m = calm-is c.label-m.ensures c.in-End.is in
-    record {
-      low = omega (arith, m.low, c.value-r.ensures.low);
-      high = c.value-r.ensures.high;
+pub object-returns-in_err-e : goal.object-returns-in_err-e
+object-returns-in_err-e t c =
+    let m = calm-is c.label.ensures c.in_ok-a.was in
+    let l = tally-is c.value.ensures c.in_err-e.was in
+    tally-is {r = Err _}
+    (record {
+      low = omega (arith, m.low, l.low);
+      high = l.high;
       same = λ k e.
           c.loop-a.invariant.2 k e
           ∙ m.same (obj k) _
-          ∙ c.value-r.ensures.same (obj k) e
-          ∙ remains c.value-r.result _ after after (obj k) k c.in_default-r.not-End;
-    }
+          ∙ l.same (obj k) e;
+    })
+    (sym (raised c.from_residual-in_err-e.ensures.1))
 
 pub object-past_spaces-j-requires : goal.object-past_spaces-j-requires
 object-past_spaces-j-requires t c =
-    let m = calm-is c.label-m.ensures c.in-End.is in
-    let l = tally-is c.value-r.ensures c.in-End-r.is in
+    let m = calm-is c.label.ensures c.in_ok-a.was in
+    let l = tally-is c.value.ensures c.in_ok-e.was in
     l.high
 
 pub object-returns-then-s-j : goal.object-returns-then-s-j
 object-returns-then-s-j t c =
-    let m = calm-is c.label-m.ensures c.in-End.is in
-    let l = tally-is c.value-r.ensures c.in-End-r.is in
+    let m = calm-is c.label.ensures c.in_ok-a.was in
+    let l = tally-is c.value.ensures c.in_ok-e.was in
     record {
       low = omega (arith, l.low, m.low);
       high = search rules;
@@ -191,8 +201,8 @@ object-returns-then-s-j t c =
 
 pub object-returns-then-b-eq125 : goal.object-returns-then-b-eq125
 object-returns-then-b-eq125 t c =
-    let m = calm-is c.label-m.ensures c.in-End.is in
-    let l = tally-is c.value-r.ensures c.in-End-r.is in
+    let m = calm-is c.label.ensures c.in_ok-a.was in
+    let l = tally-is c.value.ensures c.in_ok-e.was in
     record {
       low = omega (arith, l.low, m.low);
       high = search rules;
@@ -206,8 +216,8 @@ object-returns-then-b-eq125 t c =
 
 pub object-returns-then-b-ne44 : goal.object-returns-then-b-ne44
 object-returns-then-b-ne44 t c =
-    let m = calm-is c.label-m.ensures c.in-End.is in
-    let l = tally-is c.value-r.ensures c.in-End-r.is in
+    let m = calm-is c.label.ensures c.in_ok-a.was in
+    let l = tally-is c.value.ensures c.in_ok-e.was in
     record {
       low = omega (arith, l.low, m.low);
       high = search rules;
@@ -222,14 +232,14 @@ object-returns-then-b-ne44 t c =
 
 pub object-loop-a-smaller : goal.object-loop-a-smaller
 object-loop-a-smaller t c =
-    let m = calm-is c.label-m.ensures c.in-End.is in
-    let l = tally-is c.value-r.ensures c.in-End-r.is in
+    let m = calm-is c.label.ensures c.in_ok-a.was in
+    let l = tally-is c.value.ensures c.in_ok-e.was in
     omega (arith, l.low, m.low)
 
 pub object-loop-a-preserved : goal.object-loop-a-preserved
 object-loop-a-preserved t c =
-    let m = calm-is c.label-m.ensures c.in-End.is in
-    let l = tally-is c.value-r.ensures c.in-End-r.is in (
+    let m = calm-is c.label.ensures c.in_ok-a.was in
+    let l = tally-is c.value.ensures c.in_ok-e.was in (
       omega (arith, l.low, m.low),
       search rules,
       λ k e.

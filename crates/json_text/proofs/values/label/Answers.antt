@@ -1,12 +1,13 @@
 -- A name and its colon, with white space around: one law of the machine for each byte on the way to each exit. Assumes nothing.
-use Rattle.json_text.proofs.MoveLaws.{short, leaf_is}
+use Rattle.json_text.proofs.MoveLaws.{short, leaf_is, raised}
 use Rattle.json_text.proofs.StepLaws.{ws-name, ws-colon, name-quote, name-miss, colon-hit, colon-miss}
-use Rattle.json_text.proofs.TourLaws.{tour-moves, tour-short, spaces, strings, stays}
+use Rattle.json_text.proofs.TourLaws.{tour-moves, tour-short, spaces, strings, calm-is}
 use Rattle.json_text.proofs.values.label.Goals as goal
 use Rattle.json_text.specs.inner.Machine.{label, value, name, colon, str, live, dead}
+use Rattle.std.specs.Prelude.{Err}
 use borrow.Author.Rules.{rules}
 use mathlib.Core.Bool.{false}
-use mathlib.Core.Path.{refl, ◌∙◌}
+use mathlib.Core.Path.{refl, sym, ◌∙◌}
 use native.Mathlib.Omega.{arith}
 
 pub returns-then-s-i : goal.returns-then-s-i
@@ -29,24 +30,26 @@ returns-then-s-i-ne34 c =
           ∙ tour-moves _ _ name k n false dead (search rules) refl (name-miss k _ (c.past_spaces-i.ensures.stop (search rules)) c.if-s-i-ne34.true);
     }
 
-pub returns-in_default : goal.returns-in_default
-returns-in_default c =
-    record {
-      low = omega (arith, c.string-r.ensures.low);
-      high = c.string-r.ensures.high;
+pub returns-in_err-e : goal.returns-in_err-e
+returns-in_err-e c =
+    let l = leaf_is c.string.ensures c.in_err-e.was in
+    calm-is {r = Err _}
+    (record {
+      low = omega (arith, l.low);
+      high = l.high;
       same = λ k n.
           spaces _ _ _ name k n c.past_spaces-i.ensures (ws-name k) (λ b h. refl)
           ∙ tour-moves _ _ name k n false (live (str label) k) (search rules) refl (name-quote k _ c.if-s-i-ne34.false)
-          ∙ strings (search rules) c.string-r.ensures label k n
-          ∙ stays c.string-r.result _ colon value k k n c.in_default.not-End;
-    }
+          ∙ strings (search rules) l label k n;
+    })
+    (sym (raised c.from_residual.ensures.1))
 
 pub past_spaces-j-requires : goal.past_spaces-j-requires
-past_spaces-j-requires c = let l = leaf_is c.string-r.ensures c.in-End.is in l.high
+past_spaces-j-requires c = let l = leaf_is c.string.ensures c.in_ok-e.was in l.high
 
 pub returns-then-s-j : goal.returns-then-s-j
 returns-then-s-j c =
-    let l = leaf_is c.string-r.ensures c.in-End.is in
+    let l = leaf_is c.string.ensures c.in_ok-e.was in
     record {
       low = omega (arith, l.low);
       high = search rules;
@@ -60,7 +63,7 @@ returns-then-s-j c =
 
 pub returns-then-s-j-eq58 : goal.returns-then-s-j-eq58
 returns-then-s-j-eq58 c =
-    let l = leaf_is c.string-r.ensures c.in-End.is in
+    let l = leaf_is c.string.ensures c.in_ok-e.was in
     record {
       low = omega (arith, l.low);
       high = search rules;
@@ -74,7 +77,7 @@ returns-then-s-j-eq58 c =
 
 pub returns : goal.returns
 returns c =
-    let l = leaf_is c.string-r.ensures c.in-End.is in
+    let l = leaf_is c.string.ensures c.in_ok-e.was in
     record {
       low = omega (arith, l.low);
       high = search rules;

@@ -5,20 +5,20 @@ use Rattle.message.proofs.Accepted.{read_named}
 use borrow.Author.Tests.{lt-ltb, le-ltb}
 use mathlib.Core.Path.{refl, sym, ◌∙◌}
 
-pub returns-then-tag-gt2 : goal.returns-then-tag-gt2
+pub returns-then-m-gt2 : goal.returns-then-m-gt2
 unfolding on_message
-returns-then-tag-gt2 c =
-    rw (c.requires, (sym c.read.ensures ∙ c.in-Read.is), lt-ltb _ _ c.if-tag-gt2.true) (refl, refl, refl)
+returns-then-m-gt2 c =
+    rw (c.requires, (sym c.read.ensures ∙ c.in-Ok.is), lt-ltb _ _ c.if-m-gt2.true) (refl, refl, refl)
 
 pub ask-requires : goal.ask-requires
 ask-requires c =
-    (c.requires, read_named _ _ _ (sym c.read.ensures ∙ c.in-Read.is) c.if-tag-gt2.false)
+    (c.requires, read_named _ _ _ (sym c.read.ensures ∙ c.in-Ok.is) c.if-m-gt2.false)
 
-pub returns-in-Refused : goal.returns-in-Refused
+pub returns-in-Err : goal.returns-in-Err
 unfolding on_message
-returns-in-Refused c = rw (c.requires, (sym c.read.ensures ∙ c.in-Refused.is)) (refl, refl, refl)
+returns-in-Err c = rw (c.requires, (sym c.read.ensures ∙ c.in-Err.is)) (rw (c.number.ensures, c.place.ensures), refl, refl)
 
-pub returns-else-tag-gt2 : goal.returns-else-tag-gt2
+pub returns-else-m-gt2 : goal.returns-else-m-gt2
 unfolding on_message
-returns-else-tag-gt2 c =
-    rw (c.requires, (sym c.read.ensures ∙ c.in-Read.is), le-ltb _ _ c.if-tag-gt2.false) c.ask.ensures
+returns-else-m-gt2 c =
+    rw (c.requires, (sym c.read.ensures ∙ c.in-Ok.is), le-ltb _ _ c.if-m-gt2.false) c.ask.ensures

@@ -1,23 +1,27 @@
-use Rattle.letters.proofs.LoopLaws.{common-ends, common-more, common-short, common-stops}
+-- `pieces::common` meets its contract, by what the pairs that are alike are. Assumes nothing.
+use Prim.Native.Nat.{ℕ}
+use Rattle.letters.proofs.LoopLaws.{common-inside, common-zip}
 use Rattle.letters.proofs.pieces.common.Goals as goal
-use mathlib.Core.Path.{sym, ◌∙◌}
-use native.Mathlib.Nat.{zero-add}
+use Rattle.std.proofs.lemmas.Iterator.Consumers.{count_from_yields_List}
+use Rattle.std.proofs.lemmas.Iterator.Search.{YieldsList-from_take_while}
+use Rattle.std.proofs.lemmas.Iterator.{YieldsList-from_slice, YieldsList-from_zip}
+use Rattle.std.proofs.lemmas.List.Folds.{length-prefix_len}
+use Rattle.std.specs.List.{zip}
+use borrow.Author.Rules.{rules}
+use borrow.Author.Tests.{tests}
+use lib.Dec.{eqb}
+use mathlib.Core.Bool.{Bool}
+use mathlib.Core.Path.{◌∙◌}
 use native.Mathlib.Omega.{arith}
 
-pub loop-i-init : goal.loop-i-init
-loop-i-init c = (omega arith, sym (zero-add _))
-
-pub returns-then-w-i : goal.returns-then-w-i
-returns-then-w-i c = let x = c.args in
-    (sym (c.loop-i.invariant.1 ∙ common-short x.s.now x.w.now c.loop-i.i (omega arith) (omega arith)), omega arith)
-
-pub returns-then-s-i : goal.returns-then-s-i
-returns-then-s-i c = let x = c.args in
-    (sym (c.loop-i.invariant.1 ∙ common-stops x.s.now x.w.now c.loop-i.i (omega arith) (omega arith) c.if-s-i.true), omega arith)
-
-pub loop-i-preserved : goal.loop-i-preserved
-loop-i-preserved c = let x = c.args in
-    (omega arith, c.loop-i.invariant.1 ∙ common-more x.s.now x.w.now c.loop-i.i (omega arith) (omega arith) c.if-s-i.false)
+abbrev alike : ℕ × ℕ → Bool
+alike p = eqb p.0 p.1
 
 pub returns : goal.returns
-returns c = let x = c.args in (sym (c.loop-i.invariant.1 ∙ common-ends x.s.now x.w.now c.loop-i.i (omega arith)), omega arith)
+returns c =
+    let s = c.args.s.now in
+    let w = c.args.w.now in
+    let n = count_from_yields_List _ c.count.result c.count.ensures.ran
+    (YieldsList-from_take_while _ alike (YieldsList-from_zip (YieldsList-from_slice s (cc)) (YieldsList-from_slice w (cc))) (cc) (cc) (λ x b q k. search (rules, tests))) in
+    let e = n ∙ length-prefix_len alike (zip s w) ∙ common-zip s w in
+    (e, omega (arith, e, common-inside s w))

@@ -5,4 +5,4 @@ use mathlib.Core.Path.{◌∙◌}
 
 pub returns : goal.returns
 unfolding address_reach
-returns c = c.higher.ensures ∙ rw (c.caller_reach.ensures, c.callee_reach.ensures)
+returns c = c.max.ensures ∙ rw (c.caller_reach.ensures, c.callee_reach.ensures)

@@ -12,6 +12,6 @@ returns c = let s = c.args.s.now in
     c.common-message.ensures.0
     c.common-callback.ensures.0
     c.common-refer.ensures.0
-    c.common-notify.ensures.0 c.higher.ensures
-    c.higher-2.ensures c.higher-last.ensures c.higher-3.ensures
-    c.higher-4.ensures c.higher-5.ensures c.higher-6.ensures in (e, omega (arith, methods-inside s))
+    c.common-notify.ensures.0 c.max.ensures
+    c.max-2.ensures c.max-last.ensures c.max-3.ensures
+    c.max-4.ensures c.max-5.ensures c.max-6.ensures in (e, omega (arith, methods-inside s))

@@ -2,10 +2,10 @@
 use Rattle.lines.proofs.answering.put_text.Goals as goal
 use Rattle.lines.specs.Program.{answer_text}
 
-pub returns-in-Accepted : goal.returns-in-Accepted
+pub returns-in-Ok : goal.returns-in-Ok
 unfolding answer_text
-returns-in-Accepted c = rw (c.in-Accepted.is, ← c.shown_number.ensures) c.put_accepted.ensures
+returns-in-Ok c = rw (c.in-Ok.is, ← c.shown_number.ensures) c.put_accepted.ensures
 
-pub returns-in-Refused : goal.returns-in-Refused
+pub returns-in-Err : goal.returns-in-Err
 unfolding answer_text
-returns-in-Refused c = rw (c.in-Refused.is, ← c.number.ensures) c.put_refused.ensures
+returns-in-Err c = rw (c.in-Err.is, ← c.number.ensures) c.put_refused.ensures

@@ -2,7 +2,7 @@
 use Prim.Native.Nat.{◌+◌, ◌≤◌}
 use Rattle.lines.proofs.WritingLaws.{not-wrote, wrote}
 use Rattle.lines.proofs.answering.write_two.Goals as goal
-use Rattle.lines.specs.declared.answering.Wrote.TheVariants.{End}
+use Rattle.std.proofs.Common.{Ok}
 use Rattle.octets.proofs.Chain.{splice-two}
 use lib.ListN.{length, length-append}
 use mathlib.Core.List.{◌++◌}
@@ -11,11 +11,6 @@ use native.Mathlib.Omega.{arith}
 
 pub returns-then-out-at : goal.returns-then-out-at
 returns-then-out-at c =
-    let x = c.args in
-    not-wrote x.out.now x.at (x.a.now ++ x.b.now) (rw length-append (omega arith))
-
-pub returns-then-out-at-2 : goal.returns-then-out-at-2
-returns-then-out-at-2 c =
     let x = c.args in
     not-wrote x.out.now x.at (x.a.now ++ x.b.now) (rw length-append (omega arith))
 
@@ -29,7 +24,7 @@ returns c =
     let x = c.args in
     let f : x.at + length (x.a.now ++ x.b.now) ≤ length x.out.now = rw length-append (omega arith) in
     let w = wrote x.out.now x.at (x.a.now ++ x.b.now) f in (
-      ap End (c.put-2.ensures.0 ∙ rw length-append (omega arith)) ∙ w.0,
+      ap Ok (c.put-2.ensures.0 ∙ rw length-append (omega arith)) ∙ w.0,
       c.put-2.ensures.1
           ∙ rw c.put.ensures.1 (splice-two x.out.now x.at x.a.now x.b.now (omega arith)) ∙ w.1,
     )

@@ -18,21 +18,21 @@ pub returns-then-s-n-gt32768 : goal.returns-then-s-n-gt32768
 returns-then-s-n-gt32768 c =
     let n = c.time_length-n.result in
     let z : n - 0 ≡ n = omega arith in
-    too_long c.args.s.now n c.time_length-n.ensures c.in-Value.time (omega arith)
-    (rw z at (sym c.decimal.ensures ∙ c.in-Value.is)) (omega arith)
+    too_long c.args.s.now n c.time_length-n.ensures c.in-Some.time (omega arith)
+    (rw z at (sym c.decimal.ensures ∙ c.in-Some.is)) (omega arith)
 
 pub returns-then-stands_at : goal.returns-then-stands_at
 returns-then-stands_at c =
     let n = c.time_length-n.result in
     let z : n - 0 ≡ n = omega arith in
-    ticks c.args.s.now n c.time_length-n.ensures c.in-Value.time (omega arith)
-    (rw z at (sym c.decimal.ensures ∙ c.in-Value.is)) (omega arith)
+    ticks c.args.s.now n c.time_length-n.ensures c.in-Some.time (omega arith)
+    (rw z at (sym c.decimal.ensures ∙ c.in-Some.is)) (omega arith)
     (sym c.stands_at.ensures ∙ c.if-stands_at.true)
 
 pub returns-else-stands_at : goal.returns-else-stands_at
 returns-else-stands_at c =
     let n = c.time_length-n.result in
     let z : n - 0 ≡ n = omega arith in
-    speaks c.args.s.now n c.time_length-n.ensures c.in-Value.time (omega arith)
-    (rw z at (sym c.decimal.ensures ∙ c.in-Value.is)) (omega arith)
+    speaks c.args.s.now n c.time_length-n.ensures c.in-Some.time (omega arith)
+    (rw z at (sym c.decimal.ensures ∙ c.in-Some.is)) (omega arith)
     (sym c.stands_at.ensures ∙ c.if-stands_at.false)

@@ -22,10 +22,10 @@ returns-then-s-e c =
 pub returns-then-len-eq0 : goal.returns-then-len-eq0
 returns-then-len-eq0 c =
     let x = c.args in
-    in_place x.line.now x.len x.s.now x.from c.line_end-e.ensures (omega arith) c.if-len-eq0.true
+    in_place x.line.now x.len x.s.now x.from c.find-e.ensures (omega arith) c.if-len-eq0.true
 
 pub returns : goal.returns
 returns c =
     let x = c.args in
-    carried x.line.now x.len x.s.now x.from _ c.line_end-e.ensures (omega arith) c.if-len-eq0.false
-    (part-to x.s.now x.from c.line_end-e.result c.line_end-e.ensures) c.keep_part-2.ensures
+    carried x.line.now x.len x.s.now x.from _ c.find-e.ensures (omega arith) c.if-len-eq0.false
+    (part-to x.s.now x.from c.find-e.result c.find-e.ensures) c.keep_part-2.ensures

@@ -1,4 +1,5 @@
 -- `message::checking::judge_field` meets its contract. One law of `CheckLaws` for each way out. Assumes nothing.
+use Rattle.message.specs.inner.Facts.{by_tag}
 use Prim.Native.Nat.{ℕ}
 use Rattle.fields.proofs.SpellingLaws.{own-bytes}
 use Rattle.fields.specs.inner.Asked.{Own}
@@ -9,10 +10,10 @@ use mathlib.Core.List.{List}
 use mathlib.Core.Path.{subst, sym}
 
 pub returns-then-v-eq0 : goal.returns-then-v-eq0
-returns-then-v-eq0 c = let x = c.args in absent x.run x.k x.at.now x.n x.s.now c.if-v-eq0.true
+returns-then-v-eq0 c = let x = c.args in absent (by_tag x.run) x.k x.at.now x.n x.s.now c.if-v-eq0.true
 
 pub returns-then-asks-eq-UNLISTED : goal.returns-then-asks-eq-UNLISTED
-returns-then-asks-eq-UNLISTED c = let x = c.args in unlisted x.run x.k x.at.now x.n c.asks.ensures x.s.now c.if-asks-eq-UNLISTED.true
+returns-then-asks-eq-UNLISTED c = let x = c.args in unlisted (by_tag x.run) x.k x.at.now x.n c.asks.ensures x.s.now c.if-asks-eq-UNLISTED.true
 
 pub value_at-requires : goal.value_at-requires
 value_at-requires c =
@@ -26,5 +27,5 @@ judge-requires c = (
 
 pub returns : goal.returns
 returns c =
-    let x = c.args in present x.run x.k x.at.now x.n c.asks.ensures x.s.now c.if-asks-eq-UNLISTED.false c.if-v-eq0.false
+    let x = c.args in present (by_tag x.run) x.k x.at.now x.n c.asks.ensures x.s.now c.if-asks-eq-UNLISTED.false c.if-v-eq0.false
     c.value_at.ensures c.judge.ensures

@@ -4,6 +4,5 @@ use Rattle.message.proofs.disagreeing.disagree.Goals as goal
 
 pub returns : goal.returns
 returns c =
-    row_ten c.args.s.now c.args.k c.args.at.now c.requires.0 c.side_of-sent.ensures c.side_of.ensures
-    c.sides_disagree-both.ensures c.request_disagrees-request.ensures c.response_disagrees.ensures
-    c.and-response.ensures c.or.ensures c.or-2.ensures
+    row_ten c.args.s.now c.args.k c.args.at.now c.requires.0 c.side_of-from.ensures c.side_of.ensures
+    c.sides_disagree-sides.ensures c.request_disagrees-request.ensures c.response_disagrees-response.ensures

@@ -3,17 +3,14 @@ use Rattle.fields.proofs.TrailLaws.{fits}
 use Rattle.message.proofs.FactLaws.{message-is}
 use Rattle.message.proofs.PartyLaws.{held}
 use Rattle.message.proofs.facts.message_of.Goals as goal
-use Rattle.message.specs.inner.Facts.{Placed}
-use Rattle.rules.specs.declared.addresses.Address.{Address}
 use borrow.Author.Rules.{rules}
 use lib.ListN.{get_or}
-use mathlib.Core.Path.{sym, subst}
 
-pub secure_of-secure-requires : goal.secure_of-secure-requires
-secure_of-secure-requires c = c.requires.1.ends 17
+pub secure_of-requires : goal.secure_of-requires
+secure_of-requires c = c.requires.1.ends 17
 
-pub spelling_span-callid-requires : goal.spelling_span-callid-requires
-spelling_span-callid-requires c = c.requires.1.ends 5
+pub spelling_span-requires : goal.spelling_span-requires
+spelling_span-requires c = c.requires.1.ends 5
 
 pub spelling_span-v-requires : goal.spelling_span-v-requires
 spelling_span-v-requires c = c.requires.1.ends 3
@@ -23,15 +20,15 @@ spelling_span-w-requires c = c.requires.1.ends 2
 
 pub sorted-p-requires : goal.sorted-p-requires
 sorted-p-requires c = (
-  subst (λ (a : Address). Placed a) (sym c.requires.0.sent) (held _),
-  subst (λ (a : Address). Placed a) (sym c.requires.0.meant) (held _),
+  held _ _ c.requires.0.sent,
+  held _ _ c.requires.0.meant,
 )
 
-pub moved-there-requires : goal.moved-there-requires
-moved-there-requires c =
+pub moved-requires : goal.moved-requires
+moved-requires c =
     fits c.args.s.now (get_or c.args.at.now 6 0) (search rules) c.requires.0.trailed
 
 pub returns : goal.returns
 returns c =
-    message-is c.args.s.now c.args.k c.args.at.now c.requires.0 c.side_of-caller.ensures c.secure_of-secure.ensures
-    c.spelling_span-callid.ensures c.spelling_span-v.ensures c.spelling_span-w.ensures c.sorted-p.ensures c.moved-there.ensures
+    message-is c.args.s.now c.args.k c.args.at.now c.requires.0 c.side_of.ensures c.secure_of.ensures
+    c.spelling_span.ensures c.spelling_span-v.ensures c.spelling_span-w.ensures c.sorted-p.ensures c.moved.ensures

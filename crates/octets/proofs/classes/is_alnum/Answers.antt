@@ -1,7 +1,8 @@
--- `octets::classes::is_alnum` meets its contract. By its definition and what the callees ensure. Assumes nothing.
+-- `octets::classes::is_alnum` meets its contract. By what the library's test answers. Assumes nothing.
+use Rattle.octets.proofs.ClassLaws.{alnum_of}
 use Rattle.octets.proofs.classes.is_alnum.Goals as goal
-use Rattle.octets.specs.Class.{is_alnum}
+use Rattle.octets.specs.Class.{among}
 
 pub returns : goal.returns
-unfolding is_alnum
-returns c = cc
+unfolding among
+returns c = alnum_of c.args.b c.is_ascii_alphanumeric.ensures.value

@@ -1,7 +1,7 @@
--- `octets::classes::is_lower` meets its contract. By its definition and what the callees ensure. Assumes nothing.
+-- `octets::classes::is_lower` meets its contract. By what the library's test answers. Assumes nothing.
 use Rattle.octets.proofs.classes.is_lower.Goals as goal
-use Rattle.octets.specs.Class.{is_lower}
+use Rattle.octets.specs.Class.{among, is_lower}
 
 pub returns : goal.returns
-unfolding is_lower
-returns c = cc
+unfolding is_lower among
+returns c = c.is_ascii_lowercase.ensures.value

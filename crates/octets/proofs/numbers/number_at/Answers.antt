@@ -1,30 +1,29 @@
-use Rattle.octets.proofs.NumberLaws.{none_yet, below_one, span_seven, number_more, span_more}
+use Prim.Native.Nat.{◌+◌, ◌-◌, ◌<◌}
+use Rattle.octets.proofs.NumberLaws.{below_one, none_read, one_more, span_more, span_seven}
 use Rattle.octets.proofs.numbers.number_at.Goals as goal
-use borrow.Author.Rules.{rules}
+use lib.ListN.{drop, length, length-drop, take}
+use lib.Seq.{length-take-le}
 use mathlib.Core.Path.{◌≡◌}
 use native.Mathlib.Omega.{arith}
 
-pub loop-i-init : goal.loop-i-init
-loop-i-init c = (search rules, (none_yet c.args.s.now c.args.at, below_one))
+pub loop-b-init : goal.loop-b-init
+loop-b-init c = (none_read, below_one)
 
+-- at most seven bytes were passed
 pub overflow_mul-v : goal.overflow_mul-v
-overflow_mul-v c = omega (arith, span_seven c.loop-i.i c.loop-i.v (omega arith) c.loop-i.invariant.1.1)
+overflow_mul-v c =
+    let x = c.args in
+    let l : length (take (x.at + x.n - x.at) (drop x.at x.s.now)) ≡ x.at + x.n - x.at = length-take-le _ _ (rw length-drop (omega arith)) in
+    omega (arith, span_seven c.loop-b.b-index c.loop-b.v (omega arith) c.loop-b.invariant.1)
 
 pub overflow_add-v : goal.overflow_add-v
-overflow_add-v c = omega (arith, span_seven c.loop-i.i c.loop-i.v (omega arith) c.loop-i.invariant.1.1)
-
-pub loop-i-preserved : goal.loop-i-preserved
-loop-i-preserved c =
-    let x = c.args in (
-      search rules,
-      (
-        number_more x.s.now x.at c.loop-i.i c.loop-i.invariant.1.0 (omega arith) c.wide.ensures.0,
-        span_more c.loop-i.i c.loop-i.invariant.1.1 c.wide.ensures.1,
-      ),
-    )
-
-pub returns : goal.returns
-returns c =
+overflow_add-v c =
     let x = c.args in
-    let e : c.loop-i.i ≡ x.n = omega arith in
-    rw e at c.loop-i.invariant.1.0
+    let l : length (take (x.at + x.n - x.at) (drop x.at x.s.now)) ≡ x.at + x.n - x.at = length-take-le _ _ (rw length-drop (omega arith)) in
+    let b : c.from.result < 256 = omega arith in
+    omega (arith, span_seven c.loop-b.b-index c.loop-b.v (omega arith) c.loop-b.invariant.1)
+
+pub loop-b-preserved : goal.loop-b-preserved
+loop-b-preserved c =
+    let b : c.from.result < 256 = omega arith in
+    (one_more _ c.loop-b.b-index c.loop-b.invariant.0 c.loop-b-test.true c.from.ensures, span_more c.loop-b.b-index c.loop-b.invariant.1 b)

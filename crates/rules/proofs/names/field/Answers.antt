@@ -20,7 +20,7 @@ returns-then-is_field c =
 pub returns-else-is_field : goal.returns-else-is_field
 returns-else-is_field c =
     let x = c.args.s.now in (
-      no_name x _ (guess-is x _ _ _ c.byte-first.ensures c.less.ensures c.byte-last.ensures)
+      no_name x _ (guess-is x _ _ _ c.byte-first.ensures c.saturating_sub.ensures c.byte-last.ensures)
           (sym c.is_field.ensures ∙ c.if-is_field.false),
       omega arith,
     )

@@ -1,19 +1,15 @@
--- `names::is_field` meets its contract, by the table's rule. Assumes nothing.
+-- `names::is_field` meets its contract: the table's entries are the names. Assumes nothing.
+use Prim.Native.Nat.{ℕ}
 use Rattle.octets.specs.Text.{same}
-use Rattle.rules.proofs.NameLaws.{row}
 use Rattle.rules.proofs.names.is_field.Goals as goal
+use Rattle.rules.specs.Names.{field_name, fields}
+use Rattle.std.proofs.Common.{Bor}
+use Rattle.std.proofs.Math.ListN.{get_or-map}
+use Rattle.std.proofs.lemmas.List.{get_or_default}
+use mathlib.Core.List.{List, [], ◌∷◌}
 use mathlib.Core.Path.{◌∙◌, ap}
-use native.Mathlib.Omega.{arith}
-
-pub slice_bounds-same-count : goal.slice_bounds-same-count
-slice_bounds-same-count c = (row c.args.k (omega arith)).rises
-
-pub slice_bounds-same-start : goal.slice_bounds-same-start
-slice_bounds-same-start c = (row c.args.k (omega arith)).rises
-
-pub slice_bounds-same-end : goal.slice_bounds-same-end
-slice_bounds-same-end c = (row c.args.k (omega arith)).inside
 
 pub returns : goal.returns
+unfolding field_name
 returns c =
-    c.same.ensures ∙ ap (same c.args.s.now) (row c.args.k (omega arith)).is
+    c.same.ensures ∙ ap (same c.args.s.now) (rw (← get_or-map (λ (x : Bor (List ℕ)). x.now)) (get_or_default ([] ∷ fields) c.args.k _ [] c.requires))

@@ -1,28 +1,19 @@
+-- `pieces::has_digits` meets its contract, by what `all` answers over a range. Assumes nothing.
 use Rattle.octets.specs.Class.{is_digit}
-use Rattle.rules.proofs.PieceLaws.{digits_more, digits-stops}
+use Rattle.rules.proofs.PieceLaws.{digits_all}
 use Rattle.rules.proofs.pieces.has_digits.Goals as goal
-use Rattle.rules.specs.Pieces.{digits}
+use Rattle.std.proofs.lemmas.Iterator.Search.{all_from_yields_List}
+use Rattle.std.proofs.lemmas.Iterator.{YieldsList-from_range}
 use borrow.Author.Rules.{rules}
-use borrow.Author.Tests.{not-false, not-true}
-use mathlib.Core.Path.{◌∙◌, ◌≡◌, ap, refl, sym}
+use borrow.Author.Tests.{tests}
+use Prim.Native.Nat.{◌+◌}
+use lib.ListN.{get_or}
+use mathlib.Core.Path.{◌∙◌}
 use native.Mathlib.Omega.{arith}
 
-pub loop-i-init : goal.loop-i-init
-unfolding digits
-loop-i-init c = (search rules, refl)
-
-pub returns-then-not-is_digit : goal.returns-then-not-is_digit
-returns-then-not-is_digit c = let x = c.args in
-    sym (digits-stops x.s.now x.at c.loop-i.i x.n (omega arith)
-    (sym (ap is_digit c.byte.ensures) ∙ sym c.is_digit.ensures ∙ not-true _ c.if-not-is_digit.true-raw))
-
-pub loop-i-preserved : goal.loop-i-preserved
-loop-i-preserved c = let x = c.args in (
-  omega arith,
-  digits_more x.s.now x.at c.loop-i.i c.loop-i.invariant.1
-      (sym (ap is_digit c.byte.ensures) ∙ sym c.is_digit.ensures ∙ not-false _ c.if-not-is_digit.false-raw),
-)
-
 pub returns : goal.returns
-returns c = let x = c.args in let e : c.loop-i.i ≡ x.n = omega arith in
-    sym (ap (λ k. digits k x.s.now x.at) (sym e) ∙ c.loop-i.invariant.1)
+returns c =
+    let x = c.args in
+    let e = all_from_yields_List (λ i. is_digit (get_or x.s.now (x.at + i) 0)) _ _ c.all.result c.all.ensures.ran
+    (YieldsList-from_range 0 x.n x.n (cc) (omega arith)) (λ y b q k. search (rules, tests)) in
+    e ∙ digits_all x.s.now x.at x.n

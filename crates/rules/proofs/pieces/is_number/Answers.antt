@@ -2,7 +2,12 @@
 use Rattle.octets.specs.Class.{among}
 use Rattle.rules.proofs.pieces.is_number.Goals as goal
 use Rattle.rules.specs.Pieces.{has_piece}
+use Rattle.std.proofs.Common.{arith}
 
-pub returns : goal.returns
+pub returns-then-lo-v : goal.returns-then-lo-v
 unfolding has_piece among
-returns c = cc
+returns-then-lo-v c = grind arith
+
+pub returns-else-lo-v : goal.returns-else-lo-v
+unfolding has_piece among
+returns-else-lo-v c = grind arith

@@ -1,32 +1,20 @@
 use Rattle.rules.proofs.PieceLaws.{number_more, value-small}
 use Rattle.rules.proofs.pieces.number_at.Goals as goal
 use Rattle.rules.specs.Pieces.{decimal_at}
-use borrow.Author.Rules.{rules}
-use mathlib.Core.Path.{◌∙◌, ◌≡◌, ap, refl}
+use mathlib.Core.Path.{refl}
 use native.Mathlib.Omega.{arith}
 
 pub loop-i-init : goal.loop-i-init
 unfolding decimal_at
-loop-i-init c = (search rules, refl)
+loop-i-init c = refl
 
 pub overflow_mul-v : goal.overflow_mul-v
-overflow_mul-v c = omega (
-  arith,
-  value-small c.args.s.now c.args.at
-      (λ k. omega (arith, c.shared_slice_known-1.given k)) c.loop-i.i (omega arith),
-)
+overflow_mul-v c =
+    omega (arith, value-small c.args.s.now c.args.at (λ k. omega (arith, c.shared_slice_known-1.given k)) c.loop-i.i (omega arith))
 
 pub overflow_add-v : goal.overflow_add-v
 overflow_add-v c =
-    omega (
-      arith,
-      value-small c.args.s.now c.args.at (λ k. omega (arith, c.shared_slice_known-1.given k)) c.loop-i.i
-          (omega arith),
-    )
+    omega (arith, value-small c.args.s.now c.args.at (λ k. omega (arith, c.shared_slice_known-1.given k)) c.loop-i.i (omega arith))
 
 pub loop-i-preserved : goal.loop-i-preserved
-loop-i-preserved c = let x = c.args in
-    (omega arith, number_more x.s.now x.at c.loop-i.i c.loop-i.v _ _ c.loop-i.invariant.1 c.byte.ensures c.worth.ensures.0)
-
-pub returns : goal.returns
-returns c = let x = c.args in let e : c.loop-i.i ≡ x.n = omega arith in c.loop-i.invariant.1 ∙ ap (λ k. decimal_at k x.s.now x.at) e
+loop-i-preserved c = number_more c.args.s.now c.args.at c.loop-i.i c.loop-i.v _ _ c.loop-i.invariant c.byte.ensures c.worth.ensures.0

@@ -2,7 +2,12 @@
 use Rattle.octets.specs.Class.{among}
 use Rattle.rules.proofs.pieces.within.Goals as goal
 use Rattle.rules.specs.Pieces.{within}
+use Rattle.std.proofs.Common.{arith}
 
-pub returns : goal.returns
+pub returns-then-holds : goal.returns-then-holds
 unfolding within among
-returns c = cc
+returns-then-holds c = grind arith
+
+pub returns-else-holds : goal.returns-else-holds
+unfolding within among
+returns-else-holds c = grind arith

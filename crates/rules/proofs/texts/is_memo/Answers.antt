@@ -1,41 +1,25 @@
-use Rattle.rules.proofs.PieceLaws.{memo_ends, memo_more, memo_stops, points-more, points-same}
+-- `texts::is_memo` meets its contract, by what `all` and `count` answer. Assumes nothing.
+use Rattle.octets.proofs.ClassLaws.{every}
+use Rattle.rules.proofs.PieceLaws.{points-counted}
 use Rattle.rules.proofs.texts.is_memo.Goals as goal
-use mathlib.Core.Path.{refl}
-use native.Mathlib.Omega.{arith}
+use Rattle.rules.specs.Texts.{begins_point, memo_rule, no_break}
+use Rattle.std.proofs.Common.{rules, ◌≡◌}
+use Rattle.std.proofs.lemmas.Iterator.Search.{all_from_yields_List}
+use Rattle.std.proofs.lemmas.Iterator.{YieldsList-from_slice}
+use Rattle.std.specs.List.{count_by}
+use borrow.Author.Tests.{tests}
 
-pub loop-i-init : goal.loop-i-init
-loop-i-init c = (omega arith, (omega arith, (refl, omega arith)))
-
-pub returns-then-or : goal.returns-then-or
-returns-then-or c =
+pub returns-then-all : goal.returns-then-all
+unfolding memo_rule no_break begins_point
+returns-then-all c =
     let s = c.args.s.now in
-    memo_stops s c.loop-i.i c.loop-i.invariant.1.1.0 _ c.or.ensures (omega arith) c.if-or.true
+    let n : c.count.result ≡ count_by begins_point s = search rules in
+    let a = all_from_yields_List no_break _ _ c.all.result c.all.ensures.ran (YieldsList-from_slice s cc) (λ y b q k. search (rules, tests)) in
+    rw (← every no_break s, ← a, c.if-all.true, points-counted s, n)
 
-pub loop-i-preserved-then-among : goal.loop-i-preserved-then-among
-loop-i-preserved-then-among c =
-    let s = c.args.s.now in (
-      omega arith,
-      (
-        omega arith,
-        (
-          memo_more s c.loop-i.i c.loop-i.invariant.1.1.0 _ c.or.ensures (omega arith) c.if-or.false,
-          points-same s c.loop-i.i c.loop-i.n (omega arith) _ c.among.ensures c.if-among.true _ c.loop-i.invariant.1.1.1,
-        ),
-      ),
-    )
-
-pub loop-i-preserved : goal.loop-i-preserved
-loop-i-preserved c =
-    let s = c.args.s.now in (
-      omega arith,
-      (
-        omega arith,
-        (
-          memo_more s c.loop-i.i c.loop-i.invariant.1.1.0 _ c.or.ensures (omega arith) c.if-or.false,
-          points-more s c.loop-i.i c.loop-i.n (omega arith) _ c.among.ensures c.if-among.false _ c.loop-i.invariant.1.1.1,
-        ),
-      ),
-    )
-
-pub returns : goal.returns
-returns c = memo_ends c.args.s.now c.loop-i.i c.loop-i.n c.loop-i.invariant.1.1.0 (omega arith) c.loop-i.invariant.1.1.1
+pub returns-else-all : goal.returns-else-all
+unfolding memo_rule no_break
+returns-else-all c =
+    let s = c.args.s.now in
+    let a = all_from_yields_List no_break _ _ c.all.result c.all.ensures.ran (YieldsList-from_slice s cc) (λ y b q k. search (rules, tests)) in
+    rw (← every no_break s, ← a, c.if-all.false)

@@ -9,23 +9,23 @@ use native.Mathlib.Omega.{arith}
 
 pub put_number-requires : goal.put_number-requires
 put_number-requires c = omega
-    (arith, number-length c.in-Refused.number (ascii " ") (omega arith))
+    (arith, number-length c.number.result (ascii " ") (omega arith))
 
-pub returns-in-Read : goal.returns-in-Read
+pub returns-in-Ok : goal.returns-in-Ok
 unfolding reading_text
-returns-in-Read c = rw c.in-Read.is
+returns-in-Ok c = rw c.in-Ok.is
     (let w = more (ascii "ok ") (start c.args.out.now) c.put.ensures in ((w.place, w.is), omega (arith, w.place)))
 
-pub returns-in-Refused : goal.returns-in-Refused
-returns-in-Refused c =
-    rw c.in-Refused.is (
-      reading-refused c.args.out.now c.in-Refused.number c.in-Refused.place c.put-before_number.ensures c.put_number-before_place.ensures c.put_number.ensures,
+pub returns-in-Err : goal.returns-in-Err
+returns-in-Err c =
+    rw c.in-Err.is (
+      reading-refused c.args.out.now c.in-Err.why c.number.ensures c.place.ensures c.put-before_number.ensures c.put_number-before_place.ensures c.put_number.ensures,
       omega (
         arith,
         c.put-before_number.ensures.0,
         c.put_number-before_place.ensures.0,
         c.put_number.ensures.0,
-        number-length c.in-Refused.number (ascii " ") (omega arith),
-        number-length c.in-Refused.place (ascii " ") (omega arith),
+        number-length c.number.result (ascii " ") (omega arith),
+        number-length c.place.result (ascii " ") (omega arith),
       ),
     )

@@ -1,21 +1,25 @@
 -- By whether the word stands for bytes. Assumes nothing.
 use Rattle.showing.proofs.ReadingLaws.{read-good, read-unknown}
 use Rattle.showing.proofs.ShownLaws.{says}
-use Rattle.showing.proofs.WordLaws.{got_alone, got_false, got_true, half}
+use Rattle.showing.proofs.WordLaws.{got_alone, got_false, got_place, got_true, half}
 use Rattle.showing.proofs.readings.read.Goals as goal
 use Rattle.showing.specs.Words.{is_bytes}
 use native.Mathlib.Omega.{arith}
 
-pub returns-then-n-gt85000 : goal.returns-then-n-gt85000
-returns-then-n-gt85000 c =
+pub returns-in_default : goal.returns-in_default
+returns-in_default c =
     let x = c.args in
-    says x.out.now (read-unknown x.ceiling x.word.now
-    (got_false (is_bytes x.word.now) c.take_bytes-n.ensures (omega (arith, half x.word.now)) c.if-n-gt85000.true))
-    c.put_unknown.ensures
+    says x.out.now (read-unknown x.ceiling x.word.now (got_false (is_bytes x.word.now) c.take_bytes.ensures c.in_default.is)) c.put_unknown.ensures
+
+pub judge-requires : goal.judge-requires
+judge-requires c =
+    let w = c.args.word.now in
+    let t = c.take_bytes.ensures in
+    omega (arith, half w, (got_place t (got_true (is_bytes w) t c.in-Some.is) c.in-Some.is).0)
 
 pub returns : goal.returns
 returns c =
     let x = c.args in
-    let t = c.take_bytes-n.ensures in
-    says x.out.now (read-good x.ceiling x.word.now (got_true (is_bytes x.word.now) t c.if-n-gt85000.false))
-    (rw (got_alone (is_bytes x.word.now) t c.if-n-gt85000.false) at c.judge.ensures)
+    let t = c.take_bytes.ensures in
+    says x.out.now (read-good x.ceiling x.word.now (got_true (is_bytes x.word.now) t c.in-Some.is))
+    (rw (got_alone (is_bytes x.word.now) t c.in-Some.is) at c.judge.ensures)

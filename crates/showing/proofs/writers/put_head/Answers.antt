@@ -2,10 +2,10 @@
 use Rattle.showing.proofs.writers.put_head.Goals as goal
 use Rattle.showing.specs.Writers.{head_of}
 
-pub returns-in-Done : goal.returns-in-Done
+pub returns-in-Ok : goal.returns-in-Ok
 unfolding head_of
-returns-in-Done c = rw c.in-Done.is c.put_first.ensures
+returns-in-Ok c = rw c.in-Ok.is c.put_first.ensures
 
-pub returns-in-Refused : goal.returns-in-Refused
+pub returns-in-Err : goal.returns-in-Err
 unfolding head_of
-returns-in-Refused c = rw (c.in-Refused.is, ← c.number.ensures) c.put_first-in-Refused.ensures
+returns-in-Err c = rw (c.in-Err.is, ← c.from.ensures) c.put_first-in-Err.ensures

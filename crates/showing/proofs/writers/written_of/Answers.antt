@@ -1,11 +1,8 @@
 -- By the case of the answer. Assumes nothing.
 use Rattle.showing.proofs.writers.written_of.Goals as goal
 use Rattle.showing.specs.Writers.{written_of}
+use Rattle.std.proofs.Common.{arith}
 
-pub returns-in-Done : goal.returns-in-Done
+pub returns : goal.returns
 unfolding written_of
-returns-in-Done c = rw c.in-Done.is
-
-pub returns-in-Refused : goal.returns-in-Refused
-unfolding written_of
-returns-in-Refused c = rw c.in-Refused.is
+returns c = grind arith

@@ -12,7 +12,7 @@ use mathlib.Core.Path.{◌≡◌, sym}
 use native.Mathlib.Omega.{arith}
 
 pub loop-l-init : goal.loop-l-init
-loop-l-init c = (search rules, λ j h. absurd (omega arith))
+loop-l-init c = λ j h. absurd (omega arith)
 
 pub is_apart-requires : goal.is_apart-requires
 is_apart-requires c = (
@@ -31,14 +31,12 @@ returns-then-not-is_apart c =
     c.record_at.ensures.0 (not-true _ c.if-not-is_apart.true-raw)))
 
 pub loop-l-preserved : goal.loop-l-preserved
-loop-l-preserved c = (
-  search rules,
-  below_more (λ j. apart (record_at c.args.t.now c.args.k) (record_at c.args.t.now j) ≡ true) c.loop-l.l
-      c.loop-l.invariant.1 (through-both apart c.is_apart.ensures
-      c.record_at-r.ensures.0 c.record_at.ensures.0
-      (not-false _ c.if-not-is_apart.false-raw)),
-)
+loop-l-preserved c =
+    below_more (λ j. apart (record_at c.args.t.now c.args.k) (record_at c.args.t.now j) ≡ true) c.loop-l.l
+    c.loop-l.invariant (through-both apart c.is_apart.ensures
+    c.record_at-r.ensures.0 c.record_at.ensures.0
+    (not-false _ c.if-not-is_apart.false-raw))
 
 pub returns : goal.returns
 unfolding apart_before
-returns c = sym (all-every _ c.args.k (λ j h. c.loop-l.invariant.1 j (omega arith)))
+returns c = sym (all-every _ c.args.k (λ j h. c.loop-l.invariant j (omega arith)))

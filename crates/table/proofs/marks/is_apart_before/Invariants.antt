@@ -1,5 +1,5 @@
 -- `table::marks::is_apart_before` meets its contract. The loop's invariant: record k is apart from each record passed. Assumes nothing.
-use Prim.Native.Nat.{ℕ, ◌≤◌, ◌<◌, ◌-◌}
+use Prim.Native.Nat.{ℕ, ◌<◌}
 use Rattle.table.proofs.marks.is_apart_before.Given as goal
 use Rattle.table.specs.Image.{record_at}
 use Rattle.table.specs.WellFormed.{apart}
@@ -7,7 +7,4 @@ use mathlib.Core.Bool.{true}
 use mathlib.Core.Path.{◌≡◌}
 
 abbrev pub invariant-loop-l : goal.invariant-loop-l
-invariant-loop-l l = (l.l ≤ l.k) × ((j : ℕ) → j < l.l → apart (record_at l.t l.k) (record_at l.t j) ≡ true)
-
-abbrev pub decreases-loop-l : goal.decreases-loop-l
-decreases-loop-l l = l.k - l.l
+invariant-loop-l l = (j : ℕ) → j < l.l → apart (record_at l.t l.k) (record_at l.t j) ≡ true

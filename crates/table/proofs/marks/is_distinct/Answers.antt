@@ -12,7 +12,7 @@ use mathlib.Core.Path.{◌≡◌, refl, sym, ◌∙◌}
 use native.Mathlib.Omega.{arith}
 
 pub loop-k-init : goal.loop-k-init
-loop-k-init c = (search rules, search rules, refl, marks-none c.args.t.now _, λ j h. absurd (omega arith))
+loop-k-init c = (refl, marks-none c.args.t.now _, λ j h. absurd (omega arith))
 
 pub is_new-requires : goal.is_new-requires
 is_new-requires c = (
@@ -20,7 +20,7 @@ is_new-requires c = (
   omega arith,
   mark_of_lem c.mark-m.ensures c.text.ensures
       c.record_at.ensures.0,
-  c.loop-k.invariant.3,
+  c.loop-k.invariant.1,
   search rules,
 )
 
@@ -33,17 +33,15 @@ returns-then-not-is_new c =
 
 pub loop-k-preserved : goal.loop-k-preserved
 loop-k-preserved c = (
-  search rules,
-  search rules,
-  simp length-set c.loop-k.invariant.2,
+  simp length-set c.loop-k.invariant.0,
   marks-more c.args.t.now c.loop-k.marks c.loop-k.k
-      c.loop-k.invariant.3 (omega arith) (mark_of_lem c.mark-m.ensures
+      c.loop-k.invariant.1 (omega arith) (mark_of_lem c.mark-m.ensures
       c.text.ensures c.record_at.ensures.0),
   below_more
-      (λ j. apart_before c.args.t.now j ≡ true) c.loop-k.k c.loop-k.invariant.4
+      (λ j. apart_before c.args.t.now j ≡ true) c.loop-k.k c.loop-k.invariant.2
       (sym c.is_new.ensures ∙ not-false _ c.if-not-is_new.false-raw),
 )
 
 pub returns : goal.returns
 unfolding distinct
-returns c = sym (all-every _ (record_count c.args.t.now) (λ j h. c.loop-k.invariant.4 j (omega arith)))
+returns c = sym (all-every _ (record_count c.args.t.now) (λ j h. c.loop-k.invariant.2 j (omega arith)))

@@ -1,7 +1,6 @@
 -- `table::marks::is_distinct` meets its contract. The loop's invariant: each record passed is apart from those before it, and its mark is kept. Assumes nothing.
-use Prim.Native.Nat.{ℕ, ◌≤◌, ◌<◌, ◌-◌}
+use Prim.Native.Nat.{ℕ, ◌<◌}
 use Rattle.table.proofs.marks.is_distinct.Given as goal
-use Rattle.table.specs.Image.{record_count}
 use Rattle.table.specs.WellFormed.{apart_before}
 use Rattle.table.specs.inner.Mark.{Marks}
 use lib.ListN.{length}
@@ -10,7 +9,4 @@ use mathlib.Core.Path.{◌≡◌}
 
 abbrev pub invariant-loop-k : goal.invariant-loop-k
 invariant-loop-k at =
-    (at.k ≤ at.n) × (at.n ≡ record_count at.t) × (length at.marks ≡ 255) × Marks at.t at.marks at.k × ((l : ℕ) → l < at.k → apart_before at.t l ≡ true)
-
-abbrev pub decreases-loop-k : goal.decreases-loop-k
-decreases-loop-k l = l.n - l.k
+    (length at.marks ≡ 255) × Marks at.t at.marks at.k × ((l : ℕ) → l < at.k → apart_before at.t l ≡ true)

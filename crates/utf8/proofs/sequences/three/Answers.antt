@@ -1,8 +1,9 @@
 -- `utf8::sequences::three` meets its contract. One law of `Rows` for each byte. Assumes nothing.
 use Prim.Native.Nat.{◌+◌}
-use Rattle.utf8.proofs.Rows.{inside, goes_on_lem, stops, last}
+use Rattle.utf8.proofs.Rows.{inside, goes_on_lem, stops, last, whole}
 use Rattle.utf8.proofs.sequences.three.Goals as goal
 use Rattle.utf8.specs.Rfc3629.{tail, counted}
+use Rattle.utf8.specs.inner.Sized.{sized}
 use borrow.Author.Tests.{not-true, not-false}
 use mathlib.Core.Bool.{Bool}
 use mathlib.Core.List.{[], ◌∷◌}
@@ -12,7 +13,7 @@ use native.Mathlib.Omega.{arith}
 pub returns-then-not-next : goal.returns-then-not-next
 returns-then-not-next c =
     let x = c.args in
-    stops x.lo x.hi (tail ∷ []) x.s.now (x.at + 1) (omega arith) 3 (sym c.next.ensures ∙ not-true _ c.if-not-next.true-raw)
+    ap sized (stops x.lo x.hi (tail ∷ []) x.s.now (x.at + 1) (omega arith) 3 (sym c.next.ensures ∙ not-true _ c.if-not-next.true-raw))
 
 pub overflow_add-at-2 : goal.overflow_add-at-2
 overflow_add-at-2 c =
@@ -22,8 +23,8 @@ overflow_add-at-2 c =
 pub returns : goal.returns
 returns c =
     let x = c.args in
-    c.whole.ensures
-    ∙ ap (λ (t : Bool). counted t 3)
+    c.then_some.ensures ∙ whole _ 2
+    ∙ ap (λ (t : Bool). sized (counted t 3))
     (c.next-2.ensures ∙ last 0x80 0xBF x.s.now (x.at + 2) (omega arith)
     ∙ sym (goes_on_lem x.lo x.hi (tail ∷ []) x.s.now (x.at + 1) (omega arith) (x.at + 2) (omega arith)
     (sym c.next.ensures ∙ not-false _ c.if-not-next.false-raw)))

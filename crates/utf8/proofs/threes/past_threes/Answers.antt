@@ -1,9 +1,8 @@
 use Rattle.utf8.proofs.PassedLaws.{then, passed-char}
 use Rattle.utf8.proofs.threes.past_threes.Goals as goal
-use borrow.Author.Tests.{not-false}
 use native.Mathlib.Omega.{arith}
 
 pub loop-i-preserved : goal.loop-i-preserved
 loop-i-preserved c =
     let s = c.args.s.now in
-    then s c.loop-i.invariant (passed-char s c.loop-i.i 3 (omega arith) (c.is_three.ensures (not-false _ c.if-not-is_three.false-raw)) (λ e. omega (arith, e)))
+    then s c.loop-i.invariant (passed-char s c.loop-i.i 3 (omega arith) (c.is_three.ensures c.if-is_three.true) (λ e. omega (arith, e)))

@@ -1,5 +1,5 @@
 -- `writing::objects::has_ours` meets its contract. The loop keeps that the objects still to come decide. Assumes nothing.
-use Prim.Native.Nat.{◌≤◌, ◌<◌}
+use Prim.Native.Nat.{◌-◌, ◌≤◌, ◌<◌}
 use Rattle.json_text.specs.Places.{bytes, elements, elements_from}
 use Rattle.writing.proofs.objects.has_ours.Given as goal
 use Rattle.writing.specs.Objects.{is_ours, some}
@@ -7,10 +7,8 @@ use lib.ListN.{length}
 use mathlib.Core.List.{map}
 use mathlib.Core.Path.{◌≡◌}
 
-abbrev pub invariant-loop-n : goal.invariant-loop-n
-invariant-loop-n l =
+abbrev pub invariant-loop : goal.invariant-loop
+invariant-loop l =
     (l.p ≤ length l.s) × ((length l.s < 18446744073709551616)
-    × (some (is_ours l.host l.destination) (map (bytes l.s) (elements l.s l.v)) ≡ some (is_ours l.host l.destination) (map (bytes l.s) (elements_from l.n l.s l.p))))
-
-abbrev pub decreases-loop-n : goal.decreases-loop-n
-decreases-loop-n l = l.n
+    × (some (is_ours l.path.host.now l.path.destination.now) (map (bytes l.s) (elements l.s l.v))
+    ≡ some (is_ours l.path.host.now l.path.destination.now) (map (bytes l.s) (elements_from (length l.s - l.counter) l.s l.p))))

@@ -6,16 +6,16 @@ pub returns-then-m : goal.returns-then-m
 returns-then-m c = let x = c.args in
     text-broken x.out.now x.s.now c.measure-m.ensures c.if-m.true
 
-pub returns-then-length-gt32768 : goal.returns-then-length-gt32768
-returns-then-length-gt32768 c = let x = c.args in
-    text-long x.out.now x.s.now c.measure-m.ensures c.if-m.false c.if-length-gt32768.true
+pub returns-then-m-gt32768 : goal.returns-then-m-gt32768
+returns-then-m-gt32768 c = let x = c.args in
+    text-long x.out.now x.s.now c.measure-m.ensures c.if-m.false c.if-m-gt32768.true
 
-pub returns-then-out-length : goal.returns-then-out-length
-returns-then-out-length c = let x = c.args in
-    text-room x.out.now x.s.now c.measure-m.ensures c.if-m.false c.if-length-gt32768.false c.if-out-length.true
+pub returns-then-out-m : goal.returns-then-out-m
+returns-then-out-m c = let x = c.args in
+    text-room x.out.now x.s.now c.measure-m.ensures c.if-m.false c.if-m-gt32768.false c.if-out-m.true
 
 pub returns : goal.returns
 returns c =
     let x = c.args in
-    text-done x.out.now x.s.now c.measure-m.ensures c.if-m.false c.if-length-gt32768.false c.if-out-length.false
+    text-done x.out.now x.s.now c.measure-m.ensures c.if-m.false c.if-m-gt32768.false c.if-out-m.false
     c.decode.ensures

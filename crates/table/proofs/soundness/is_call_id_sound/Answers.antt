@@ -1,7 +1,0 @@
--- `table::soundness::is_call_id_sound` meets its contract. The tests are those of the definition. Assumes nothing.
-use Rattle.table.proofs.soundness.is_call_id_sound.Goals as goal
-use Rattle.table.specs.WellFormed.{slot_sound}
-
-pub returns : goal.returns
-unfolding slot_sound
-returns c = cc
