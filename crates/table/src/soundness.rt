@@ -130,8 +130,7 @@ fn are_records_sound(t: &[u8]) -> bool
 }
 
 // Whether the table is well-formed. Any bytes will do. Counted on x86-64: 255 records in use with Call-IDs of 36 bytes take
-// 367,000 instructions and 255 free records 16,000; the costliest table that we could make, of full texts and Call-IDs that share
-// their mark, takes 1,283,000.
+// 354,000 instructions; the costliest table that we could make, of full texts and Call-IDs that share their mark, takes 1,104,000.
 pub fn well_formed(t: &[u8]) -> bool
     ensures { result ≡ well_formed t.now }
 {
