@@ -2,11 +2,15 @@
 // `ok COUNT`, `no 4 PLACE`, `no 5 PLACE` or `no 11 PLACE`. A text has 1,024 bytes at most, all lines 65,536.
 #![tactic(auto)]
 
+ghost use Rattle.std.specs.Prelude.{◌≤◌, length};
+
 use json_text::Fault;
 use std::io;
 
 // The text that a word of hex stands for, put into `room`; a word that is too long stands for none.
-fn decoded<'a>(word: &[u8], room: &'a mut [u8; 1024]) -> &'a [u8] {
+fn decoded<'a>(word: &[u8], room: &'a mut [u8; 1024]) -> &'a [u8]
+    ensures { length result.now ≤ 1024 }
+{
     if 2048 < word.len() {
         return b"";
     }

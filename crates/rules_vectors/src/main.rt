@@ -2,6 +2,8 @@
 // the parts that the value has. A line that is none of these is answered `?`.
 #![tactic(auto)]
 
+ghost use Rattle.std.specs.Prelude.{◌≤◌, length, IfSome};
+
 use std::io;
 
 fn write(rt: &impl Print, text: &[u8]) -> io::Result<()> {
@@ -120,7 +122,9 @@ fn answer(rt: &impl Print, name: &[u8], v: &[u8]) -> io::Result<()> {
 }
 
 // The bytes that a word of hex stands for, put into `room`; None where it stands for none, or for more than there is room.
-fn decoded<'a>(word: &[u8], room: &'a mut [u8; 1024]) -> Option<&'a [u8]> {
+fn decoded<'a>(word: &[u8], room: &'a mut [u8; 1024]) -> Option<&'a [u8]>
+    ensures { IfSome result (λ bytes. length bytes.now ≤ 1024) }
+{
     if 2048 < word.len() || !hex_text::is_hex(word) {
         return None;
     }
