@@ -57,7 +57,10 @@ int main(int count, char **words) {
         size_t bytes = make(i, "request",
                             "\"CSeq\":\"1 INVITE\",\"Session-ID\":\"S1\",\"Call-Mode\":\"emergency\",\"Call-Test\":0,\"Secure-Call\":true,"
                             "\"Rescuee\":\"caller\",\"Request-Service\":\"fire\",\"Language\":\"ja\",\"Locations\":[],"
-                            "\"User-Agent\":\"\",\"Caller\":{}");
+                            "\"User-Agent\":\"\",\"Caller\":{\"region\":\"nishi\",\"uid\":\"u1\",\"email\":\"u1@mail.nx\","
+                            "\"last-modified\":\"2024-02-29T09:00:00+0900\",\"personal-information\":{\"name\":\"A\",\"address\":\"B\","
+                            "\"sex\":\"male\",\"birthday\":\"1982-01-19\",\"location\":{\"latitude\":35.66,\"longitude\":139.75}},"
+                            "\"region-information\":{\"name\":\"Nishi\",\"tel\":\"119\"}}");
         if (net119_message(table, length, 1000, (const uint8_t *)message, bytes).number != NET119_OK) return 3;
     }
     for (size_t i = 0; i < wanted; i++) {

@@ -18,7 +18,10 @@
 static const char *const words[] = {"refused", "pass", "repeat", "bye", "timeout", "idle", "freed", "none"};
 static const char *const invite_fields =
     ",\"Session-ID\":\"S1.nx\",\"Call-Mode\":\"emergency\",\"Call-Test\":0,\"Secure-Call\":true,\"Rescuee\":\"caller\","
-    "\"Request-Service\":\"ambulance\",\"Language\":\"ja\",\"Locations\":[],\"User-Agent\":\"\",\"Caller\":{}";
+    "\"Request-Service\":\"ambulance\",\"Language\":\"ja\",\"Locations\":[],\"User-Agent\":\"\",\"Caller\":{"
+    "\"region\":\"nishi\",\"uid\":\"u1\",\"email\":\"u1@mail.nx\",\"last-modified\":\"" DATE "\",\"personal-information\":{"
+    "\"name\":\"A\",\"address\":\"B\",\"sex\":\"male\",\"birthday\":\"1982-01-19\",\"location\":{\"latitude\":35.66,\"longitude\":139.75}},"
+    "\"region-information\":{\"name\":\"Nishi\",\"tel\":\"119\"}}";
 static const char *const chat_fields =
     ",\"Message-ID\":\"caller-nishi-1\",\"Content-Type\":\"text\\/plain\",\"Body\":\"My father has collapsed.\"";
 

@@ -51,8 +51,7 @@ extern "C" {
 #define NET119_CEILING 16384
 
 /*
- * No call takes more stack than this, whatever it is handed: the stack grows with the nesting of JSON alone, and that ends at eight. A
- * little over half of it is used.
+ * No call takes more stack than this, whatever it is handed: the stack grows with the nesting of JSON alone, and that ends at eight.
  */
 #define NET119_STACK 8192
 
@@ -136,6 +135,41 @@ typedef struct {
                        ceiling, and twice it at most the bytes and one; 0 where refused by 2 to 5 or 11 */
 } net119_count_answer;
 
+/* The provider of a position. */
+enum {
+    NET119_NO_PROVIDER = 0, /* no position */
+    NET119_GPS = 1,
+    NET119_NETWORK = 2,
+    NET119_PRESET = 3,      /* chosen by the caller before the call */
+    NET119_MAP = 4          /* pointed at by the caller */
+};
+
+typedef struct {
+    uint8_t number; /* 0, or 2 to 11 */
+    bool home;      /* where accepted, whether the message has a home */
+    size_t place;   /* of the refusal, as said above; 0 where accepted */
+    size_t count;   /* where accepted, how many positions the message has; else 0 */
+} net119_positions_answer;
+
+typedef struct {
+    uint8_t number;     /* 0, or 2 to 11 */
+    bool found;         /* where accepted, whether there is such a position; where not, all below but the place is 0 */
+    uint8_t provider;   /* NET119_GPS to NET119_MAP */
+    bool has_accuracy;  /* whether the message tells an accuracy */
+    int32_t latitude;   /* in whole millionths of a degree, -90,000,000 to 90,000,000 */
+    int32_t longitude;  /* likewise, -180,000,000 to 180,000,000 */
+    size_t place;       /* of the refusal, as said above; 0 where accepted */
+    uint64_t accuracy;  /* in whole metres, 0 where there is none; the largest number of 64 bits where the message has a larger one */
+} net119_position_answer;
+
+typedef struct {
+    uint8_t number;    /* 0, or 2 to 11 */
+    bool found;        /* where accepted, whether there is a home; where not, both below are 0 */
+    int32_t latitude;  /* as of a position */
+    int32_t longitude;
+    size_t place;      /* of the refusal, as said above; 0 where accepted */
+} net119_home_answer;
+
 typedef struct {
     uint8_t number; /* 0, or 1 to 11, 20 to 28 */
     uint8_t word;   /* where accepted, 1 to 7; else 0 */
@@ -174,6 +208,29 @@ NET119_LAYOUT(offsetof(net119_count_answer, number) == 0)
 NET119_LAYOUT(offsetof(net119_count_answer, place) == 8)
 NET119_LAYOUT(offsetof(net119_count_answer, count) == 16)
 
+NET119_LAYOUT(sizeof(net119_positions_answer) == 24)
+NET119_LAYOUT(offsetof(net119_positions_answer, number) == 0)
+NET119_LAYOUT(offsetof(net119_positions_answer, home) == 1)
+NET119_LAYOUT(offsetof(net119_positions_answer, place) == 8)
+NET119_LAYOUT(offsetof(net119_positions_answer, count) == 16)
+
+NET119_LAYOUT(sizeof(net119_position_answer) == 32)
+NET119_LAYOUT(offsetof(net119_position_answer, number) == 0)
+NET119_LAYOUT(offsetof(net119_position_answer, found) == 1)
+NET119_LAYOUT(offsetof(net119_position_answer, provider) == 2)
+NET119_LAYOUT(offsetof(net119_position_answer, has_accuracy) == 3)
+NET119_LAYOUT(offsetof(net119_position_answer, latitude) == 4)
+NET119_LAYOUT(offsetof(net119_position_answer, longitude) == 8)
+NET119_LAYOUT(offsetof(net119_position_answer, place) == 16)
+NET119_LAYOUT(offsetof(net119_position_answer, accuracy) == 24)
+
+NET119_LAYOUT(sizeof(net119_home_answer) == 24)
+NET119_LAYOUT(offsetof(net119_home_answer, number) == 0)
+NET119_LAYOUT(offsetof(net119_home_answer, found) == 1)
+NET119_LAYOUT(offsetof(net119_home_answer, latitude) == 4)
+NET119_LAYOUT(offsetof(net119_home_answer, longitude) == 8)
+NET119_LAYOUT(offsetof(net119_home_answer, place) == 16)
+
 NET119_LAYOUT(sizeof(net119_event_answer) == 16)
 NET119_LAYOUT(offsetof(net119_event_answer, number) == 0)
 NET119_LAYOUT(offsetof(net119_event_answer, word) == 1)
@@ -205,6 +262,28 @@ net119_read_answer net119_read(const uint8_t *message, size_t message_length);
  * 11 as many values as the ceiling have begun, although no count is told; they may have been walked twice.
  */
 net119_count_answer net119_read_within(const uint8_t *message, size_t message_length, uint32_t ceiling);
+
+/*
+ * How many positions a message tells, and whether it tells a home. The message is read as by net119_read, and is refused as there.
+ *
+ * An INVITE request has a position for each element of Locations, in their order, and a home where `location` of Caller's
+ * `personal-information` is an object; a NOTIFY request of Content-Type message/vnd.net119.location has one position, that in its Body. Every
+ * other message that is accepted has none.
+ * Nothing is written.
+ */
+net119_positions_answer net119_positions(const uint8_t *message, size_t message_length);
+
+/*
+ * Position `index` of them, counted from 0; `found` is false behind the last. Each call reads the message.
+ * Nothing is written.
+ */
+net119_position_answer net119_position(const uint8_t *message, size_t message_length, size_t index);
+
+/*
+ * The home, if the message tells one.
+ * Nothing is written.
+ */
+net119_home_answer net119_home(const uint8_t *message, size_t message_length);
 
 /*
  * Makes a blank table of `count` free records. `table_length` must be NET119_TABLE_LENGTH(count), and `count` 1 to 255.

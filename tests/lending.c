@@ -1,8 +1,9 @@
 /*
  * What include/net119.h says of stack and alignment. Each function is run on a stack of its own, painted before, with every buffer at an odd
  * address: on messages that nest to the last level, are as long as may be, have sixteen Via objects and are spelled in plain letters and with
- * escapes, and on a full table; net119_text on parts of any kind, its output held to the byte. The most that a call took is printed; the
- * exit is 1 if it is more than NET119_STACK, or if a call answers otherwise than it must.
+ * escapes, and on a full table; net119_text on parts of any kind, its output held to the byte; and the three of positions, each answer held
+ * to the number. The most that a call took is printed; the exit is 1 if it is more than NET119_STACK, or if a call answers otherwise than it
+ * must.
  */
 #include <stdio.h>
 #include <string.h>
@@ -23,6 +24,10 @@ static const uint8_t *host, *destination, *organization, *date;
 static size_t length, room;
 static uint64_t now;
 static net119_write_answer decoded;
+static net119_positions_answer placed;
+static net119_position_answer found;
+static net119_home_answer home;
+static size_t wanted;
 
 static _Alignas(16) uint8_t stack[ROOM];
 static ucontext_t here, there;
@@ -33,6 +38,18 @@ static int wrong;
 static void reads(void) { answered = net119_read(message, length).number; }
 static void counts(void) { answered = net119_read_within(message, length, NET119_CEILING).number; }
 static void refuses(void) { answered = net119_message_within(table, NET119_TABLE_LENGTH(COUNT), now, message, length, 9).number; }
+static void places(void) {
+    placed = net119_positions(message, length);
+    answered = placed.number;
+}
+static void finds(void) {
+    found = net119_position(message, length, wanted);
+    answered = found.number;
+}
+static void homes(void) {
+    home = net119_home(message, length);
+    answered = home.number;
+}
 static void blanks(void) { answered = net119_blank(table, NET119_TABLE_LENGTH(COUNT), COUNT); }
 static void tells(void) { answered = net119_well_formed(table, NET119_TABLE_LENGTH(COUNT)); }
 static void hears(void) { answered = net119_message(table, NET119_TABLE_LENGTH(COUNT), now, message, length).number; }
@@ -116,6 +133,32 @@ static void make(const char *tag, const char *call, const char *cseq, int vias, 
     length = NET119_LONGEST;
 }
 
+/* Whether what a message tells of positions is as it must be. */
+static void holds(const char *what, bool right) {
+    if (!right) {
+        printf("%s: not as it must be\n", what);
+        wrong = 1;
+    }
+}
+
+static void tells_places(const char *what, size_t count, bool at_home) {
+    run(what, places, NET119_OK);
+    holds(what, placed.count == count && placed.home == at_home && placed.place == 0);
+}
+
+static void finds_place(const char *what, size_t index, uint8_t provider, int32_t latitude, int32_t longitude, bool has_accuracy,
+                        uint64_t accuracy) {
+    wanted = index;
+    run(what, finds, NET119_OK);
+    holds(what, found.found == (provider != NET119_NO_PROVIDER) && found.provider == provider && found.latitude == latitude &&
+                    found.longitude == longitude && found.has_accuracy == has_accuracy && found.accuracy == accuracy && found.place == 0);
+}
+
+static void finds_home(const char *what, bool there, int32_t latitude, int32_t longitude) {
+    run(what, homes, NET119_OK);
+    holds(what, home.found == there && home.latitude == latitude && home.longitude == longitude && home.place == 0);
+}
+
 /* Decodes `message` into so much room. The text that is due stands in front, and every byte around it is as it was. */
 static void decode(const char *what, size_t given, unsigned number, const char *text) {
     bool right;
@@ -173,11 +216,60 @@ static void parts(void) {
     decode("text, all escapes", NET119_LONGEST / 2, NET119_OK, longest);
 }
 
+#define CALLER(HOME)                                                                                                                        \
+    "\"Caller\":{\"region\":\"nishi\",\"uid\":\"u1\",\"email\":\"u1@example.com\",\"last-modified\":\"" DATE "\","                          \
+    "\"personal-information\":{\"name\":\"N\",\"address\":\"A\",\"sex\":\"male\",\"birthday\":\"1980-01-01\",\"location\":" HOME "},"       \
+    "\"region-information\":{\"name\":\"R\",\"tel\":\"119\"}}"
+#define TRAINING                                                                                                                            \
+    ",\"Session-ID\":\"S1.nx\",\"Call-Mode\":\"training\",\"Call-Test\":0,\"Secure-Call\":true,\"Rescuee\":\"caller\","                     \
+    "\"Request-Service\":\"ambulance\",\"Language\":\"ja\",\"User-Agent\":\"\","
+
+/* Where the caller is: the elements of Locations, the home, a live location, and what tells neither. */
+static void positions(void) {
+    make("request", "P1", "1 INVITE", 16,
+         TRAINING "\"Locations\":[{\"provider\":\"gps\",\"latitude\":35.66,\"longitude\":139.75,\"accuracy\":20},"
+                  "{\"x\":[[[[-1]]]],\"l\\u006fngitude\":-180,\"name\":\"school\",\"provider\":\"preset\",\"latitude\":-0.000001}],"
+             CALLER("{\"longitude\":-0,\"x\":[[[-1]]],\"latitude\":35.7}"));
+    tells_places("positions, an INVITE", 2, true);
+    finds_place("position, the first", 0, NET119_GPS, 35660000, 139750000, true, 20);
+    finds_place("position, the second", 1, NET119_PRESET, -1, -180000000, false, 0);
+    finds_place("position, behind the last", 2, NET119_NO_PROVIDER, 0, 0, false, 0);
+    finds_place("position, far behind the last", SIZE_MAX, NET119_NO_PROVIDER, 0, 0, false, 0);
+    finds_home("home", true, 35700000, 0);
+
+    make("request", "P1", "1 INVITE", 16, TRAINING "\"Locations\":[]," CALLER("\"\""));
+    tells_places("positions, none", 0, false);
+    finds_place("position, none", 0, NET119_NO_PROVIDER, 0, 0, false, 0);
+    finds_home("home, none", false, 0, 0);
+
+    make("request", "P1", "2 NOTIFY", 16,
+         ",\"Content-Type\":\"message/vnd.net119.location\",\"Body\":{\"provider\":\"network\",\"latitude\":-90,\"longitude\":180.000000,"
+         "\"accuracy\":99999999999999999999,\"date\":\"" DATE "\"}");
+    tells_places("positions, a NOTIFY", 1, false);
+    finds_place("position, live", 0, NET119_NETWORK, -90000000, 180000000, true, UINT64_MAX);
+    finds_place("position, behind the live one", 1, NET119_NO_PROVIDER, 0, 0, false, 0);
+    finds_home("home, of a NOTIFY", false, 0, 0);
+
+    set("[01]");
+    run("positions, refused", places, NET119_NOT_JSON);
+    run("position, refused", finds, NET119_NOT_JSON);
+    run("home, refused", homes, NET119_NOT_JSON);
+    holds("positions, refused", placed.place == 2 && placed.count == 0 && !placed.home);
+    holds("position, refused", found.place == 2 && !found.found);
+    holds("home, refused", home.place == 2 && !home.found);
+}
+
 /* The last level that may open is opened, by arrays and by objects, and holds a number. */
 #define DEEPEST ",\"x\":[{\"x\":[{\"x\":[{\"x\":-1.5e+10}]}]}]"
-#define INVITE_FIELDS                                                                                                                         \
-    ",\"Session-ID\":\"S1.nx\",\"Call-Mode\":\"emergency\",\"Call-Test\":0,\"Secure-Call\":true,\"Rescuee\":\"caller\","                      \
-    "\"Request-Service\":\"ambulance\",\"Language\":\"ja\",\"Locations\":[],\"User-Agent\":\"\",\"Caller\":{\"x\":[{\"x\":[{\"x\":-1e9}]}]}"
+#define INVITE_FIELDS                                                                                                                        \
+    ",\"Session-ID\":\"S1.nx\",\"Call-Mode\":\"emergency\",\"Call-Test\":0,\"Secure-Call\":true,\"Rescuee\":\"caller\","                     \
+    "\"Request-Service\":\"ambulance\",\"Language\":\"ja\",\"Locations\":["                                                                  \
+    "{\"provider\":\"gps\",\"latitude\":35.66,\"longitude\":139.75,\"accuracy\":30,\"memo\":\"m\"},"                                         \
+    "{\"provider\":\"preset\",\"latitude\":35.66,\"longitude\":-139.75,\"accuracy\":0,\"name\":\"home\"}],\"User-Agent\":\"\",\"Caller\":{"  \
+    "\"region\":\"nishi\",\"uid\":\"u1\",\"email\":\"u1@mail.nx\",\"last-modified\":\"" DATE "\",\"personal-information\":{"                 \
+    "\"name\":\"A\",\"kana\":\"\",\"address\":\"B\",\"tel\":\"1\",\"fax\":\"\",\"sex\":\"male\",\"birthday\":\"1982-01-19\","                \
+    "\"location\":{\"latitude\":35.66,\"longitude\":139.75}},\"emergency-contacts\":[{\"name\":\"C\",\"relation\":\"D\",\"tel\":\"1\"}],"    \
+    "\"region-information\":{\"name\":\"Nishi\",\"tel\":\"119\"},\"x\":[{\"x\":[{\"x\":-1e9}]}]}"
 
 int main(void) {
     char call[8];
@@ -241,6 +333,7 @@ int main(void) {
     now += 3600001;
     run("tick, an hour on", ticks, NET119_OK);
     parts();
+    positions();
 
     printf("lending: at most %zu bytes of stack, of %d\n", most, NET119_STACK);
     return wrong;

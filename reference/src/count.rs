@@ -2,7 +2,9 @@
 //! case that was never reached shows with 0.
 
 use crate::call::Word;
+use crate::hex;
 use crate::lines::Lines;
+use crate::probe::FILL;
 use std::collections::BTreeMap;
 use std::fmt;
 use std::io::{self, BufRead, Write};
@@ -28,6 +30,8 @@ enum Shape {
     NoText(u32),
     EventAccepted(Word, u8),
     EventRefused(u32, u32),
+    Located,
+    NotLocated(u32),
     Written,
     NotWritten(u32),
     Removed,
@@ -57,6 +61,8 @@ impl fmt::Display for Shape {
             Shape::NoText(number) => write!(f, "read or event no {number}"),
             Shape::EventAccepted(word, state) => write!(f, "event ok {} {state}", word.name()),
             Shape::EventRefused(number, reply) => write!(f, "event no {number} reply {reply}"),
+            Shape::Located => write!(f, "positions ok"),
+            Shape::NotLocated(number) => write!(f, "positions no {number}"),
             Shape::Written => write!(f, "written ok"),
             Shape::NotWritten(number) => write!(f, "written no {number}"),
             Shape::Removed => write!(f, "removed ok"),
@@ -130,11 +136,13 @@ fn probe_shapes() -> Vec<Shape> {
         Shape::WrongTable,
         Shape::Dump,
         Shape::Read,
+        Shape::Located,
         Shape::Written,
         Shape::Removed,
     ];
     shapes.extend((6..=10).map(Shape::Unread));
     shapes.extend((2..=5).chain([11]).map(Shape::NoText));
+    shapes.extend((2..=10).map(Shape::NotLocated));
     shapes.extend(
         words()
             .into_iter()
@@ -184,12 +192,13 @@ fn known_shape(words: &[&str]) -> Option<Shape> {
         ["ok", word, state] if Word::of_name(word).is_some() => {
             Shape::EventAccepted(Word::of_name(word)?, state.parse().ok()?)
         }
-        ["ok", _, _] => Shape::Written,
-        ["ok", _, _, _] => Shape::Removed,
-        ["no", number, _] => match number.parse().ok()? {
-            number @ (9 | 30..) => Shape::NotWritten(number),
-            _ => return None,
-        },
+        ["ok", length, room] if is_in_room(length, room) => Shape::Written,
+        ["ok", length, room, _] if is_in_room(length, room) => Shape::Removed,
+        ["ok", ref positions @ ..] if are_positions(positions) => Shape::Located,
+        ["no", number, room] if is_untouched(room) => Shape::NotWritten(number.parse().ok()?),
+        ["no", number, place] if place.parse::<usize>().is_ok() => {
+            Shape::NotLocated(number.parse().ok()?)
+        }
         ["no", number, _, rest] => match number.parse().ok()? {
             number @ 30.. => Shape::NotRemoved(number),
             number => refusal(number, rest.parse().ok()?),
@@ -200,6 +209,30 @@ fn known_shape(words: &[&str]) -> Option<Shape> {
         _ => return None,
     };
     Some(shape)
+}
+
+/// Does a result of this length fit a room that is shown in hex?
+fn is_in_room(length: &str, room: &str) -> bool {
+    let bytes = hex::decode(room.as_bytes());
+    let length = length.parse::<usize>();
+    bytes.is_some_and(|bytes| length.is_ok_and(|length| length <= bytes.len()))
+}
+
+/// Is this a room as it was before a writer refused?
+fn is_untouched(room: &str) -> bool {
+    hex::decode(room.as_bytes()).is_some_and(|bytes| bytes.iter().all(|byte| *byte == FILL))
+}
+
+/// Pairs of coordinates, with `home` before the last where there is a home.
+fn are_positions(words: &[&str]) -> bool {
+    let (places, home) = match words.iter().position(|word| *word == "home") {
+        Some(index) => (&words[..index], &words[index + 1..]),
+        None => (words, &[][..]),
+    };
+    let mut coordinates = places.iter().chain(home);
+    places.len() % 2 == 0
+        && matches!(home.len(), 0 | 2)
+        && coordinates.all(|word| word.parse::<i32>().is_ok())
 }
 
 /// A refusal with a place: of a reading with its count, which is 0 only where
@@ -235,14 +268,23 @@ mod tests {
             ("no 9 19 0", Shape::EventRefused(9, 0)),
             ("ok pass 3", Shape::EventAccepted(Word::Pass, 3)),
             ("no 20 0 481", Shape::EventRefused(20, 481)),
-            ("ok 12 5b5d", Shape::Written),
+            ("ok home 35660000 139750000", Shape::Located),
+            ("ok 35660000 139750000", Shape::Located),
+            ("ok 0 -180000000 -1 0 home 1 1", Shape::Located),
+            ("ok home 1", Shape::Other),
+            ("ok 1 1 1", Shape::Other),
+            ("ok 1 x", Shape::Other),
+            ("no 4 2", Shape::NotLocated(4)),
+            ("no 10 0", Shape::NotLocated(10)),
+            ("ok 2 5b5d", Shape::Written),
+            ("ok 0 -", Shape::Written),
             ("no 33 -", Shape::NotWritten(33)),
             ("no 9 5a", Shape::NotWritten(9)),
-            ("ok 12 5b5d 61", Shape::Removed),
+            ("ok 2 5b5d5a 61", Shape::Removed),
             ("no 36 5a -", Shape::NotRemoved(36)),
             ("", Shape::Other),
             ("a b", Shape::Other),
-            ("no 4 2", Shape::Other),
+            ("no 4 x", Shape::Other),
         ] {
             assert_eq!(shape_of(line.as_bytes()), shape, "{line}");
         }

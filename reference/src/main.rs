@@ -15,6 +15,7 @@ mod keeper;
 mod letters;
 mod lines;
 mod message;
+mod particulars;
 mod probe;
 mod rule_lines;
 mod rules;
@@ -42,6 +43,7 @@ const USAGE: &str = "usage: reference keep | probe | json | rules | count
        reference gen utf8 SEED COUNT
        reference gen ceilings SEED COUNT (two lines each)
        reference gen letters SEED COUNT
+       reference gen particulars SEED COUNT
        reference gen json SEED COUNT
        reference gen rules SEED COUNT";
 
@@ -69,6 +71,7 @@ fn main() -> ExitCode {
             ("utf8", Ok(seed), Ok(count)) => gen::utf8_lines(seed, count, output),
             ("ceilings", Ok(seed), Ok(count)) => gen::ceiling_lines(seed, count, output),
             ("letters", Ok(seed), Ok(count)) => gen::letter_lines(seed, count, output),
+            ("particulars", Ok(seed), Ok(count)) => gen::particular_lines(seed, count, output),
             ("json", Ok(seed), Ok(count)) => gen::json_lines(seed, count, output),
             ("rules", Ok(seed), Ok(count)) => gen::rule_lines(seed, count, output),
             _ => return usage(),

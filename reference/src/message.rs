@@ -5,6 +5,7 @@ use crate::escapes;
 use crate::fields::{self, *};
 use crate::json::{self, Kind, Member, Text, Value};
 use crate::letters;
+use crate::particulars::{self, Call, Positions};
 use crate::rules::{self, Address, ContentType, Method};
 use crate::utf8;
 
@@ -65,6 +66,8 @@ pub struct Exchange<'a> {
     pub secure: bool,
     pub values: CopiedValues<'a>,
     pub via: Vec<Hop<'a>>,
+    /// Those of a request (02 §4).
+    pub positions: Positions,
 }
 
 /// The five values that a reply copies, as they stand.
@@ -189,8 +192,8 @@ impl<'a, 'v> Draft<'a, 'v> {
     /// Row 9: the place is that of the lowest broken field's fault.
     fn check_rules<'f>(&self, fields: impl IntoIterator<Item = &'f usize>) -> Result<(), Refusal> {
         let broken = fields.into_iter().filter_map(|field| {
-            let value = self.values[*field]?;
-            (!self.meets_rule(*field, value)).then(|| (field, self.fault(*field, value)))
+            let fault = self.fault(*field, self.values[*field]?)?;
+            Some((field, fault))
         });
         match broken.min() {
             Some((_, place)) => Err(Refusal { number: 9, place }),
@@ -198,9 +201,20 @@ impl<'a, 'v> Draft<'a, 'v> {
         }
     }
 
-    /// Where a value breaks its field's rule: at its first bad letter if it is a
-    /// string of fields 1 to 5 (02 §12), else at its first byte.
-    fn fault(&self, field: usize, value: &Value) -> usize {
+    /// Where a value breaks its field's rule, if it does: the particulars at their
+    /// lowest fault (02 §4), others as a whole.
+    fn fault(&self, field: usize, value: &Value) -> Option<usize> {
+        match field {
+            BODY => self.fault_of_body(value),
+            LOCATIONS => particulars::fault_of_locations(self.bytes, value),
+            CALLER => particulars::fault_of_caller(self.bytes, value, self.call()),
+            _ => (!self.meets_rule(field, value)).then(|| self.first_bad(field, value)),
+        }
+    }
+
+    /// Where a value that breaks its field's rule does: at its first bad letter if
+    /// it is a string of fields 1 to 5 (02 §12), else at its first byte.
+    fn first_bad(&self, field: usize, value: &Value) -> usize {
         let spelled = value.spelled(self.bytes);
         let letter = spelled.and_then(|spelled| letters::first_bad(field, spelled));
         letter.map_or(value.start, |letter| value.start + 1 + letter)
@@ -209,6 +223,10 @@ impl<'a, 'v> Draft<'a, 'v> {
     /// The text of a field that is there, a string and not broken.
     fn text(&self, field: usize) -> Option<Vec<u8>> {
         self.values[field]?.text(self.bytes)
+    }
+
+    fn is(&self, field: usize, word: &str) -> bool {
+        self.text(field).as_deref() == Some(word.as_bytes())
     }
 
     fn cseq(&self) -> Option<(u32, Method)> {
@@ -225,12 +243,9 @@ impl<'a, 'v> Draft<'a, 'v> {
         match field {
             VIA => hops(self.bytes, value).is_some(),
             STATUS if self.tag != Tag::Pong => self.status(value).is_some(),
-            BODY => self.is_body(value),
             CALL_TEST => rules::is_one_of(&rules::CALL_TESTS, value.raw(self.bytes)),
             SECURE_CALL => rules::is_one_of(&rules::SECURE_CALLS, value.raw(self.bytes)),
-            LOCATIONS => value.array().is_some(),
             USER_AGENT => value.kind == Kind::String,
-            CALLER => value.object().is_some(),
             OPTIONS => value
                 .array()
                 .is_some_and(|options| options.iter().all(|option| option.kind == Kind::String)),
@@ -267,10 +282,10 @@ impl<'a, 'v> Draft<'a, 'v> {
         ContentType::of_method(method, &self.text(CONTENT_TYPE)?)
     }
 
-    /// The Body's rule. Without a good Content-Type it does not matter: that
-    /// field has the lower number.
-    fn is_body(&self, value: &Value) -> bool {
-        match self.content_type() {
+    /// Where the Body breaks its rule, if it does. Without a good Content-Type it
+    /// does not matter: that field has the lower number.
+    fn fault_of_body(&self, value: &Value) -> Option<usize> {
+        let good = match self.content_type() {
             None => false,
             Some(ContentType::Plain) => value.kind == Kind::String,
             Some(ContentType::TextImage | ContentType::MessageImage) => value
@@ -279,9 +294,37 @@ impl<'a, 'v> Draft<'a, 'v> {
             Some(ContentType::Presence) => value
                 .text(self.bytes)
                 .is_some_and(|text| rules::is_one_of(&rules::PRESENCES, &text)),
-            Some(ContentType::Location) => value.object().is_some(),
+            Some(ContentType::Location) => {
+                return particulars::fault_of_live_location(self.bytes, value);
+            }
             Some(ContentType::Refer) => self.status(value).is_some(),
-        }
+        };
+        (!good).then_some(value.start)
+    }
+
+    /// What Caller's rule depends on. Where one of these fields is broken it does
+    /// not matter: they have the lower numbers.
+    fn call(&self) -> Call {
+        let texts = [CALL_MODE, RESCUEE, REQUEST_SERVICE].map(|field| self.text(field));
+        let [mode, rescuee, service] = texts.map(Option::unwrap_or_default);
+        Call::of(&mode, &rescuee, &service)
+    }
+
+    /// The positions that a request of this method has.
+    fn positions(&self, method: Method) -> Option<Positions> {
+        let positions = match (self.tag, method) {
+            (Tag::Request, Method::Invite) => {
+                let (locations, caller) = (self.values[LOCATIONS]?, self.values[CALLER]?);
+                Positions::of_invite(self.bytes, locations, caller)
+            }
+            (Tag::Request, Method::Notify)
+                if self.content_type() == Some(ContentType::Location) =>
+            {
+                Positions::of_live_location(self.bytes, self.values[BODY]?)
+            }
+            _ => Positions::default(),
+        };
+        Some(positions)
     }
 
     /// Row 10, and the message itself.
@@ -341,6 +384,7 @@ impl<'a, 'v> Draft<'a, 'v> {
                 via: raw(VIA)?,
             },
             via: hops(self.bytes, self.values[VIA]?)?,
+            positions: self.positions(method)?,
         })
     }
 
@@ -348,8 +392,7 @@ impl<'a, 'v> Draft<'a, 'v> {
     fn request_agrees(&self, exchange: &Exchange) -> bool {
         match exchange.method {
             Method::Invite => {
-                let is = |field: usize, word: &[u8]| self.text(field).as_deref() == Some(word);
-                !is(REQUEST_SERVICE, b"callback") || !is(CALL_MODE, b"training")
+                !self.is(REQUEST_SERVICE, "callback") || !self.is(CALL_MODE, "training")
             }
             Method::Message => {
                 exchange.from == Side::Caller || self.content_type() == Some(ContentType::Plain)
@@ -410,7 +453,8 @@ fn only_value<'v>(bytes: &[u8], members: &'v [Member], name: &[u8]) -> Option<&'
 mod tests {
     use super::*;
     use crate::gen::texts;
-    use crate::samples::{Sample, CALLEE, CALLER};
+    use crate::particulars::Position;
+    use crate::samples::{Sample, CALLEE, CALLER, CALLER_INFORMATION, LIVE_LOCATION};
 
     fn verdict(bytes: &[u8]) -> Option<(u8, usize)> {
         verdict_under(CEILING, bytes)
@@ -995,7 +1039,7 @@ mod tests {
         rule(
             invite.clone(),
             "Locations",
-            &["[]", "[1,{}]"],
+            &["[]", "[ ]"],
             &["{}", "\"\"", "null"],
         );
         rule(
@@ -1007,8 +1051,8 @@ mod tests {
         rule(
             invite.clone(),
             "Caller",
-            &["{}", "{\"a\":1}"],
-            &["[]", "\"\"", "null"],
+            &[CALLER_INFORMATION],
+            &["[]", "\"\"", "null", "{}", "{\"a\":1}"],
         );
         rule(
             invite.clone(),
@@ -1042,6 +1086,144 @@ mod tests {
                 "1",
             ],
         );
+    }
+
+    /// A value with `»` before its fault, where it has one.
+    fn particulars(sample: &Sample, name: &str, marked: &str) {
+        let changed = sample.clone().with(name, &marked.replace('»', ""));
+        let place = |at| (9, value_place(&changed, name) + at);
+        assert_eq!(of(changed.clone()), marked.find('»').map(place), "{marked}");
+    }
+
+    /// 02 §4: the place is the inner one.
+    #[test]
+    fn row_9_particulars() {
+        let invite = Sample::request("1 INVITE");
+        for locations in [
+            r#"[{"provider":"map","latitude":35.66,"longitude":139.75}]"#,
+            r#"[{"provider":"map","latitude":35.66,"longitude":»180.5}]"#,
+            r#"[ »{"latitude":35.66,"longitude":139.75}]"#,
+            "[»1,{}]",
+        ] {
+            particulars(&invite, "Locations", locations);
+        }
+        let tel = r#""tel":"119""#;
+        for bad in [r#""tel":»"""#, r#""tel":"119",»"t\u0065l":"119""#] {
+            particulars(&invite, "Caller", &CALLER_INFORMATION.replace(tel, bad));
+        }
+        let notify =
+            Sample::request("1 NOTIFY").with("Content-Type", "\"message\\/vnd.net119.location\"");
+        particulars(&notify, "Body", LIVE_LOCATION);
+        particulars(&notify, "Body", &LIVE_LOCATION.replace("30", "»30.0"));
+        // Where another type asks for nothing inside, or the field is ignored.
+        let message = Sample::request("1 MESSAGE");
+        assert_eq!(
+            of(message.with("Caller", "{}").with("Locations", "[1]")),
+            None
+        );
+        let response = Sample::response("1 INVITE", "200 OK");
+        assert_eq!(
+            of(response.with("Caller", "{}").with("Locations", "0")),
+            None
+        );
+        assert_eq!(
+            of(Sample::response("1 NOTIFY", "200 OK").with("Body", "{}")),
+            None
+        );
+    }
+
+    /// In their fields' turn, whatever stands first.
+    #[test]
+    fn particulars_in_their_turn() {
+        let bad_caller = CALLER_INFORMATION.replace("\"119\"", "\"x\"");
+        let bad = |sample: &Sample, name: &str, start: &str| {
+            let text = sample.text();
+            let at = value_place(sample, name);
+            let place = at + text[at..].find(start).unwrap();
+            assert_eq!(of(sample.clone()), Some((9, place)), "{name}");
+        };
+        let caller = Sample::request("1 INVITE").with("Caller", &bad_caller);
+        bad(&caller, "Caller", "\"x\"");
+        let agent = caller.with("User-Agent", "0");
+        bad(&agent, "User-Agent", "0");
+        let locations = agent.with("Locations", "[1]");
+        bad(&locations, "Locations", "1");
+        let language = locations.with("Language", "\"jpn\"");
+        bad(&language, "Language", "\"jpn\"");
+        // 8 comes before, 10 behind.
+        assert_eq!(of(language.without("Session-ID")), Some((8, 14)));
+        let training = Sample::request("1 INVITE")
+            .with("Request-Service", "\"callback\"")
+            .with("Call-Mode", "\"training\"");
+        assert_eq!(of(training.clone()), Some((10, 0)));
+        bad(&training.with("Caller", &bad_caller), "Caller", "\"x\"");
+    }
+
+    /// By fields 15, 18 and 19, by their decoded texts.
+    #[test]
+    fn which_calls_may_have_contacts() {
+        let contact = r#"[{"name":"M","relation":"mother","tel":"1"}]"#;
+        let with = |contacts: &str| {
+            let member = format!("{{\"emergency-contacts\":{contacts},");
+            CALLER_INFORMATION.replacen('{', &member, 1)
+        };
+        for mode in ["emergency", "training", "tr\\u0061ining"] {
+            for rescuee in ["caller", "third-party", "c\\u0061ller", "third\\u002dparty"] {
+                for service in [
+                    "ambulance",
+                    "fire",
+                    "unknown",
+                    "callback",
+                    "\\u0061mbulance",
+                ] {
+                    if service == "callback" && mode != "emergency" {
+                        continue;
+                    }
+                    let invite = Sample::request("1 INVITE")
+                        .with("Call-Mode", &quoted(mode))
+                        .with("Rescuee", &quoted(rescuee))
+                        .with("Request-Service", &quoted(service));
+                    let allowed = mode == "emergency"
+                        && rescuee.ends_with("ller")
+                        && service.ends_with("mbulance");
+                    let marked = if allowed {
+                        contact.into()
+                    } else {
+                        format!("»{contact}")
+                    };
+                    particulars(&invite, "Caller", &with(&marked));
+                    particulars(&invite, "Caller", &with("[]"));
+                    // What may be empty is a matter of the mode alone.
+                    let mark = if mode == "emergency" { "»" } else { "" };
+                    let born = CALLER_INFORMATION.replace("\"1982-01-19\"", &format!("{mark}\"\""));
+                    particulars(&invite, "Caller", &born);
+                }
+            }
+        }
+    }
+
+    #[test]
+    fn positions_come_out_of_requests() {
+        let positions = |sample: Sample| match read(&sample.bytes(), CEILING).answer {
+            Ok(Message::Request(exchange) | Message::Response(exchange, _)) => exchange.positions,
+            _ => panic!("{}", sample.text()),
+        };
+        let nishi = Position {
+            latitude: 35_660_000,
+            longitude: 139_750_000,
+        };
+        let invite = Sample::request("1 INVITE");
+        let found = positions(invite.clone());
+        assert_eq!((found.places, found.home), (vec![], Some(nishi)));
+        let notify = Sample::request("1 NOTIFY");
+        assert_eq!(positions(notify.clone()), Positions::default());
+        let located = notify
+            .with("Content-Type", "\"message/vnd.net119.location\"")
+            .with("Body", LIVE_LOCATION);
+        let found = positions(located);
+        assert_eq!((found.places, found.home), (vec![nishi], None));
+        let response = Sample::response("1 INVITE", "200 OK").with("Caller", CALLER_INFORMATION);
+        assert_eq!(positions(response), Positions::default());
     }
 
     #[test]
@@ -1107,8 +1289,8 @@ mod tests {
         rule(
             notify("location"),
             "Body",
-            &["{}", "{\"a\":[]}"],
-            &["[]", "\"online\"", "null"],
+            &[LIVE_LOCATION],
+            &["[]", "\"online\"", "null", "{}", "{\"a\":[]}"],
         );
         rule(
             notify("refer"),

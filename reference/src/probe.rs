@@ -10,7 +10,8 @@
 use crate::hex;
 use crate::keeper;
 use crate::lines::Answerer;
-use crate::message::{self, CEILING};
+use crate::message::{self, Message, CEILING};
+use crate::particulars::Positions;
 use crate::rules;
 use crate::table;
 use crate::writing::{self, OwnPath};
@@ -22,7 +23,7 @@ pub const MAX_ROOM: usize = 40_000;
 /// COUNT and CODE are of 16 bits.
 pub const MAX_SMALL: u64 = 65_535;
 /// What an output room is filled with before each call.
-const FILL: u8 = 0x5a;
+pub const FILL: u8 = 0x5a;
 
 /// The held table, and the ceiling that `read` and `msg` read under (02 §9).
 pub struct Probe {
@@ -52,6 +53,13 @@ impl Probe {
                     Err(no) => format!("no {} {}", no.number, no.place),
                 };
                 put(out, &format!("{verdict} {}", reading.count));
+            }
+            Command::Positions(bytes) => {
+                let answer = match message::read(&bytes, CEILING).answer {
+                    Ok(message) => located(message),
+                    Err(no) => format!("no {} {}", no.number, no.place),
+                };
+                put(out, &answer);
             }
             Command::Blank(count, length) => match table::blank(count, length) {
                 Some(image) => {
@@ -114,6 +122,21 @@ fn put(out: &mut Vec<u8>, text: &str) {
     out.extend_from_slice(text.as_bytes());
 }
 
+/// The positions in a message, in whole millionths of a degree (02 §4).
+fn located(message: Message) -> String {
+    let Positions { places, home } = match message {
+        Message::Request(exchange) => exchange.positions,
+        Message::Response(..) | Message::Probe => Positions::default(),
+    };
+    let places = places.iter().map(|place| ("", place));
+    let home = home.iter().map(|home| (" home", home));
+    let written = places.chain(home).map(|(word, position)| {
+        let (latitude, longitude) = (position.latitude, position.longitude);
+        format!("{word} {latitude} {longitude}")
+    });
+    format!("ok{}", written.collect::<String>())
+}
+
 fn put_event(out: &mut Vec<u8>, answer: keeper::Answer) {
     let text = match answer {
         Ok(yes) => format!("ok {} {}", yes.word.name(), yes.state),
@@ -134,6 +157,7 @@ fn put_written(out: &mut Vec<u8>, result: Result<usize, u8>, room: &[u8]) {
 enum Command {
     Ceiling(u32),
     Read(Vec<u8>),
+    Positions(Vec<u8>),
     Blank(usize, usize),
     Table(Vec<u8>),
     Dump,
@@ -151,6 +175,7 @@ impl Command {
         let command = match words[..] {
             [b"ceiling", ceiling] => Command::Ceiling(ceiling_of(ceiling)?),
             [b"read", bytes] => Command::Read(bytes_of(bytes)?),
+            [b"positions", bytes] => Command::Positions(bytes_of(bytes)?),
             [b"blank", count, length] => Command::Blank(
                 number_to(count, MAX_SMALL)? as usize,
                 number_to(length, MAX_TABLE as u64)? as usize,
@@ -221,7 +246,7 @@ fn path_of(host: &[u8], destination: &[u8], organization: &[u8]) -> Option<OwnPa
 mod tests {
     use super::*;
     use crate::lines;
-    use crate::samples::Sample;
+    use crate::samples::{Sample, CALLER_INFORMATION, LIVE_LOCATION};
 
     fn answers(script: &str) -> Vec<String> {
         lines::tests::answers(Probe::new(), script)
@@ -315,6 +340,55 @@ mod tests {
     }
 
     #[test]
+    fn positions() {
+        let answer = |sample: &Sample| answer(&format!("positions {}", hexed(&sample.bytes())));
+        let invite = Sample::request("1 INVITE");
+        assert_eq!(answer(&invite), "ok home 35660000 139750000");
+        let gps = r#"{"provider":"gps","latitude":-0.5,"longitude":-0}"#;
+        let map = r#"{"provider":"map","latitude":90,"longitude":-180.000000}"#;
+        let two = invite.clone().with("Locations", &format!("[{gps},{map}]"));
+        let places = "ok -500000 0 90000000 -180000000";
+        assert_eq!(answer(&two), format!("{places} home 35660000 139750000"));
+        let home = r#"{"latitude":35.66,"longitude":139.75}"#;
+        let away = two
+            .clone()
+            .with("Call-Mode", "\"training\"")
+            .with("Caller", &CALLER_INFORMATION.replace(home, "\"\""));
+        assert_eq!(answer(&away), places);
+        assert_eq!(answer(&away.with("Locations", "[]")), "ok");
+        let notify = Sample::request("1 NOTIFY");
+        assert_eq!(answer(&notify), "ok");
+        let located = notify
+            .with("Content-Type", "\"message/vnd.net119.location\"")
+            .with("Body", LIVE_LOCATION);
+        assert_eq!(answer(&located), "ok 35660000 139750000");
+        let place = located.text().find("139.75").unwrap();
+        let beyond = located.with("Body", &LIVE_LOCATION.replace("139.75", "1e2"));
+        assert_eq!(answer(&beyond), format!("no 9 {place}"));
+        for other in [
+            Sample::request("1 BYE"),
+            Sample::response("1 INVITE", "200 OK"),
+            Sample::ping(),
+            Sample::pong(),
+        ] {
+            assert_eq!(answer(&other), "ok");
+        }
+        assert_eq!(answer(&Sample::request("2 CALLBACK")), "no 10 0");
+    }
+
+    /// As writing they read at 16,384 always (02 §9).
+    #[test]
+    fn positions_have_their_own_ceiling() {
+        let invite = hexed(&Sample::request("1 INVITE").bytes());
+        let script = format!("ceiling 0\npositions {invite}\npositions -\nread {invite}");
+        let wanted = ["ok", "ok home 35660000 139750000", "no 2 0", "no 11 0 0"];
+        assert_eq!(answers(&script), wanted);
+        let open = format!("[{}1", "1,".repeat(16_383));
+        let open = hexed(open.as_bytes());
+        assert_eq!(answer(&format!("positions {open}")), "no 11 32767");
+    }
+
+    #[test]
     fn what_is_no_command() {
         for line in [
             "",
@@ -328,6 +402,12 @@ mod tests {
             " read 5b",
             "read 5b\r",
             "READ 5b",
+            "positions",
+            "positions ",
+            "positions 5",
+            "positions 5B5D",
+            "positions 5b5d 1",
+            "position 5b5d",
             "ceiling",
             "ceiling ",
             "ceiling -1",

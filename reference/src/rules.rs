@@ -208,24 +208,33 @@ pub fn is_call_id(text: &[u8]) -> bool {
 
 /// Date: `YYYY-MM-DDThh:mm:ss+ZZZZ`.
 pub fn is_date(text: &[u8]) -> bool {
-    const SHAPE: &[u8] = b"dddd-dd-ddTdd:dd:dd+dddd";
-    let shaped = text.len() == SHAPE.len()
-        && text.iter().zip(SHAPE).all(|(byte, shape)| match shape {
-            b'd' => byte.is_ascii_digit(),
-            mark => byte == mark,
-        });
-    if !shaped {
+    const DAY: usize = 10;
+    if text.len() <= DAY || !is_day(&text[..DAY]) || !is_shaped(&text[DAY..], b"Tdd:dd:dd+dddd") {
+        return false;
+    }
+    let number = |from: usize, to: usize| parse_decimal(&text[from..to]).unwrap_or(0);
+    let (hour, minute, second) = (number(11, 13), number(14, 16), number(17, 19));
+    let (zone_hour, zone_minute) = (number(20, 22), number(22, 24));
+    (hour <= 23 && minute <= 59 && second <= 59) && (zone_hour <= 14 && zone_minute <= 59)
+}
+
+/// A real day, `YYYY-MM-DD`: how a Date begins, and a birthday (02 §4).
+pub fn is_day(text: &[u8]) -> bool {
+    if !is_shaped(text, b"dddd-dd-dd") {
         return false;
     }
     let number = |from: usize, to: usize| parse_decimal(&text[from..to]).unwrap_or(0);
     let (year, month, day) = (number(0, 4), number(5, 7), number(8, 10));
-    let (hour, minute, second) = (number(11, 13), number(14, 16), number(17, 19));
-    let (zone_hour, zone_minute) = (number(20, 22), number(22, 24));
-    year >= 1
-        && (1..=12).contains(&month)
-        && (1..=days_of_month(year, month)).contains(&day)
-        && (hour <= 23 && minute <= 59 && second <= 59)
-        && (zone_hour <= 14 && zone_minute <= 59)
+    year >= 1 && (1..=12).contains(&month) && (1..=days_of_month(year, month)).contains(&day)
+}
+
+/// Has the text a digit wherever the shape has a `d`, and else the shape's mark?
+fn is_shaped(text: &[u8], shape: &[u8]) -> bool {
+    text.len() == shape.len()
+        && text.iter().zip(shape).all(|(byte, shape)| match shape {
+            b'd' => byte.is_ascii_digit(),
+            mark => byte == mark,
+        })
 }
 
 fn days_of_month(year: u64, month: u64) -> u64 {

@@ -9,6 +9,9 @@ pub struct Sample {
 
 pub const CALLER: &str = "\"net119:u1@nishi.caller\"";
 pub const CALLEE: &str = "\"net119:fire@kita.callee\"";
+/// The particulars of an INVITE's Caller and of a NOTIFY's location.
+pub const CALLER_INFORMATION: &str = r#"{"region":"nishi","uid":"u1","email":"u1@mail.nx","last-modified":"2024-02-29T09:00:00+0900","personal-information":{"name":"A","address":"B","sex":"male","birthday":"1982-01-19","location":{"latitude":35.66,"longitude":139.75}},"region-information":{"name":"Nishi","tel":"119"}}"#;
+pub const LIVE_LOCATION: &str = r#"{"provider":"gps","latitude":35.66,"longitude":139.75,"accuracy":30,"date":"2024-02-29T23:59:59+0900"}"#;
 const HOP: &str = r#"{"host":"h1.nx","destination":"kita.callee","organization":"nx"}"#;
 
 impl Sample {
@@ -55,7 +58,7 @@ impl Sample {
                 ("Language", "\"ja\""),
                 ("Locations", "[]"),
                 ("User-Agent", "\"\""),
-                ("Caller", "{}"),
+                ("Caller", CALLER_INFORMATION),
             ],
             Some("MESSAGE") => &[
                 ("Message-ID", "\"caller-nishi-1\""),

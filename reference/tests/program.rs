@@ -94,6 +94,7 @@ fn gen_feeds_the_programs_and_count_counts() {
         ("utf8", "probe"),
         ("ceilings", "probe"),
         ("letters", "probe"),
+        ("particulars", "probe"),
     ] {
         let answers = answers_to_made(kind, program);
         let counts = String::from_utf8(output(&["count"], &answers)).unwrap();

@@ -14,6 +14,35 @@ pub struct CountAnswer {
 }
 
 #[repr(C)]
+pub struct PositionsAnswer {
+    pub number: u8,
+    pub home: bool,
+    pub place: usize,
+    pub count: usize,
+}
+
+#[repr(C)]
+pub struct PositionAnswer {
+    pub number: u8,
+    pub found: bool,
+    pub provider: u8,
+    pub has_accuracy: bool,
+    pub latitude: i32,
+    pub longitude: i32,
+    pub place: usize,
+    pub accuracy: u64,
+}
+
+#[repr(C)]
+pub struct HomeAnswer {
+    pub number: u8,
+    pub found: bool,
+    pub latitude: i32,
+    pub longitude: i32,
+    pub place: usize,
+}
+
+#[repr(C)]
 pub struct EventAnswer {
     pub number: u8,
     pub word: u8,
@@ -43,6 +72,13 @@ extern "C" {
         message_length: usize,
         ceiling: u32,
     ) -> CountAnswer;
+    pub fn net119_positions(message: *const u8, message_length: usize) -> PositionsAnswer;
+    pub fn net119_position(
+        message: *const u8,
+        message_length: usize,
+        index: usize,
+    ) -> PositionAnswer;
+    pub fn net119_home(message: *const u8, message_length: usize) -> HomeAnswer;
     pub fn net119_blank(table: *mut u8, table_length: usize, count: usize) -> u8;
     pub fn net119_well_formed(table: *const u8, table_length: usize) -> bool;
     pub fn net119_message(

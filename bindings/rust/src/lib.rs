@@ -17,7 +17,11 @@
 //!     "Call-ID":"A1.nx","Date":"2024-02-29T23:59:59+0900",
 //!     "Via":[{"host":"h1.nx","destination":"kita.callee","organization":"nx"}],
 //!     "Session-ID":"S1.nx","Call-Mode":"emergency","Call-Test":0,"Secure-Call":true,"Rescuee":"caller",
-//!     "Request-Service":"ambulance","Language":"ja","Locations":[],"User-Agent":"","Caller":{}}]"#;
+//!     "Request-Service":"ambulance","Language":"ja","Locations":[],"User-Agent":"","Caller":{
+//!     "region":"nishi","uid":"u1","email":"u1@mail.nx","last-modified":"2024-02-29T09:00:00+0900",
+//!     "personal-information":{"name":"A","address":"B","sex":"male","birthday":"1982-01-19",
+//!     "location":{"latitude":35.66,"longitude":139.75}},
+//!     "region-information":{"name":"Nishi","tel":"119"}}}]"#;
 //! let answer = message(&mut table, 1000, invite).unwrap();
 //! assert_eq!((answer.word, answer.state), (Word::Pass, Some(State::Calling)));
 //!
@@ -88,6 +92,30 @@ pub struct Counted {
     pub count: usize,
 }
 
+/// Where a position comes from.
+#[derive(Debug, Clone, Copy, PartialEq, Eq, Hash)]
+pub enum Provider {
+    Gps,
+    Network,
+    Preset,
+    Map,
+}
+
+/// Coordinates in whole millionths of a degree.
+#[derive(Debug, Clone, Copy, PartialEq, Eq, Hash)]
+pub struct Coordinates {
+    pub latitude: i32,
+    pub longitude: i32,
+}
+
+/// A position: its provider, its coordinates, and its accuracy in whole metres, if the message has one; `u64::MAX` stands for any that is larger.
+#[derive(Debug, Clone, Copy, PartialEq, Eq, Hash)]
+pub struct Position {
+    pub provider: Provider,
+    pub coordinates: Coordinates,
+    pub accuracy: Option<u64>,
+}
+
 /// A refused event: a number from 1 to 11 or 20 to 28, its place, and the status code that the sender is due.
 #[derive(Debug, Clone, Copy, PartialEq, Eq, Hash)]
 pub struct Refused {
@@ -138,6 +166,38 @@ pub fn read_within(message: &[u8], ceiling: u32) -> Counted {
         read: unread(answer.number, answer.place),
         count: answer.count,
     }
+}
+
+/// The positions that a message tells, in order: of each element of an INVITE's Locations, or of a NOTIFY's location; every other message that is
+/// accepted has none. The message is read at `CEILING`, once, and again for each of them.
+pub fn positions(message: &[u8]) -> Result<impl Iterator<Item = Position> + '_, Unread> {
+    let answer = unsafe { ffi::net119_positions(message.as_ptr(), message.len()) };
+    unread(answer.number, answer.place)?;
+    Ok((0..answer.count).map_while(|index| position(message, index).ok().flatten()))
+}
+
+/// One of them, counted from 0; `None` behind the last.
+pub fn position(message: &[u8], index: usize) -> Result<Option<Position>, Unread> {
+    let answer = unsafe { ffi::net119_position(message.as_ptr(), message.len(), index) };
+    unread(answer.number, answer.place)?;
+    Ok(provider(answer.provider).map(|provider| Position {
+        provider,
+        coordinates: Coordinates {
+            latitude: answer.latitude,
+            longitude: answer.longitude,
+        },
+        accuracy: answer.has_accuracy.then_some(answer.accuracy),
+    }))
+}
+
+/// The home that an INVITE tells, where `location` of Caller's `personal-information` is an object.
+pub fn home(message: &[u8]) -> Result<Option<Coordinates>, Unread> {
+    let answer = unsafe { ffi::net119_home(message.as_ptr(), message.len()) };
+    unread(answer.number, answer.place)?;
+    Ok(answer.found.then_some(Coordinates {
+        latitude: answer.latitude,
+        longitude: answer.longitude,
+    }))
 }
 
 /// Makes a blank table of `count` records of the whole buffer.
@@ -320,6 +380,17 @@ fn word(number: u8) -> Option<Word> {
         5 => Word::Idle,
         6 => Word::Freed,
         7 => Word::None,
+        _ => return None,
+    })
+}
+
+/// A provider by its number; 0 is none, which stands behind the last position.
+fn provider(number: u8) -> Option<Provider> {
+    Some(match number {
+        1 => Provider::Gps,
+        2 => Provider::Network,
+        3 => Provider::Preset,
+        4 => Provider::Map,
         _ => return None,
     })
 }

@@ -5,7 +5,7 @@ use net119::{
     Counted, Refused, State, Unread, Word, WrongSize, CEILING,
 };
 
-const INVITE: &str = r#","Session-ID":"S1.nx","Call-Mode":"emergency","Call-Test":0,"Secure-Call":true,"Rescuee":"caller","Request-Service":"ambulance","Language":"ja","Locations":[],"User-Agent":"","Caller":{}"#;
+const INVITE: &str = r#","Session-ID":"S1.nx","Call-Mode":"emergency","Call-Test":0,"Secure-Call":true,"Rescuee":"caller","Request-Service":"ambulance","Language":"ja","Locations":[],"User-Agent":"","Caller":{"region":"nishi","uid":"u1","email":"u1@mail.nx","last-modified":"2024-02-29T09:00:00+0900","personal-information":{"name":"A","address":"B","sex":"male","birthday":"1982-01-19","location":{"latitude":35.66,"longitude":139.75}},"region-information":{"name":"Nishi","tel":"119"}}"#;
 const STATUS: &str = r#","Status":"200 OK""#;
 
 /// A request of the caller, or the response to one.
@@ -128,11 +128,11 @@ fn a_budget_of_values() {
     let mut table = blank_table();
     let invite = made("request", "A1.nx", "1 INVITE", INVITE);
     let Counted { read, count } = read_within(&invite, CEILING);
-    assert_eq!((read, count), (Ok(()), 23));
+    assert_eq!((read, count), (Ok(()), 38));
     let enough = u32::try_from(count).unwrap();
     assert_eq!(read_within(&invite, enough).read, Ok(()));
-    // The last value is Caller's, an object.
-    let place = invite.len() - 4;
+    // The last value is the telephone number of the caller's centre.
+    let place = invite.len() - br#""119"}}}]"#.len();
     let less = Counted {
         read: Err(Unread { number: 11, place }),
         count: 0,

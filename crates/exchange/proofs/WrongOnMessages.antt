@@ -1,7 +1,7 @@
 -- Keepers that the contract of `message` shuts out (01 What contracts say): one that refuses everything, one that always answers pass, one that
 -- never alters the table, and one that acts on the first event and only answers later. Shown on a blank table of two records: an INVITE is
 -- passed and takes the first, one of another Call-ID is passed and takes the second, and a message of no bytes is refused. The second is shut
--- out under every ceiling of JSON values (02 §9), the others under every ceiling with room for the INVITE's 23, so at the program's 16,384 (a
+-- out under every ceiling of JSON values (02 §9), the others under every ceiling with room for the INVITE's 38, so at the program's 16,384 (a
 -- ceiling of 0 refuses every message). Assumes nothing.
 use Rattle.answers.specs.Answer.{Answer, accepted}
 use Rattle.std.specs.Prelude.{Some, None, Ok}
@@ -18,7 +18,7 @@ use Rattle.keeper.proofs.FactLaws.{sound-fields, fit-fields}
 use Rattle.message.proofs.Accepted.{read_named}
 use Rattle.keeper.specs.Facts.{method_of_code, event_of, fields_from}
 use Rattle.keeper.specs.Keeping.{Step, record_for, on_message}
-use Rattle.fields.specs.Spans.{cut}
+use Rattle.values.specs.Spans.{cut}
 use Rattle.escapes.specs.Rfc7159.{letter_of, letters_from, spelt, text, took}
 use Rattle.message.specs.Parties.{call_id_of, caller_address_of, callee_address_of, user_of, caller_fire_of, callee_fire_of}
 use Rattle.message.specs.Reading.{reading, reporting}
@@ -121,7 +121,7 @@ unfolding place_named free_place lowest_found is_named same blank_of header_of b
 searched = ((refl, refl), (refl, refl))
 
 w1 : well_formed t1 ≡ true
-w1 = well 23 t0 s1 0 w0 (invites_read 23 (omega arith)).0 searched.0.0 searched.0.1
+w1 = well 38 t0 s1 0 w0 (invites_read 38 (omega arith)).0 searched.0.0 searched.0.1
 
 handed : Handed t0 1000 [] × (Handed t0 1000 s1 × Handed t1 1000 s2)
 unfolding all blank_of header_of bytes_of splice record_for new_record record_of fields_from slot_of counts_of times_of call_id_of caller_address_of callee_address_of user_of
@@ -135,10 +135,10 @@ handed = (
   ),
 )
 
-first : (c : ℕ) → 23 ≤ c → on_message c t0 1000 s1 ≡ record { answer = accepted Pass (Some Calling); table = t1 }
+first : (c : ℕ) → 38 ≤ c → on_message c t0 1000 s1 ≡ record { answer = accepted Pass (Some Calling); table = t1 }
 first c room = passed c t0 s1 0 w0 (invites_read c room).0 searched.0.0 searched.0.1
 
-second : (c : ℕ) → 23 ≤ c → on_message c t1 1000 s2 ≡ record { answer = accepted Pass (Some Calling); table = t2 }
+second : (c : ℕ) → 38 ≤ c → on_message c t1 1000 s2 ≡ record { answer = accepted Pass (Some Calling); table = t2 }
 second c room = passed c t1 s2 1 w1 (invites_read c room).1 searched.1.0 searched.1.1
 
 -- a message of no bytes is answered 2
@@ -147,21 +147,21 @@ unfolding on_message reading reporting
 empty c = rw w0 refl
 
 module _ (c : ℕ) (f : Keeper) (meets : Meets (on_message c) f) where
-  leaves : 23 ≤ c → (f t0 1000 s1).table ≡ t1
+  leaves : 38 ≤ c → (f t0 1000 s1).table ≡ t1
   leaves room = (meets t0 1000 s1 handed.1.0).1 ∙ ap (λ (x : Step). x.table) (first c room)
 
-  pub refuses-not-all : 23 ≤ c → RefusesAll f → ⊥
+  pub refuses-not-all : 38 ≤ c → RefusesAll f → ⊥
   refuses-not-all room h =
       clash (h t0 1000 s1 handed.1.0) (ap (λ (a : Answer). is_refused (paper_of a)) ((meets t0 1000 s1 handed.1.0).0 ∙ ap (λ (x : Step). x.answer) (first c room)))
 
   pub passes-not-all : PassesAll f → ⊥
   passes-not-all h = clash (h t0 1000 [] handed.0) (ap (λ (a : Answer). is_pass (paper_of a)) (meets t0 1000 [] handed.0).0 ∙ ap is_pass (empty c))
 
-  pub alters_some : 23 ≤ c → AltersNone f → ⊥
+  pub alters_some : 38 ≤ c → AltersNone f → ⊥
   alters_some room h = altered c t0 s1 0 w0 (invites_read c room).0 searched.0.0 searched.0.1 (sym (leaves room) ∙ h t0 1000 s1 handed.1.0)
 
   -- it acts on later messages too
-  pub acts_later : 23 ≤ c → ((t : List ℕ) (now : ℕ) (s : List ℕ) → Handed t now s → (later : ℕ) (z : List ℕ) → Handed (f t now s).table later z
+  pub acts_later : 38 ≤ c → ((t : List ℕ) (now : ℕ) (s : List ℕ) → Handed t now s → (later : ℕ) (z : List ℕ) → Handed (f t now s).table later z
       → (f (f t now s).table later z).table ≡ (f t now s).table) → ⊥
   acts_later room h =
       let q : (f t1 1000 s2).table ≡ t1 = rw (leaves room) at (h t0 1000 s1 handed.1.0 1000 s2 (rw (leaves room) handed.1.1)) in

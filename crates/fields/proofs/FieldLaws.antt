@@ -3,7 +3,7 @@ use Rattle.json_text.proofs.TurnLaws.{no-elements, some-elements}
 use Prim.Native.Nat.{ℕ}
 use Rattle.json_text.specs.Places.{past, elements, elements_from}
 use Rattle.fields.specs.Field.{strings_field}
-use Rattle.fields.specs.Value.{is_array}
+use Rattle.values.specs.Value.{is_array}
 use Rattle.octets.specs.Class.{all}
 use Rattle.rules.specs.Address.{address_rule, address_of}
 use Rattle.rules.specs.Pieces.{decimal_at}

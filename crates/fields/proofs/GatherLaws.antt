@@ -3,9 +3,9 @@
 use Rattle.fields.specs.inner.Gathering.{noted_once, end_at, ends_of, Gathered, Ended}
 use Prim.Native.Nat.{ℕ, zero, suc, ◌+◌, ◌<◌}
 use Rattle.json_text.specs.Places.{behind, raw, value_of, members_from, members}
-use Rattle.fields.specs.Known.{number_at, empty, has, note, noted, repeated}
+use Rattle.fields.specs.Known.{empty, has, note, noted, repeated}
 use Rattle.escapes.specs.Rfc7159.{is_broken, text}
-use Rattle.fields.specs.Value.{word_spelled}
+use Rattle.values.specs.Value.{word_spelled, number_at}
 use Rattle.octets.proofs.TestLaws.{picked}
 use Rattle.rules.proofs.NameLaws.{place-below}
 use Rattle.rules.specs.Names.{hop_members}

@@ -8,8 +8,8 @@ use Rattle.json_text.proofs.PlaceLaws.{closing-is, raw-is}
 use Rattle.json_text.specs.Places.{part, past, behind, value_of, more, members, members_from}
 use Rattle.fields.proofs.GatherLaws.{Sofar, started, over, repeats, goes_on, has-is, note-is, number_is}
 use Rattle.fields.specs.Hop.{hop_of}
-use Rattle.fields.specs.Known.{empty, noted, number_at, repeated}
-use Rattle.fields.specs.Value.{word_spelled}
+use Rattle.fields.specs.Known.{empty, noted, repeated}
+use Rattle.values.specs.Value.{word_spelled, number_at}
 use Rattle.fields.specs.Via.{hop_places}
 use Rattle.fields.specs.declared.hops.Hop.{Hop}
 use Rattle.fields.specs.declared.hops.Members.{Members}

@@ -3,13 +3,18 @@ use Prim.Native.Nat.{ℕ, ◌+◌, ◌≤◌, ◌<◌}
 use Rattle.escapes.specs.Placing.{place_of}
 use Rattle.escapes.specs.Rfc7159.{text}
 use Rattle.fields.proofs.FieldLaws.{sequence-broken, address_broken}
-use Rattle.fields.proofs.LetterLaws.{fault_first, fault_letter, its_letter, no-letter, one-letter}
-use Rattle.fields.proofs.SpelledLaws.{ruled-is}
-use Rattle.fields.proofs.ValueLaws.{text-is}
-use Rattle.fields.specs.Field.{fault_at, keeps, letter_at, letter_reach}
+use Rattle.fields.proofs.LetterLaws.{fault_first, fault_letter, fault_particular, its_letter, no-letter, one-letter}
+use Rattle.values.proofs.SpelledLaws.{ruled-is}
+use Rattle.values.proofs.ValueLaws.{text-is}
+use Rattle.fields.specs.Field.{body_field, caller_field, fault_at, keeps, letter_at, letter_reach, live_field, locations_field, names_image, particulars_faults}
+use Rattle.fields.specs.inner.Chain.{holds_particulars}
+use Rattle.particulars.proofs.LowestLaws.{sound, unsound}
+use Rattle.particulars.specs.Fields.{live_faults}
+use Rattle.particulars.specs.Lowest.{is_sound, lowest}
+use Rattle.rules.specs.Numbers.{content_location}
 use Rattle.fields.specs.inner.Judging.{judged_value, cseq_of, party_of, via_of, status_in}
 use Rattle.fields.specs.Trail.{trail_in, trail_of}
-use Rattle.fields.specs.Value.{is_string, spelling_of, text_of, freely, ruled}
+use Rattle.values.specs.Value.{is_string, spelling_of, text_of, freely, ruled}
 use Rattle.fields.specs.Via.{via_rule}
 use Rattle.std.specs.declared.result.Result.TheVariants.{Err, Ok}
 use Rattle.std.specs.declared.result.Result.{Result}
@@ -26,10 +31,12 @@ use Rattle.rules.specs.declared.sequences.Sequence.{Sequence}
 use Rattle.std.specs.Option.{ok_or}
 use Rattle.std.specs.Prelude.{None, Option, Some}
 use Rattle.std.specs.Result.{is_ok}
-use mathlib.Core.Bool.{Bool, true, false, cond}
-use mathlib.Core.List.{List}
+use borrow.Author.Tests.{eqb-true, ne_eqb}
+use lib.Dec.{eqb}
+use mathlib.Core.Bool.{Bool, true, false, ◌&&◌, ◌||◌, cond}
+use mathlib.Core.List.{List, []}
 use mathlib.Core.Path.{◌≡◌, refl, sym, ap, ◌∙◌}
-use native.Mathlib.Decide.{dec_lt}
+use native.Mathlib.Decide.{dec_lt, ℕ_discrete}
 use native.Mathlib.Omega.{arith}
 
 -- a string, or not: what is left of a rule
@@ -124,6 +131,12 @@ pub via-kept : (v : List ℕ) {r : Trail} → (true ≡ via_rule v) × (r ≡ tr
 unfolding via_of trail_in
 via-kept v (a, b) = rw (b, ← a)
 
+no-particulars : (a b c : Bool) (x y z : List ℕ) → (a || (b || c)) ≡ false → cond a x (cond b y (cond c z [])) ≡ []
+no-particulars true b c x y z e = absurd (let z : ◌≡◌ {A = Bool} true false = e in cc)
+no-particulars false true c x y z e = absurd (let z : ◌≡◌ {A = Bool} true false = e in cc)
+no-particulars false false true x y z e = absurd (let z : ◌≡◌ {A = Bool} true false = e in cc)
+no-particulars false false false x y z e = refl
+
 -- any field
 module _ (k : Setting) (n : ℕ) (v : List ℕ) {b : Bool} (is : b ≡ keeps k n v) where
   pub judged-kept : b ≡ true → Ok tt ≡ judged_value k n v
@@ -136,13 +149,52 @@ module _ (k : Setting) (n : ℕ) (v : List ℕ) {b : Bool} (is : b ≡ keeps k n
     unfolding judged_value
     judged-letter {w} h t f g = rw (← is, e) (ap Err (its_letter n v w f refl t g ∙ sym (fault_letter k n v (omega arith) (omega arith))))
 
-    pub judged-first : (n < 6 → is_string v ≡ false) → Err 0 ≡ judged_value k n v
-    unfolding judged_value
-    judged-first t = rw (← is, e) (ap Err (by (dec_lt n 6)))
+    pub judged-first : (n < 6 → is_string v ≡ false) → holds_particulars k n ≡ false → Err 0 ≡ judged_value k n v
+    unfolding judged_value holds_particulars particulars_faults
+    judged-first t other = rw (← is, e) (ap Err (by (dec_lt n 6)))
       where
         by : Dec (n < 6) → 0 ≡ fault_at k n v
-        by (no h) = sym (fault_first k n v (omega arith))
+        by (no h) = sym (fault_first k n v (omega arith) (no-particulars (eqb n 21) (eqb n 23) (eqb n 10 && eqb k.content content_location) _ _ _ other))
         by (yes h) = no-letter n v (spelling_of v) refl refl (t h) ∙ sym (fault_letter k n v (omega arith) (omega arith))
+
+-- a field that has to hold particulars
+particulars-keep : (k : Setting) (n : ℕ) (v : List ℕ) → holds_particulars k n ≡ true → keeps k n v ≡ is_sound (particulars_faults k n v)
+unfolding holds_particulars keeps particulars_faults locations_field caller_field live_field body_field names_image
+particulars-keep k n v h = by (ℕ_discrete n 21) (ℕ_discrete n 23) (ℕ_discrete n 10)
+  where
+    by : Dec (n ≡ 21) → Dec (n ≡ 23) → Dec (n ≡ 10) → keeps k n v ≡ is_sound (particulars_faults k n v)
+    by (yes e) b c = rw e
+    by (no a) (yes e) c = rw e
+    by (no a) (no b) (yes e) =
+        let z : eqb k.content content_location ≡ true = rw e at h in
+        rw (e, eqb-true k.content content_location z)
+    by (no a) (no b) (no c) = absurd (let z : ◌≡◌ {A = Bool} false true = rw (ne_eqb n 21 a, ne_eqb n 23 b, ne_eqb n 10 c) at h in cc)
+
+pub live-particulars : (k : Setting) (n : ℕ) (v : List ℕ) → holds_particulars k n ≡ true → (n ≡ 21 → ⊥) → (n ≡ 23 → ⊥) → lowest (live_faults v) ≡ lowest (particulars_faults k n v)
+unfolding holds_particulars particulars_faults
+live-particulars k n v h a b =
+    let z : (eqb n 10 && eqb k.content content_location) ≡ true = rw (ne_eqb n 21 a, ne_eqb n 23 b) at h in
+    rw (ne_eqb n 21 a, ne_eqb n 23 b, z)
+
+particulars-late : (k : Setting) (n : ℕ) → holds_particulars k n ≡ true → 5 < n
+unfolding holds_particulars
+particulars-late k n h = by (dec_lt 5 n)
+  where
+    by : Dec (5 < n) → 5 < n
+    by (yes g) = g
+    by (no g) = absurd (let z : ◌≡◌ {A = Bool} false true =
+        rw (ne_eqb n 21 (λ e. omega arith), ne_eqb n 23 (λ e. omega arith), ne_eqb n 10 (λ e. omega arith)) at h in cc)
+
+module _ (k : Setting) (n : ℕ) (v : List ℕ) (h : holds_particulars k n ≡ true) where
+  pub judged-sound : None ≡ lowest (particulars_faults k n v) → Ok tt ≡ judged_value k n v
+  unfolding judged_value
+  judged-sound e = rw (particulars-keep k n v h, sound (particulars_faults k n v) e)
+
+  pub judged-unsound : {p : ℕ} → Some p ≡ lowest (particulars_faults k n v) → Err p ≡ judged_value k n v
+  unfolding judged_value
+  judged-unsound e =
+      let u = unsound (particulars_faults k n v) e in
+      rw (particulars-keep k n v h, u.0) (ap Err (u.1 ∙ sym (fault_particular k n v (particulars-late k n h))))
 
 -- What an answer says: broken, and where, or kept with its facts.
 

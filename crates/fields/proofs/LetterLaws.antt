@@ -3,11 +3,7 @@ use Prim.Native.Nat.{ℕ, zero, suc, ◌+◌, ◌-◌, ◌≤◌, ◌<◌}
 use Rattle.escapes.proofs.PlaceLaws.{place_inside}
 use Rattle.escapes.specs.Placing.{place_of}
 use Rattle.escapes.specs.Rfc7159.{text}
-use Rattle.fields.proofs.SpelledLaws.{ruled-is}
-use Rattle.fields.proofs.TriedLaws.{plain_by}
-use Rattle.fields.proofs.ValueLaws.{text-is}
-use Rattle.fields.specs.Field.{fault_at, keeps, letter_at, letter_reach, letter_rule}
-use Rattle.fields.specs.Value.{freely, is_string, ruled, spelling_of, text_of}
+use Rattle.fields.specs.Field.{call_of, fault_at, keeps, letter_at, letter_reach, letter_rule, particulars_faults}
 use Rattle.fields.specs.declared.judging.Setting.{Setting}
 use Rattle.json_text.specs.Places.{closing, part, raw}
 use Rattle.letters.proofs.Theorems.{address_cut, bad_address, bad-call_id, bad-date, bad-sequence, call_id_cut, date-cut, sequence-cut}
@@ -15,11 +11,18 @@ use Rattle.letters.specs.BadLetter.{BadLetter}
 use Rattle.octets.proofs.ClassLaws.{among-high, in_among}
 use Rattle.octets.proofs.TestLaws.{picked}
 use Rattle.octets.specs.Class.{among}
+use Rattle.particulars.proofs.BoundLaws.{caller-inside, cond-inside, live-inside, locations-inside, none, place-inside}
+use Rattle.particulars.specs.Fields.{caller_faults, live_faults, locations_faults}
+use Rattle.particulars.specs.Lowest.{lowest, lowest_place}
+use Rattle.rules.specs.Numbers.{content_location}
 use Rattle.rules.proofs.PlainLaws.{Plain, address_plain, call_id_plain, date-plain, sequence-plain}
+use Rattle.values.proofs.SpelledLaws.{ruled-is, plain_by}
+use Rattle.values.proofs.ValueLaws.{text-is}
+use Rattle.values.specs.Value.{freely, is_string, ruled, spelling_of, text_of}
 use borrow.Author.Tests.{lt-ltb, ne_eqb}
 use lib.Dec.{eqb, ltb}
 use lib.ListN.{length, length-take, take}
-use mathlib.Core.Bool.{Bool, true, false, cond}
+use mathlib.Core.Bool.{Bool, true, false, ◌&&◌, cond}
 use mathlib.Core.List.{List, [], ◌∷◌}
 use mathlib.Core.Path.{◌≡◌, refl, sym, ◌∙◌}
 use native.Mathlib.Omega.{arith}
@@ -51,9 +54,19 @@ module _ (k : Setting) (n : ℕ) (v : List ℕ) where
   unfolding fault_at
   fault_letter low high = rw (in_among 1 5 n low high)
 
-  pub fault_first : 5 < n → fault_at k n v ≡ 0
+  pub fault_first : 5 < n → particulars_faults k n v ≡ [] → fault_at k n v ≡ 0
+  unfolding fault_at lowest_place lowest
+  fault_first h e = rw (among-high 1 5 n (omega arith) h, e)
+
+  pub fault_particular : 5 < n → fault_at k n v ≡ lowest_place (particulars_faults k n v)
   unfolding fault_at
-  fault_first h = rw (among-high 1 5 n (omega arith) h)
+  fault_particular h = rw (among-high 1 5 n (omega arith) h)
+
+-- the fields before Body hold no particulars
+pub fault_early : (k : Setting) (n : ℕ) (v : List ℕ) → 5 < n → n < 10 → fault_at k n v ≡ 0
+unfolding particulars_faults
+fault_early k n v low high =
+    fault_first k n v low (rw (ne_eqb n 21 (λ e. omega arith), ne_eqb n 23 (λ e. omega arith), ne_eqb n 10 (λ e. omega arith)))
 
 -- To and From are under one rule
 pub one-letter : (n : ℕ) (v : List ℕ) → 2 ≤ n → n ≤ 3 → letter_at n v ≡ letter_at 2 v
@@ -85,9 +98,16 @@ letter-inside n (x ∷ v) = go (eqb x 34)
     go true = omega (arith, place_inside (spelling_of (x ∷ v)) (letter_reach n (text_of (x ∷ v))), spelling-inside x v)
     go false = omega arith
 
+particular-inside : (k : Setting) (n : ℕ) (v : List ℕ) → lowest_place (particulars_faults k n v) ≤ length v
+unfolding particulars_faults
+particular-inside k n v =
+    place-inside _ (cond-inside (eqb n 21) (locations_faults v) _ (locations-inside v)
+    (cond-inside (eqb n 23) (caller_faults (call_of k) v) _ (caller-inside v (call_of k))
+    (cond-inside (eqb n 10 && eqb k.content content_location) (live_faults v) [] (live-inside v) none)))
+
 pub fault_inside : (k : Setting) (n : ℕ) (v : List ℕ) → fault_at k n v ≤ length v
 unfolding fault_at
-fault_inside k n v = picked (λ (p : ℕ). p ≤ length v) (among 1 5 n) (letter-inside n v) (omega arith)
+fault_inside k n v = picked (λ (p : ℕ). p ≤ length v) (among 1 5 n) (letter-inside n v) (particular-inside k n v)
 
 -- The first bad letter.
 

@@ -1,7 +1,4 @@
-pub mod SpellingLaws
-pub mod SpelledLaws
 pub mod TriedLaws
-pub mod ValueLaws
 pub mod FieldLaws
 pub mod ChainLaws
 pub mod LetterLaws

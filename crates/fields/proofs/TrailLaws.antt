@@ -8,13 +8,13 @@ use Rattle.json_text.specs.inner.Landing.{Cell}
 use Prim.Native.Nat.{ℕ, zero, suc, ◌+◌, ◌-◌, ◌≤◌, ◌<◌}
 use Rattle.json_text.proofs.PlaceLaws.{past-inner, behind-inner}
 use Rattle.json_text.specs.Places.{past, behind, bytes, follows, more, elements, elements_from, last_of, prev_of}
-use Rattle.fields.proofs.SpellingLaws.{bytes-short, span_within}
+use Rattle.values.proofs.SpellingLaws.{bytes-short, span_within}
 use Rattle.fields.proofs.ViaLaws.{via_from, from_first, seventeenth, broken, further, at-end}
 use Rattle.fields.specs.Trail.{host_span, host_start, host_end, trail_of, no_trail, trail_in}
-use Rattle.fields.specs.Value.{is_array}
+use Rattle.values.specs.Value.{is_array}
 use Rattle.fields.specs.Via.{is_hop, via_rule}
 use Rattle.fields.specs.declared.trails.Trail.{Trail}
-use Rattle.fields.specs.declared.spans.Span.{Span}
+use Rattle.values.specs.declared.spans.Span.{Span}
 use borrow.Author.Tests.{eqb-true}
 use lib.Dec.{eqb}
 use lib.ListN.{length, get_or}

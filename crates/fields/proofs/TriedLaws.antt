@@ -1,13 +1,14 @@
 -- The rules of the fields, of Via's members and of known words, which may all be tried on a text as it is spelled. Assumes nothing.
 use Prim.Native.Nat.{ℕ}
-use Rattle.fields.proofs.SpelledLaws.{Tried, tried_any, tried_by, tried_front, tried_plain}
-use Rattle.fields.specs.Field.{names_image, one_of}
+use Rattle.values.proofs.SpelledLaws.{Tried, one_of_plain, plain_by, tried_any, tried_by, tried_front, tried_plain}
+use Rattle.fields.specs.Field.{names_image}
+use Rattle.values.specs.Value.{one_of}
 use Rattle.fields.specs.Via.{hop_rule}
 use Rattle.fields.specs.declared.judging.Setting.{Setting}
 use Rattle.fields.specs.inner.Chain.{later_rule, on_body, on_status, on_text, on_type, plain_rule}
 use Rattle.octets.specs.Class.{all}
 use Rattle.rules.proofs.PlainLaws.{Plain, are_plain, call_id_plain, date-plain, desk_plain, destination_plain, fire-plain, host-plain}
-use Rattle.rules.proofs.PlainLaws.{image-front, is_plain, language_plain, message_id_plain, organization_plain, status-front, word-plain}
+use Rattle.rules.proofs.PlainLaws.{image-front, is_plain, language_plain, message_id_plain, organization_plain, status-front}
 use Rattle.rules.specs.Address.{address_of, address_rule}
 use Rattle.rules.specs.Names.{fields, hop_members, tags}
 use Rattle.rules.specs.Numbers.{content_presence, content_text, method_message, tag_pong}
@@ -15,7 +16,7 @@ use Rattle.rules.specs.Sequence.{sequence_of, sequence_rule}
 use Rattle.std.specs.Prelude.{None}
 use Rattle.rules.specs.Words.{availabilities, call_modes, content_types, message_types, notify_types, presences, rescuees, services}
 use lib.Dec.{eqb, ltb}
-use mathlib.Core.Bool.{Bool, true, false, cond}
+use mathlib.Core.Bool.{true, false}
 use mathlib.Core.List.{List}
 use mathlib.Core.Path.{◌≡◌, refl}
 use native.Mathlib.Omega.{arith}
@@ -34,15 +35,23 @@ pub type_words : are_plain content_types ≡ true
 unfolding are_plain all is_plain
 type_words = refl
 
+pub mode_words : are_plain call_modes ≡ true
+unfolding are_plain all is_plain
+mode_words = refl
+
+pub rescuee_words : are_plain rescuees ≡ true
+unfolding are_plain all is_plain
+rescuee_words = refl
+
+pub service_words : are_plain services ≡ true
+unfolding are_plain all is_plain
+service_words = refl
+
 pub field_words : are_plain fields ≡ true
 unfolding are_plain all is_plain
 field_words = refl
 
 -- Rules that let plain texts through alone.
-
-one_of_plain : (ws : List (List ℕ)) → are_plain ws ≡ true → Plain (one_of ws)
-unfolding one_of
-one_of_plain ws e = let p = word-plain ws e in record { plain = p.plain; short = p.short }
 
 pub availability_plain : Plain (one_of availabilities)
 unfolding are_plain all is_plain
@@ -61,16 +70,13 @@ unfolding are_plain all is_plain
 presence_plain = one_of_plain presences refl
 
 pub call-mode-plain : Plain (one_of call_modes)
-unfolding are_plain all is_plain
-call-mode-plain = one_of_plain call_modes refl
+call-mode-plain = one_of_plain call_modes mode_words
 
 pub rescuee_plain : Plain (one_of rescuees)
-unfolding are_plain all is_plain
-rescuee_plain = one_of_plain rescuees refl
+rescuee_plain = one_of_plain rescuees rescuee_words
 
 pub service-plain : Plain (one_of services)
-unfolding are_plain all is_plain
-service-plain = one_of_plain services refl
+service-plain = one_of_plain services service_words
 
 -- what breaks the rule tells nothing
 pub broken-sequence : (t : List ℕ) → sequence_rule t ≡ false → sequence_of t ≡ None
@@ -80,11 +86,6 @@ broken-sequence t e = rw e
 pub broken_address : (t : List ℕ) → address_rule t ≡ false → address_of t ≡ None
 unfolding address_of
 broken_address t e = rw e
-
--- either of two, by a test that the text has no part in
-pub plain_by : (b : Bool) {f g : List ℕ → Bool} → Plain f → Plain g → Plain (λ t. cond b (f t) (g t))
-plain_by true p q = record { plain = p.plain; short = p.short }
-plain_by false p q = record { plain = q.plain; short = q.short }
 
 pub hop-plain : (n : ℕ) → Plain (hop_rule n)
 unfolding hop_rule

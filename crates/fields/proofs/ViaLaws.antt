@@ -4,8 +4,8 @@ use Rattle.fields.specs.inner.Gathering.{Gathered}
 use Prim.Native.Nat.{ℕ, suc, ◌+◌, ◌≤◌}
 use Rattle.json_text.specs.Places.{past, bytes, members, elements, elements_from}
 use Rattle.fields.specs.Trail.{host_span}
-use Rattle.fields.specs.Spans.{spelling_span}
-use Rattle.fields.specs.Value.{is_array, ruled}
+use Rattle.values.specs.Spans.{spelling_span}
+use Rattle.values.specs.Value.{is_array, ruled}
 use Rattle.fields.specs.Known.{empty, repeated}
 use Rattle.fields.specs.Via.{hop_places, hop_rule, hop_keeps, is_hop, via_rule}
 use Rattle.octets.proofs.ClassLaws.{in_among, among-high}

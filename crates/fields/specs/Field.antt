@@ -1,28 +1,28 @@
--- Each known field's rule on its value's own bytes (01 Reading, 'Rules'): besides them it sees tag, method and Content-Type alone.
+-- Each known field's rule on its value's own bytes (01 Reading, 'Rules'): besides them it sees tag, method and Content-Type alone, and 23 Caller the fields 15, 18
+-- and 19 (02 §4).
 -- Assumes nothing.
 use Prim.Native.Char.{code}
-use Rattle.std.specs.Prelude.{ℕ, ◌+◌, eqb, ltb, get_or, Bool, false, ◌&&◌, ◌||◌, cond, List, [], ◌∷◌}
+use Rattle.std.specs.Prelude.{ℕ, ◌+◌, eqb, ltb, get_or, Bool, false, not, ◌&&◌, ◌||◌, cond, List, [], ◌∷◌}
 use Rattle.escapes.specs.Placing.{place_of}
 use Rattle.json_text.specs.Places.{elements}
-use Rattle.fields.specs.Value.{is_string, is_array, is_object, spelling_of, text_of, freely, ruled}
+use Rattle.values.specs.Value.{is_string, is_array, spelling_of, text_of, freely, ruled, one_of}
 use Rattle.fields.specs.Via.{via_rule}
 use Rattle.fields.specs.declared.judging.Setting.{Setting}
 use Rattle.letters.specs.inner.Reach.{sequence_reach, address_reach, date_reach, call_id_reach}
 use Rattle.octets.specs.Class.{all, among}
+use Rattle.particulars.specs.Fields.{caller_faults, live_faults, locations_faults}
+use Rattle.particulars.specs.Lowest.{is_sound, lowest_place}
+use Rattle.particulars.specs.declared.types.Call.{Call}
 use Rattle.rules.specs.Address.{address_rule}
 use Rattle.rules.specs.Date.{date_rule}
-use Rattle.rules.specs.Numbers.{content_location, content_message_image, content_presence, content_text, content_text_image, method_message, tag_pong}
-use Rattle.rules.specs.Pieces.{word_number}
+use Rattle.rules.specs.Numbers.{content_location, content_message_image, content_presence, content_text, content_text_image, field_body, field_caller, field_locations}
+use Rattle.rules.specs.Numbers.{method_message, mode_training, rescuee_third_party, service_ambulance, tag_pong}
 use Rattle.rules.specs.Sequence.{sequence_rule}
 use Rattle.rules.specs.Status.{status_rule}
 use Rattle.rules.specs.Texts.{fire_rule, call_id_rule, desk_rule, message_id_rule, image_rule, memo_rule, language_rule}
 use Rattle.rules.specs.Words.{availabilities, message_types, notify_types, presences, call_modes, call_tests, truths, rescuees, services}
 
--- A rule sees a setting besides its value: the numbers of tag, method and Content-Type, 0 where there is none.
-
--- one of a few words
-unfoldable pub one_of : List (List ℕ) → List ℕ → Bool
-one_of ws t = ltb 0 (word_number ws t)
+-- A rule sees a setting besides its value: the numbers of tag, method, Content-Type, Call-Mode, Rescuee and Request-Service, 0 where there is none.
 
 -- Status: in a pong `available` or `unavailable`; else its rule, with free text after the space
 unfoldable pub status_field : ℕ → List ℕ → Bool
@@ -36,14 +36,32 @@ content_field method v = cond (eqb method method_message) (ruled (one_of message
 unfoldable pub names_image : ℕ → Bool
 names_image content = eqb content content_text_image || eqb content content_message_image
 
+-- what the call says of its Caller: whether it is training; and whether there may be emergency contacts: not in training, not for a third party, and only for an
+-- ambulance
+unfoldable pub call_of : Setting → Call
+call_of k = record {
+  training = eqb k.mode mode_training;
+  contacts = not (eqb k.mode mode_training) && (not (eqb k.rescuee rescuee_third_party) && eqb k.service service_ambulance);
+}
+
+-- 21 Locations, 23 Caller, and a location: each has its own faults, all at once (02 §4)
+unfoldable pub locations_field : List ℕ → Bool
+locations_field v = is_sound (locations_faults v)
+
+unfoldable pub caller_field : Call → List ℕ → Bool
+caller_field call v = is_sound (caller_faults call v)
+
+unfoldable pub live_field : List ℕ → Bool
+live_field v = is_sound (live_faults v)
+
 -- Body, by Content-Type: text a string; the image's a string that starts `https://`; presence `online` or `offline`; the location
--- an object; refer as Status (any other number counts as refer: a Body is only asked about once field 9 has kept its rule)
+-- a Live-Location; refer as Status (any other number counts as refer: a Body is only asked about once field 9 has kept its rule)
 unfoldable pub body_field : ℕ → List ℕ → Bool
 body_field content v =
     cond (eqb content content_text) (is_string v)
     (cond (names_image content) (freely image_rule v)
     (cond (eqb content content_presence) (ruled (one_of presences) v)
-    (cond (eqb content content_location) (is_object v) (freely status_rule v))))
+    (cond (eqb content content_location) (live_field v) (freely status_rule v))))
 
 -- an array of strings
 unfoldable pub strings_field : List ℕ → Bool
@@ -72,9 +90,9 @@ field_rules k =
     ∷ ruled (one_of rescuees)  -- 18 Rescuee
     ∷ ruled (one_of services)  -- 19 Request-Service
     ∷ ruled language_rule  -- 20 Language
-    ∷ is_array  -- 21 Locations
+    ∷ locations_field  -- 21 Locations
     ∷ is_string  -- 22 User-Agent
-    ∷ is_object  -- 23 Caller
+    ∷ caller_field (call_of k)  -- 23 Caller
     ∷ strings_field  -- 24 Options
     ∷ ruled desk_rule  -- 25 Destination
     ∷ ruled desk_rule  -- 26 Responded-By
@@ -88,7 +106,7 @@ no_rule v = false
 unfoldable pub keeps : Setting → ℕ → List ℕ → Bool
 keeps k n = get_or (no_rule ∷ field_rules k) n no_rule
 
--- Where a value breaks its rule (01 Reading, 9): of the fields 1 to 5 a string at its first bad letter (02 §12).
+-- Where a value breaks its rule (01 Reading, 9): of the fields 1 to 5 a string at its first bad letter (02 §12), of particulars at the lowest of their faults (02 §4).
 
 -- the rule of field n, 1 to 5, on its text: `lettered` of proofs/LetterLaws.antt says that it is the one that `field_rules` lists
 unfoldable pub letter_rule : ℕ → List ℕ → Bool
@@ -111,6 +129,13 @@ letter_reach n t =
 unfoldable pub letter_at : ℕ → List ℕ → ℕ
 letter_at n v = cond (is_string v) (1 + place_of (spelling_of v) (letter_reach n (text_of v))) 0
 
+-- the faults of the particulars that the value of field n has to hold, counted from the value's first byte; a field that has none to hold has no such fault
+unfoldable pub particulars_faults : Setting → ℕ → List ℕ → List ℕ
+particulars_faults k n v =
+    cond (eqb n field_locations) (locations_faults v)
+    (cond (eqb n field_caller) (caller_faults (call_of k) v)
+    (cond (eqb n field_body && eqb k.content content_location) (live_faults v) []))
+
 -- where a value breaks the rule of field n, counted from the value's first byte
 unfoldable pub fault_at : Setting → ℕ → List ℕ → ℕ
-fault_at k n v = cond (among 1 5 n) (letter_at n v) 0
+fault_at k n v = cond (among 1 5 n) (letter_at n v) (lowest_place (particulars_faults k n v))

@@ -4,7 +4,7 @@
 use Rattle.std.specs.Prelude.{ℕ, eqb, get_or, cond, List}
 use Rattle.json_text.specs.Places.{members}
 use Rattle.fields.specs.Known.{empty, repeated}
-use Rattle.fields.specs.Spans.{spelling_at}
+use Rattle.values.specs.Spans.{spelling_at}
 use Rattle.fields.specs.Via.{hop_places}
 use Rattle.fields.specs.declared.hops.Hop.{Hop}
 use Rattle.rules.specs.Names.{hop_members}

@@ -1,12 +1,8 @@
 -- Which members of an object are known, and what stands under them (01 Reading, rows 7 and 8). It serves the message's own object, with the 26
 -- fields, and an object of Via, with its three members: ns are the known names, numbered from 1. Assumes nothing.
 use Rattle.std.specs.Prelude.{ℕ, eqb, ltb, get_or, set, replicate, Bool, ◌&&◌, cond, List, [], ◌∷◌}
-use Rattle.json_text.specs.Places.{raw, value_of}
-use Rattle.fields.specs.Value.{word_spelled}
-
--- the number of the member whose name opens at q, by the text of its name; 0 for an unknown one
-unfoldable pub number_at : List (List ℕ) → List ℕ → ℕ → ℕ
-number_at ns s q = word_spelled ns (raw s q)
+use Rattle.json_text.specs.Places.{value_of}
+use Rattle.values.specs.Value.{number_at}
 
 -- the places of values by number, 0 where there is none
 abbrev pub empty : List ℕ

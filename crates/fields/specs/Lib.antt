@@ -1,6 +1,4 @@
-pub mod Value
 pub mod Known
-pub mod Spans
 pub mod Via
 pub mod Trail
 pub mod Hop

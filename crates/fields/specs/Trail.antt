@@ -3,10 +3,10 @@
 -- contracts of `src/vias.rt` and of `message` cite these. Assumes nothing.
 use Rattle.std.specs.Prelude.{ℕ, ◌+◌, length, get_or, cond, List, map}
 use Rattle.json_text.specs.Places.{behind, elements, last_of, prev_of}
-use Rattle.fields.specs.Spans.{nowhere, spelling_span}
+use Rattle.values.specs.Spans.{nowhere, spelling_span}
 use Rattle.fields.specs.Via.{hop_places, via_rule}
 use Rattle.fields.specs.declared.trails.Trail.{Trail}
-use Rattle.fields.specs.declared.spans.Span.{Span}
+use Rattle.values.specs.declared.spans.Span.{Span}
 
 -- where the host of the object that opens at o stands
 unfoldable pub host_span : List ℕ → ℕ → Span

@@ -3,7 +3,7 @@ use Prim.Native.Char.{code}
 use Rattle.std.specs.Prelude.{ℕ, eqb, ltb, length, get_or, Bool, ◌&&◌, cond, List}
 use Rattle.json_text.specs.Places.{bytes, members, elements}
 use Rattle.fields.specs.Known.{empty, noted, repeated}
-use Rattle.fields.specs.Value.{is_array, ruled}
+use Rattle.values.specs.Value.{is_array, ruled}
 use Rattle.octets.specs.Class.{among, all}
 use Rattle.rules.specs.Names.{hop_members}
 use Rattle.rules.specs.Texts.{host_rule, destination_rule, organization_rule}

@@ -4,9 +4,9 @@ ghost use Rattle.escapes.specs.Placing.{place_of};
 ghost use Rattle.escapes.specs.Rfc7159.{text};
 ghost use Rattle.fields.specs.Field.{letter_reach};
 
-use crate::spelled::of_text;
 use escapes::place_of;
 use rules::{CSEQ, DATE};
+use values::of_text;
 
 // How many octets of the text t begin an allowed text of field n.
 #[tactic(auto, unfolding(crate::specs::Field::letter_reach))]

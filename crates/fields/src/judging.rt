@@ -1,34 +1,37 @@
 // Each known field's rule on its value's own bytes (01 Reading, 'Rules'): kept, with the facts that the value tells, or broken at a place.
-ghost use Rattle.fields.specs.inner.Asked.{Own};
+ghost use Rattle.values.specs.inner.Asked.{Own};
 ghost use Rattle.std.specs.Prelude.{◌≡◌, ◌<◌};
 ghost use Rattle.fields.specs.Field.{strings_field};
 ghost use Rattle.fields.specs.inner.Judging.{cseq_of, judged_value, party_of, status_in};
 ghost use Rattle.fields.specs.inner.Chain.{by_kind, chain, kind_rule, later_rule, on_body, on_status, on_text, on_type, plain_rule};
 ghost use Rattle.fields.specs.Via.{via_rule};
-ghost use Rattle.fields.specs.Value.{freely, ruled};
+ghost use Rattle.values.specs.Value.{freely, ruled};
 ghost use Rattle.rules.specs.Status.{status_rule};
 ghost use Rattle.rules.specs.Texts.{memo_rule};
 
 use crate::faults::letter_at;
-use crate::spelled::{address_of, of_text, sequence_of, status_of};
-use crate::values::{is_array, is_object, is_string, own_spelling};
+use crate::holders::{holds_particulars, judge_particulars};
+use crate::spelled::{address_of, sequence_of, status_of};
 use crate::vias::judge_via;
 use escapes::{is_escaped, measure};
 use json_text::{element_at, skip};
 use octets::byte;
 use rules::{
-    BODY, CALL_ID, CALL_MODE, CALL_TEST, CALLER, CONTENT_TYPE, CSEQ, DATE, DESTINATION, LANGUAGE,
-    LOCATION_CONTENT, LOCATIONS, MESSAGE, MESSAGE_ID, MESSAGE_IMAGE_CONTENT, PONG,
-    PRESENCE_CONTENT, REFER_MEMO, REQUEST_SERVICE, RESCUEE, SECURE_CALL, SESSION_ID, STATUS,
-    TEXT_CONTENT, TEXT_IMAGE_CONTENT, TO, USER_AGENT, VIA,
+    BODY, CALL_ID, CALL_MODE, CALL_TEST, CONTENT_TYPE, CSEQ, DATE, LANGUAGE, MESSAGE, MESSAGE_ID,
+    MESSAGE_IMAGE_CONTENT, OPTIONS, PONG, PRESENCE_CONTENT, REFER_MEMO, REQUEST_SERVICE, RESCUEE,
+    SECURE_CALL, SESSION_ID, STATUS, TEXT_CONTENT, TEXT_IMAGE_CONTENT, TO, USER_AGENT, VIA,
 };
+use values::{is_array, is_object, is_string, of_text, own_spelling};
 
-// What a rule sees besides its value: the tag, the method's code and the Content-Type's number.
+// What a rule sees besides its value: the tag, the method's code, and the numbers of Content-Type, Call-Mode, Rescuee and Request-Service.
 #[derive(Clone, Copy)]
 pub struct Setting {
     pub tag: u8,
     pub method: u8,
     pub content: u8,
+    pub mode: u8,
+    pub rescuee: u8,
+    pub service: u8,
 }
 
 // What a rule answers is what the value tells, or the place in the value where it breaks the rule.
@@ -75,7 +78,7 @@ fn is_status(t: &[u8]) -> bool
 }
 
 // The text of field n, from 11 on.
-#[tactic(auto, unfolding(crate::specs::inner::Chain::later_rule, crate::specs::Field::one_of))]
+#[tactic(auto, unfolding(crate::specs::inner::Chain::later_rule, values::specs::Value::one_of))]
 fn is_later_text(n: usize, t: &[u8]) -> bool
     ensures { result ≡ later_rule n t.now }
 {
@@ -130,32 +133,26 @@ fn is_strings(v: &[u8]) -> bool
 
 // Whether field n is taken by its value's bytes or kind.
 #[tactic(auto, unfolding(crate::specs::inner::Chain::by_kind))]
-fn is_by_kind(k: Setting, n: usize) -> bool
-    ensures { result ≡ by_kind k n }
+fn is_by_kind(n: usize) -> bool
+    ensures { result ≡ by_kind n }
 {
-    match n {
-        CALL_TEST..RESCUEE | LOCATIONS..DESTINATION => true,
-        BODY => k.content == LOCATION_CONTENT,
-        _ => false,
-    }
+    matches!(n, CALL_TEST..RESCUEE | USER_AGENT | OPTIONS)
 }
 
-#[tactic(auto, unfolding(crate::specs::inner::Chain::kind_rule, crate::specs::Field::one_of))]
+#[tactic(auto, unfolding(crate::specs::inner::Chain::kind_rule, values::specs::Value::one_of))]
 fn is_kind(n: usize, v: &[u8]) -> bool
     ensures { result ≡ kind_rule n v.now }
 {
     match n {
         CALL_TEST => 0 < rules::call_test(v),
         SECURE_CALL => 0 < rules::secure_call(v),
-        LOCATIONS => is_array(v),
         USER_AGENT => is_string(v),
-        CALLER | BODY => is_object(v),
         _ => is_strings(v),
     }
 }
 
 // The text of Status.
-#[tactic(auto, unfolding(crate::specs::inner::Chain::on_status, crate::specs::Field::one_of))]
+#[tactic(auto, unfolding(crate::specs::inner::Chain::on_status, values::specs::Value::one_of))]
 fn is_status_text(tag: u8, t: &[u8]) -> bool
     ensures { result ≡ on_status tag t.now }
 {
@@ -167,7 +164,7 @@ fn is_status_text(tag: u8, t: &[u8]) -> bool
 }
 
 // The text of Content-Type.
-#[tactic(auto, unfolding(crate::specs::inner::Chain::on_type, crate::specs::Field::one_of))]
+#[tactic(auto, unfolding(crate::specs::inner::Chain::on_type, values::specs::Value::one_of))]
 fn is_type_text(method: u8, t: &[u8]) -> bool
     ensures { result ≡ on_type method t.now }
 {
@@ -179,7 +176,7 @@ fn is_type_text(method: u8, t: &[u8]) -> bool
 }
 
 // The text of Body.
-#[tactic(auto, unfolding(crate::specs::inner::Chain::on_body, crate::specs::Field::names_image, crate::specs::Field::one_of))]
+#[tactic(auto, unfolding(crate::specs::inner::Chain::on_body, crate::specs::Field::names_image, values::specs::Value::one_of))]
 fn is_body_text(content: u8, t: &[u8]) -> bool
     ensures { result ≡ on_body content t.now }
 {
@@ -238,7 +235,7 @@ fn is_via(v: &[u8]) -> bool
     judge_via(v).is_ok()
 }
 
-// Whether a value keeps the rule of field n, from 4 on.
+// Whether a value keeps the rule of field n, from 4 on, if it has to hold no particulars.
 #[tactic(auto, unfolding(crate::specs::inner::Chain::chain))]
 fn keeps_rule(k: Setting, n: usize, v: &[u8]) -> bool
     requires { Own v.now }
@@ -247,7 +244,7 @@ fn keeps_rule(k: Setting, n: usize, v: &[u8]) -> bool
     match n {
         VIA => is_via(v),
         REFER_MEMO => keeps_memo(v),
-        _ if is_by_kind(k, n) => is_kind(n, v),
+        _ if is_by_kind(n) => is_kind(n, v),
         _ => keeps_text(k, n, v),
     }
 }
@@ -257,6 +254,9 @@ pub fn judge(k: Setting, n: usize, v: &[u8]) -> Result<(), usize>
     requires { Own v.now × ((3 < n) × (n < 27)) }
     ensures { result ≡ judged_value k n v.now }
 {
+    if holds_particulars(k, n) {
+        return judge_particulars(k, n, v);
+    }
     if keeps_rule(k, n, v) {
         return Ok(());
     }

@@ -1,27 +1,18 @@
 // Texts and names by how they are spelled (02 §2). A text that keeps a rule has no backslash, and neither has a known name: so the bytes are tried as they
 // stand, and decoded only where they fail. No rule here lets a text of 256 bytes through but Status', whose first four decide: so what does not fit the
 // buffer changes nothing.
-ghost use Rattle.std.specs.Fn.{FnOnceReturnsAt};
-ghost use Rattle.std.specs.Prelude.{◌≡◌, ◌<◌, take};
+ghost use Rattle.std.specs.Prelude.{◌≡◌, ◌<◌};
 ghost use Rattle.escapes.specs.Rfc7159.{text};
-ghost use Rattle.fields.specs.Value.{word_spelled};
+ghost use Rattle.values.specs.Value.{word_spelled};
 ghost use Rattle.fields.specs.Via.{hop_rule};
 ghost use Rattle.rules.specs.Address.{address_of};
 ghost use Rattle.rules.specs.Names.{fields, hop_members, tags};
 ghost use Rattle.rules.specs.Sequence.{sequence_of};
 ghost use Rattle.rules.specs.Status.{status_of};
-ghost use Rattle.rules.specs.Words.{content_types};
+ghost use Rattle.rules.specs.Words.{call_modes, content_types, rescuees, services};
 
-use escapes::{Decoded, is_escaped};
-
-// What f tells of the text that w spells, as far as a buffer of 256 bytes has room.
-pub fn of_text<T, F: FnOnce(&[u8]) -> T>(w: &[u8], f: F) -> T
-    requires { F.IsAlwaysCallable f }
-    ensures { FnOnceReturnsAt F.FnOnce f (take 256 (text w.now)) result }
-{
-    let t = Decoded::<256>::of(w);
-    f(t.text())
-}
+use escapes::is_escaped;
+use values::of_text;
 
 // What the CSeq that w spells says.
 pub fn sequence_of(w: &[u8]) -> Option<rules::Sequence>
@@ -99,6 +90,36 @@ pub fn content_type(w: &[u8]) -> u8
 {
     match rules::content_type(w) {
         0 => of_text(w, |t| rules::content_type(t)),
+        k => k,
+    }
+}
+
+// The number of the Call-Mode that w spells.
+pub fn call_mode(w: &[u8]) -> u8
+    ensures { result ≡ word_spelled call_modes w.now }
+{
+    match rules::call_mode(w) {
+        0 => of_text(w, |t| rules::call_mode(t)),
+        k => k,
+    }
+}
+
+// The number of the Rescuee that w spells.
+pub fn rescuee(w: &[u8]) -> u8
+    ensures { result ≡ word_spelled rescuees w.now }
+{
+    match rules::rescuee(w) {
+        0 => of_text(w, |t| rules::rescuee(t)),
+        k => k,
+    }
+}
+
+// The number of the Request-Service that w spells.
+pub fn service(w: &[u8]) -> u8
+    ensures { result ≡ word_spelled services w.now }
+{
+    match rules::service(w) {
+        0 => of_text(w, |t| rules::service(t)),
         k => k,
     }
 }

@@ -2,7 +2,7 @@
 ghost use Rattle.std.specs.Prelude.{◌≡◌};
 ghost use Rattle.fields.specs.Trail.{no_trail};
 
-use crate::spans::Span;
+use values::Span;
 
 // What the writer goes by in Via: how many objects it has, where the last begins, where the last and the last but one end, and where the
 // host of the last but one stands. With one object alone the seam and the host are at Via's first byte; of a ping or a pong all is 0.

@@ -8,12 +8,11 @@ ghost use Rattle.fields.specs.Trail.{host_span};
 ghost use Rattle.fields.specs.Via.{hop_keeps, is_hop};
 
 use crate::hops::{Shut, Value, hop_members};
-use crate::spans::{Span, spelling_span};
 use crate::spelled::is_hop_text;
 use crate::trails::{Trail, no_trail};
-use crate::values::{is_array, is_string, own_spelling};
 use json_text::{Element, element_at, part, skip};
 use octets::byte;
+use values::{Span, is_array, is_string, own_spelling, spelling_span};
 
 // Whether the value x keeps the rule of member n.
 fn keeps_member(v: &[u8], x: Value, n: u8) -> bool

@@ -5,8 +5,8 @@ use Rattle.escapes.proofs.LengthLaws.{as_long}
 use Rattle.escapes.proofs.PlainLaws.{plain-text}
 use Rattle.escapes.specs.Rfc7159.{text}
 use Rattle.escapes.specs.Text.{escaped}
-use Rattle.fields.proofs.SpelledLaws.{own-text}
-use Rattle.fields.specs.Spans.{cut}
+use Rattle.values.proofs.SpelledLaws.{own-text}
+use Rattle.values.specs.Spans.{cut}
 use Rattle.message.specs.Parties.{call_id_of, caller_address_of, callee_address_of, user_of, caller_fire_of, callee_fire_of}
 use Rattle.message.specs.declared.facts.Message.{Message}
 use Rattle.message.specs.inner.Named.{Named}

@@ -1,7 +1,7 @@
 // An event on a table that is well-formed: the same as the public entries of this crate, without the test of the whole image. For
 // proved callers, who know their table to be well-formed; it is again afterwards.
 ghost use Rattle.std.specs.Prelude.{true, ◌≡◌, ◌<◌};
-ghost use Rattle.fields.specs.Spans.{cut};
+ghost use Rattle.values.specs.Spans.{cut};
 ghost use Rattle.keeper.specs.Keeping.{agrees_at, asked_at, table_after, on_message, on_tick, record_for, room_for, taken, taken_at, ticked_at};
 ghost use Rattle.message.specs.inner.Named.{Named};
 ghost use Rattle.message.specs.Parties.{call_id_of};

@@ -3,14 +3,14 @@
 use Prim.Native.Nat.{ℕ, ◌+◌, ◌≤◌, ◌<◌}
 use Rattle.json_text.specs.Places.{bytes, part}
 use Rattle.fields.proofs.FieldLaws.{address_broken, sequence-broken, status-broken}
-use Rattle.fields.proofs.SpellingLaws.{text-cut}
-use Rattle.fields.proofs.ValueLaws.{free-text, ruled-text}
+use Rattle.values.proofs.SpellingLaws.{text-cut}
+use Rattle.values.proofs.ValueLaws.{free-text, ruled-text}
 use Rattle.message.proofs.PartyLaws.{address_short}
 use Rattle.message.specs.Checks.{checked}
 use Rattle.fields.specs.Field.{status_field, keeps}
 use Rattle.message.specs.Message.{first_setting, number_in, method_in, caller_in, code_in, number_of, method_of, from_caller, to_caller, code_of, setting_of, same_side}
 use Rattle.message.specs.Message.{sides_disagree, disagrees, user_span, caller_span, callee_span, caller_place, callee_place, message_of}
-use Rattle.fields.specs.Spans.{cut, text_at}
+use Rattle.values.specs.Spans.{cut, text_at}
 use Rattle.message.specs.Parties.{call_id_of, caller_address_of, callee_address_of, user_of, caller_fire_of, callee_fire_of}
 use Rattle.message.specs.Reading.{reading}
 use Rattle.message.proofs.AcceptedRows.{good-sound, is-there, is-kept, read-tag, read_taken}

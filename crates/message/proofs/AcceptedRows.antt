@@ -203,6 +203,10 @@ gone_as c s m e =
 pub read_short : (c : ℕ) (s : List ℕ) (m : Message) → reading c s ≡ Ok m → length s ≤ 32768
 read_short c s m e = (gone_as c s m e).short
 
+-- a message that is read has a tag, and no known name twice
+pub read-shaped : (c : ℕ) (s : List ℕ) (m : Message) → reading c s ≡ Ok m → (tag_of s ≡ 0 → ⊥) × (repeated fields s empty (members s (object_of s)) ≡ 0)
+read-shaped c s m e = let w = shown_as s m (gone_as c s m e).shown in (w.shape, w.once)
+
 -- the tag of any message that is read
 pub read-tag : (c : ℕ) (s : List ℕ) (m : Message) → reading c s ≡ Ok m → (1 ≤ m.tag) × (m.tag ≤ 4)
 read-tag c s m e =

@@ -8,7 +8,7 @@ use Rattle.message.proofs.AcceptedRows.{read_short, read_taken, good-sound, is-t
 use Rattle.message.specs.Message.{first_setting, message_of, setting_of}
 use Rattle.fields.specs.Field.{keeps}
 use Rattle.message.specs.Reading.{reading}
-use Rattle.fields.specs.Value.{is_array}
+use Rattle.values.specs.Value.{is_array}
 use Rattle.fields.specs.Via.{via_rule}
 use Rattle.message.specs.declared.facts.Message.{Message}
 use Rattle.fields.specs.declared.judging.Setting.{Setting}

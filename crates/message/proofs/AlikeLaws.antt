@@ -6,10 +6,10 @@ use Rattle.json_text.specs.Places.{bytes, members}
 use Rattle.message.specs.Checks.{asks, lacks, breaks}
 use Rattle.fields.specs.Field.{keeps}
 use Rattle.fields.specs.Known.{empty, noted, repeated}
-use Rattle.message.specs.Message.{method_of, number_of, from_caller, to_caller, content_at, code_in, code_of, secure_of, setting_of, sides_disagree, callback_training}
+use Rattle.message.specs.Message.{method_of, number_of, from_caller, to_caller, word_at, code_in, code_of, secure_of, setting_of, sides_disagree, callback_training}
 use Rattle.message.specs.Message.{request_disagrees}
 use Rattle.message.specs.Message.{response_disagrees, disagrees, message_of, first_setting}
-use Rattle.fields.specs.Spans.{spelling_at, text_at}
+use Rattle.values.specs.Spans.{spelling_at, text_at}
 use Rattle.message.specs.Shape.{tag_of, object_of}
 use Rattle.fields.specs.Via.{via_rule}
 use Rattle.message.specs.declared.facts.Message.{Message}
@@ -19,6 +19,7 @@ use Rattle.octets.specs.Text.{same}
 use Rattle.rules.specs.Asks.{is_in, tag_asks, method_asks}
 use Rattle.rules.specs.Names.{fields}
 use Rattle.rules.specs.Status.{status_of}
+use Rattle.rules.specs.Words.{call_modes, content_types, rescuees, services}
 use Rattle.utf8.specs.Rfc3629.{verdict}
 use Rattle.message.proofs.AcceptedRows.{Accepted, Sound, good-sound, sound-good, is-there}
 use Rattle.message.proofs.AcceptedVia.{via-keeps}
@@ -143,14 +144,23 @@ module _ {s t s' t' : List ℕ} {tag : ℕ} (a : Accepted s tag t) (l : Alike s 
   unfolding to_caller text_at
   same-to = rw (same_bytes 2 (omega arith) (omega arith))
 
-  content_by : AlikeAt s t s' t' 9 → content_at s' (get_or t' 9 0) ≡ content_at s (get_or t 9 0)
-  unfolding content_at spelling_at
-  content_by (neither x y) = rw (x, y)
-  content_by (both x y f) = rw (ne_eqb (get_or t 9 0) 0 (λ e. omega arith), ne_eqb (get_or t' 9 0) 0 (λ e. omega arith), f (λ e. omega arith))
+  word_by : (ws : List (List ℕ)) (n : ℕ) → (n ≡ 6 → ⊥) → AlikeAt s t s' t' n → word_at ws s' (get_or t' n 0) ≡ word_at ws s (get_or t n 0)
+  unfolding word_at spelling_at
+  word_by ws n ne (neither x y) = rw (x, y)
+  word_by ws n ne (both x y f) = rw (ne_eqb (get_or t n 0) 0 (λ e. omega arith), ne_eqb (get_or t' n 0) 0 (λ e. omega arith), f ne)
+
+  same-word : (ws : List (List ℕ)) (n : ℕ) → 6 < n → n < 27 → word_at ws s' (get_or t' n 0) ≡ word_at ws s (get_or t n 0)
+  same-word ws n h g = word_by ws n (λ e. omega arith) (l n (omega arith) g)
 
   same-setting : setting_of s' tag t' ≡ setting_of s tag t
   unfolding setting_of
-  same-setting = rw (same-method, content_by (l 9 (omega arith) (omega arith)))
+  same-setting = rw (
+    same-method,
+    same-word content_types 9 (omega arith) (omega arith),
+    same-word call_modes 15 (omega arith) (omega arith),
+    same-word rescuees 18 (omega arith) (omega arith),
+    same-word services 19 (omega arith) (omega arith),
+  )
 
   setting-tag : (setting_of s tag t).tag ≡ tag
   unfolding setting_of

@@ -4,7 +4,7 @@ use Rattle.std.specs.declared.result.Result.TheVariants.{Ok, Err}
 use Prim.Native.Nat.{ℕ, zero, suc, ◌+◌, ◌-◌, ◌≤◌, ◌<◌}
 use Rattle.json_text.specs.Places.{bytes}
 use Rattle.fields.proofs.LetterLaws.{fault_inside}
-use Rattle.fields.proofs.SpellingLaws.{bytes-short}
+use Rattle.values.proofs.SpellingLaws.{bytes-short}
 use Rattle.fields.specs.Field.{fault_at, keeps}
 use Rattle.fields.specs.inner.Judging.{judged_value}
 use Rattle.message.specs.Checks.{Check, asks, lacks, breaks, lowest, missing, eight, nine, checked}

@@ -2,13 +2,13 @@
 use Rattle.std.specs.declared.result.Result.TheVariants.{Ok}
 use Prim.Native.Nat.{ℕ, zero, suc, ◌+◌, ◌≤◌, ◌<◌}
 use Rattle.fields.proofs.JudgingLaws.{cseq-tells, party_tells, status_fault, status-tells, via_fault, via-tells}
-use Rattle.fields.proofs.LetterLaws.{fault_first}
+use Rattle.fields.proofs.LetterLaws.{fault_early}
 use Rattle.fields.specs.Field.{fault_at, keeps, status_field}
 use Rattle.fields.specs.inner.Judging.{cseq_of, party_of, status_in, via_of}
-use Rattle.fields.specs.Spans.{text_at}
+use Rattle.values.specs.Spans.{text_at}
 use Rattle.fields.specs.Trail.{trail_in}
-use Rattle.fields.proofs.ValueLaws.{free-text, ruled-text}
-use Rattle.fields.specs.Value.{freely}
+use Rattle.values.proofs.ValueLaws.{free-text, ruled-text}
+use Rattle.values.specs.Value.{freely}
 use Rattle.rules.specs.declared.sequences.Sequence.{Sequence}
 use Rattle.std.specs.Prelude.{Some, Result, Ok, Err}
 use Rattle.fields.specs.declared.judging.Setting.{Setting}
@@ -124,7 +124,7 @@ module _ (s t : List ℕ) where
 pub via-faults : (tag : ℕ) (v : List ℕ) {said : Result Trail ℕ} → said ≡ via_of v → (p : ℕ) → Err p ≡ said
     → (p ≡ fault_at (first_setting tag) 6 v) × (keeps (first_setting tag) 6 v ≡ false)
 unfolding keeps
-via-faults tag v e p f = let g = via_fault v (f ∙ e) in (g.0 ∙ sym (fault_first (first_setting tag) 6 v (omega arith)), g.1)
+via-faults tag v e p f = let g = via_fault v (f ∙ e) in (g.0 ∙ sym (fault_early (first_setting tag) 6 v (omega arith) (omega arith)), g.1)
 
 -- Field 6, the last of three, whose rule says what they tell.
 module _ (s t : List ℕ) {tag : ℕ} (a : Asked s tag t) (so-far : nine_from s true (first_setting tag) t 4 ≡ nine_from s true (first_setting tag) t 6)
@@ -158,7 +158,7 @@ module _ (s t : List ℕ) {tag : ℕ} (a : Asked s tag t) where
         let b = status_fault v e in
         subst (ToldSays s tag t) (sym f)
         (stopping s (first_setting tag) t 7 (omega arith) (omega arith) is (a.seven ∙ rw (eq-eqb tag 2 two)) (by-status ∙ b.1)
-        (b.0 ∙ sym (fault_first (first_setting tag) 7 v (omega arith))) refl)
+        (b.0 ∙ sym (fault_early (first_setting tag) 7 v (omega arith) (omega arith))) refl)
 
 -- All of them, by what the three parts say.
 module _ (s t : List ℕ) (tag : ℕ) {o : Opening} (opened : OpeningSays s tag t (Ok o)) where

@@ -2,26 +2,30 @@
 use Prim.Native.Nat.{ℕ, ◌+◌, ◌<◌}
 use Rattle.rules.proofs.NameLaws.{place-below}
 use Rattle.message.proofs.PartyLaws.{side-is, sorted_is}
-use Rattle.message.specs.Message.{method_in, setting_of, caller_in, from_caller}
+use Rattle.message.specs.Message.{method_in, setting_of, caller_in, from_caller, word_at}
 use Rattle.message.specs.Message.{secure_of, caller_place, callee_place, message_of, user_span, caller_span, callee_span}
 use Rattle.fields.specs.Trail.{moved}
-use Rattle.fields.specs.Spans.{spelling_span, text_at}
+use Rattle.values.specs.Spans.{spelling_at, spelling_span, text_at}
+use Rattle.values.specs.Value.{word_spelled}
 use Rattle.message.specs.declared.facts.Facts.{Facts}
 use Rattle.message.specs.declared.facts.Message.{Message}
 use Rattle.message.specs.declared.facts.Parties.{Parties}
 use Rattle.message.specs.inner.Facts.{FactsOf, PartiesOf}
 use Rattle.fields.specs.declared.trails.Trail.{Trail}
-use Rattle.fields.specs.declared.spans.Span.{Span}
+use Rattle.values.specs.declared.spans.Span.{Span}
 use Rattle.fields.specs.declared.judging.Setting.{Setting}
 use Rattle.rules.specs.Address.{address_of}
 use Rattle.rules.specs.Names.{methods}
 use Rattle.rules.specs.Sequence.{sequence_rule, sequence_of, number_end, cseq_number, cseq_method}
 use Rattle.std.specs.Prelude.{None, Option, Some}
 use Rattle.rules.specs.declared.addresses.Address.{Address}
+use borrow.Author.Tests.{ne_eqb}
+use lib.Dec.{eqb}
 use lib.ListN.{drop, get_or}
 use mathlib.Core.Bool.{Bool, true, false, cond}
 use mathlib.Core.List.{List}
 use mathlib.Core.Path.{◌≡◌, ap, ◌∙◌}
+use native.Mathlib.Decide.{ℕ_discrete}
 use native.Mathlib.Omega.{arith}
 
 method-small : (t : List ℕ) → cseq_method t < 9
@@ -96,3 +100,12 @@ module _ (s : List ℕ) (k : Setting) (t : List ℕ) {x : Facts} (h : FactsOf s 
           sorted_is (spelling_span s) y i j,
           sorted_is (spelling_span s) y j i,
         )
+
+-- what is told of a value by its words, where there is one
+pub word-told : (ws : List (List ℕ)) (s : List ℕ) (v : ℕ) {r : ℕ} → (v ≡ 0 → r ≡ 0) → ((v ≡ 0 → ⊥) → r ≡ word_spelled ws (spelling_at s v)) → r ≡ word_at ws s v
+unfolding word_at
+word-told ws s v {r} none told = by (ℕ_discrete v 0)
+  where
+    by : Dec (v ≡ 0) → r ≡ cond (eqb v 0) 0 (word_spelled ws (spelling_at s v))
+    by (yes e) = none e ∙ rw e
+    by (no ne) = told ne ∙ rw (ne_eqb v 0 ne)

@@ -5,7 +5,7 @@ use Rattle.json_text.specs.Places.{bytes, members, spell}
 use Rattle.fields.proofs.GatherLaws.{hop-few as hop-three}
 use Rattle.message.proofs.PairLaws.{found, value_in, doubled, late-members, by-once, once_by, noted-none, noted-by}
 use Rattle.fields.specs.Known.{empty, noted, repeated}
-use Rattle.fields.specs.Value.{ruled, word_spelled}
+use Rattle.values.specs.Value.{ruled, word_spelled}
 use Rattle.fields.specs.Via.{hop_places, hop_rule, hop_keeps, is_hop}
 use Rattle.rules.specs.Names.{hop_members}
 use borrow.Author.Tests.{eq-eqb, lt-ltb, eqb-true, ltb-true}

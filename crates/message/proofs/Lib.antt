@@ -16,3 +16,4 @@ pub mod AlikeLaws
 pub mod MemberLaws
 pub mod Marks
 pub mod NineLaws
+pub mod PlacingLaws

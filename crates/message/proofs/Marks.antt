@@ -7,9 +7,12 @@ use Prim.Native.Nat.{ℕ, zero, suc}
 use Rattle.json_text.specs.Places.{behind, closing, elements, elements_from, follows, is_mark, is_open, is_shut, left, member_at, members, members_from, more, next, part, is_ws}
 use Rattle.json_text.specs.Places.{past, raw, size, spaces, unmarked, value_of}
 use Rattle.message.specs.Checks.{breaks, checked, lacks, lowest}
-use Rattle.fields.specs.Field.{body_field, content_field, fault_at, keeps, letter_at, letter_reach, names_image, one_of, status_field}
-use Rattle.fields.specs.Known.{has, note, noted, number_at, repeated}
-use Rattle.message.specs.Message.{content_at, disagrees, from_caller, method_of, number_of, request_disagrees, same_side, setting_of, sides_disagree, to_caller}
+use Rattle.fields.specs.Field.{particulars_faults}
+use Rattle.particulars.specs.Lowest.{lowest as lowest_of, lowest_place}
+use Rattle.fields.specs.Field.{body_field, content_field, fault_at, keeps, letter_at, letter_reach, names_image, status_field}
+use Rattle.values.specs.Value.{freely, is_array, is_string, one_of, ruled, spelling_of, text_of, word_spelled, number_at}
+use Rattle.fields.specs.Known.{has, note, noted, repeated}
+use Rattle.message.specs.Message.{word_at, disagrees, from_caller, method_of, number_of, request_disagrees, same_side, setting_of, sides_disagree, to_caller}
 use Rattle.message.specs.Message.{wrong_number, wrong_side}
 use Rattle.message.specs.Reading.{agreed, ample, judged, known, reading, reporting, settled, shaped}
 use Rattle.message.specs.Shape.{object_of, tag_at, tag_of}
@@ -17,8 +20,7 @@ use Rattle.escapes.specs.Encoding.{encoded}
 use Rattle.escapes.specs.Placing.{place_of, places_from}
 use Rattle.escapes.specs.Rfc7159 as strings
 use Rattle.escapes.specs.Rfc7159.{escape_of, is_broken, is_high, is_low, is_surrogate, joined, letter_of, letters_from, lone, nibble, quad, spelt, text, took, unit}
-use Rattle.fields.specs.Spans.{spelling_at, text_at}
-use Rattle.fields.specs.Value.{freely, is_array, is_string, ruled, spelling_of, text_of, word_spelled}
+use Rattle.values.specs.Spans.{spelling_at, text_at}
 use Rattle.fields.specs.Via.{hop_keeps, hop_places, hop_rule, is_hop, via_rule}
 use Rattle.std.specs.Prelude.{Ok, Err}
 use Rattle.message.specs.declared.refusals.Refusal.TheVariants.{Length, Utf8, Json, Deep, Shape, Twice, Missing, Rule, Disagree, Many}
@@ -121,9 +123,9 @@ unfolding reading reporting octets char_at begins goes_on tour begun json.begins
     letters_from letter_of took via_rule is_hop hop_places hop_rule hop_keeps
     address_rule status_field status_rule date_rule days_in leap caller_rule callee_rule sequence_rule call_id_rule destination_rule host_rule organization_rule reads run_length
     decimal_at
-    digits within holds all among is_alnum is_digit is_letter is_lower is_upper pieces.has_piece pieces.piece_end setting_of method_of number_of content_at sequence_of number_end
+    digits within holds all among is_alnum is_digit is_letter is_lower is_upper pieces.has_piece pieces.piece_end setting_of method_of number_of word_at sequence_of number_end
     sequence.cseq_number sequence.cseq_method settled agreed disagrees sides_disagree same_side from_caller to_caller address_of user_end caller_end callee_end
-    message_id_rule content_field one_of body_field names_image image_rule wrong_side wrong_number request_disagrees fault_at letter_at
+    message_id_rule content_field one_of body_field names_image image_rule wrong_side wrong_number request_disagrees fault_at letter_at particulars_faults lowest_place lowest_of
 rows = (refl, refl, refl, refl, refl, refl, refl, refl, refl, refl, refl, refl, refl)
 
 -- a request of this Call-ID, whose value begins at 193
@@ -169,9 +171,10 @@ unfolding reading reporting octets char_at begins goes_on tour begun json.begins
     hop_keeps
     address_rule status_field status_rule date_rule days_in leap caller_rule callee_rule sequence_rule call_id_rule destination_rule host_rule organization_rule reads run_length
     decimal_at
-    digits within holds all among is_alnum is_digit is_letter is_lower is_upper pieces.has_piece pieces.piece_end setting_of method_of number_of content_at sequence_of number_end
+    digits within holds all among is_alnum is_digit is_letter is_lower is_upper pieces.has_piece pieces.piece_end setting_of method_of number_of word_at sequence_of number_end
     sequence.cseq_number sequence.cseq_method settled agreed disagrees sides_disagree same_side from_caller to_caller address_of user_end caller_end callee_end
-    message_id_rule content_field one_of body_field names_image image_rule wrong_side wrong_number request_disagrees fault_at letter_at letter_reach place_of places_from
+    message_id_rule content_field one_of body_field names_image image_rule wrong_side wrong_number request_disagrees fault_at letter_at particulars_faults lowest_place lowest_of
+    letter_reach place_of places_from
     letters.call_id_reach
     letters.reach_of letters.run_reach letters.follows letters.end_reach
 spelled = (refl, refl, refl, refl, refl, refl, refl, refl, refl, refl, refl)
@@ -202,9 +205,10 @@ unfolding reading reporting octets char_at begins goes_on tour begun json.begins
     hop_keeps
     address_rule status_field status_rule date_rule days_in leap caller_rule callee_rule sequence_rule call_id_rule destination_rule host_rule organization_rule reads run_length
     decimal_at
-    digits within holds all among is_alnum is_digit is_letter is_lower is_upper pieces.has_piece pieces.piece_end setting_of method_of number_of content_at sequence_of number_end
+    digits within holds all among is_alnum is_digit is_letter is_lower is_upper pieces.has_piece pieces.piece_end setting_of method_of number_of word_at sequence_of number_end
     sequence.cseq_number sequence.cseq_method settled agreed disagrees sides_disagree same_side from_caller to_caller address_of user_end caller_end callee_end
-    message_id_rule content_field one_of body_field names_image image_rule wrong_side wrong_number request_disagrees fault_at letter_at letter_reach place_of places_from
+    message_id_rule content_field one_of body_field names_image image_rule wrong_side wrong_number request_disagrees fault_at letter_at particulars_faults lowest_place lowest_of
+    letter_reach place_of places_from
     letters.sequence_reach
     letters.date_reach letters.month_reach letters.day_reach letters.call_id_reach letters.reach_of letters.count_reach letters.fixed_reach
     letters.words_reach letters.common letters.number_reach letters.meets letters.low letters.top letters.run_reach letters.follows letters.end_reach

@@ -5,7 +5,7 @@ use Rattle.json_text.specs.Places.{past, raw, members, elements, spell}
 use Rattle.fields.proofs.GatherLaws.{spelled_few}
 use Rattle.message.specs.Shape.{pair, tag_at, tag_of, object_of}
 use Rattle.rules.specs.Names.{fields, tags}
-use Rattle.fields.specs.Value.{word_spelled}
+use Rattle.values.specs.Value.{word_spelled}
 use Rattle.message.proofs.AcceptedRows.{Accepted}
 use Rattle.message.proofs.AlikeLaws.{field-there}
 use Rattle.message.proofs.PairLaws.{doubled, Where, late-members, once_by, where_is}

@@ -1,7 +1,7 @@
 -- Row 9 from its answer back: for which field a message is refused, on which of the row's two runs, and at which place. Assumes nothing.
 use Prim.Native.Nat.{ℕ, ◌≤◌}
 use Rattle.fields.specs.Known.{empty, noted, repeated}
-use Rattle.fields.specs.Value.{is_string}
+use Rattle.values.specs.Value.{is_string}
 use Rattle.fields.specs.declared.judging.Setting.{Setting}
 use Rattle.json_text.specs.Places.{bytes, members}
 use Rattle.json_text.specs.inner.Tour.{visited}

@@ -5,8 +5,8 @@ use Rattle.octets.proofs.TestLaws.{or-none}
 use Prim.Native.Nat.{ℕ, zero, suc, ◌+◌, ◌<◌}
 use Rattle.json_text.proofs.PlaceLaws.{past-low, behind-low, next_low}
 use Rattle.json_text.specs.Places.{bytes, raw, past, next, behind, value_of, follows, more, member_at, members_from, members, spell}
-use Rattle.fields.specs.Known.{number_at, empty, has, note, noted, repeated}
-use Rattle.fields.specs.Value.{word_spelled}
+use Rattle.fields.specs.Known.{empty, has, note, noted, repeated}
+use Rattle.values.specs.Value.{word_spelled, number_at}
 use borrow.Author.Tests.{eq-eqb, ne_eqb, lt-ltb, eqb-true, eqb-false, ltb-true}
 use lib.Dec.{eqb, ltb}
 use lib.ListN.{length, get_or, set, replicate, length-set}

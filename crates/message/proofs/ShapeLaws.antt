@@ -6,7 +6,7 @@ use Rattle.json_text.specs.Places.{past, follows, more, raw, elements, elements_
 use Rattle.fields.proofs.GatherLaws.{spelled_few}
 use Rattle.message.specs.Shape.{pair, tag_at, tag_of, object_of}
 use Rattle.rules.specs.Names.{tags}
-use Rattle.fields.specs.Value.{word_spelled}
+use Rattle.values.specs.Value.{word_spelled}
 use borrow.Author.Tests.{eq-eqb, ne_eqb}
 use lib.Dec.{eqb}
 use lib.ListN.{length, get_or}

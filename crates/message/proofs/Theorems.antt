@@ -3,8 +3,8 @@ use Prim.Native.Nat.{ℕ, ◌+◌, ◌*◌, ◌≤◌, ◌<◌}
 use Rattle.escapes.specs.Placing.{place_of}
 use Rattle.fields.proofs.LetterLaws as values
 use Rattle.fields.specs.Field.{keeps, letter_rule}
-use Rattle.fields.specs.Spans.{spelling_at, text_at}
-use Rattle.fields.specs.Value.{is_string}
+use Rattle.values.specs.Spans.{spelling_at, text_at}
+use Rattle.values.specs.Value.{is_string}
 use Rattle.json_text.proofs.Bound.{bound}
 use Rattle.json_text.proofs.VerdictLaws.{verdict-answer, one-verdict, text-counts, never-many}
 use Rattle.json_text.specs.Places.{bytes, members}
@@ -17,7 +17,7 @@ use Rattle.letters.specs.BadLetter.{BadLetter}
 use Rattle.message.proofs.ReadingLaws.{too_short, too_long, in_bounds, read_of}
 use Rattle.message.specs.Checks.{asks, breaks, missing, broken, broken_place, checked}
 use Rattle.fields.specs.Known.{empty, noted, repeated}
-use Rattle.message.specs.Message.{setting_of, disagrees}
+use Rattle.message.specs.Message.{first_setting, setting_of, disagrees}
 use Rattle.message.specs.Reading.{unless, agreed, ample, settled, judged, known, shaped, on_json, on_utf8, reading, reporting, uncounted}
 use Rattle.message.specs.Shape.{tag_of, object_of}
 use Rattle.message.specs.declared.refusals.Refusal.TheVariants.{Length, Utf8, Json, Deep, Shape, Twice, Missing, Rule, Disagree, Many}
@@ -84,7 +84,7 @@ module _ (s : List ℕ) where
   late-judged : (tag : ℕ) (t : List ℕ) → Late (judged s tag t)
   unfolding judged
   late-judged tag t =
-      late-checked true (record { tag = tag; method = 0; content = 0 }) t (late_choose (ltb 2 tag) read (late-settled (setting_of s tag t) t))
+      late-checked true (first_setting tag) t (late_choose (ltb 2 tag) read (late-settled (setting_of s tag t) t))
 
   late-known : (tag : ℕ) (qs : List ℕ) → Late (known s tag qs)
   unfolding known

@@ -25,14 +25,14 @@ use Rattle.json_text.specs.Places.{past, behind, part, value_of, follows, more, 
 use Rattle.json_text.specs.inner.Tour.{Toured, room_in}
 use Rattle.fields.proofs.GatherLaws.{Sofar, started, over, repeats, goes_on, has-is, note-is, number_is, no-ends, note-ends, ends-known}
 use Rattle.message.proofs.ShapeLaws.{no-array, no-tag, one-alone, no-object, three, a_pair, tag-few}
-use Rattle.fields.specs.Known.{number_at, empty, noted, repeated}
+use Rattle.fields.specs.Known.{empty, noted, repeated}
 use Rattle.message.specs.Reading.{judged, known, shaped, on_json}
 use Rattle.message.specs.Shape.{tag_of, object_of}
 use Rattle.message.specs.Refusal.{Reading}
 use Rattle.message.specs.declared.reading.Report.{Report}
 use Rattle.message.specs.inner.Walk.{is_once, is_usual, field_places, is_listed, Begun, Listed, Usual}
 use Rattle.rules.specs.Names.{fields, tags}
-use Rattle.fields.specs.Value.{word_spelled}
+use Rattle.values.specs.Value.{word_spelled, number_at}
 use borrow.Author.Tests.{ne_eqb, lt-ltb, lt-leb, le-leb, eqb-true, ltb-true}
 use lib.Dec.{eqb, leb, ltb}
 use lib.ListN.{length, get_or, set}

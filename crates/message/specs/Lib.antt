@@ -1,6 +1,7 @@
 pub mod Checks
 pub mod Shape
 pub mod Message
+pub mod Placing
 pub mod Parties
 pub mod Refusal
 pub mod Reading

@@ -4,20 +4,21 @@ use Rattle.std.specs.Prelude.{ℕ, ◌+◌, eqb, get_or, Bool, true, false, not,
 use Rattle.json_text.specs.Places.{bytes}
 use Rattle.fields.specs.Trail.{no_trail, trail_in, moved}
 use Rattle.escapes.specs.Rfc7159.{spells}
-use Rattle.fields.specs.Spans.{spelling_at, text_at, nowhere, spelling_span}
-use Rattle.fields.specs.Value.{word_spelled}
+use Rattle.values.specs.Spans.{spelling_at, text_at, nowhere, spelling_span}
+use Rattle.values.specs.Value.{word_spelled}
 use Rattle.message.specs.declared.facts.Message.{Message}
-use Rattle.fields.specs.declared.spans.Span.{Span}
+use Rattle.values.specs.declared.spans.Span.{Span}
 use Rattle.fields.specs.declared.judging.Setting.{Setting}
 use Rattle.rules.specs.Address.{address_of}
 use Rattle.octets.specs.Ascii.{ascii}
 use Rattle.octets.specs.Text.{same}
-use Rattle.rules.specs.Numbers.{content_text, field_cseq, field_call_id, field_call_mode, field_content_type, field_from, field_request_service, field_secure_call, field_status}
+use Rattle.rules.specs.Numbers.{content_text, field_cseq, field_call_id, field_call_mode, field_content_type, field_from, field_request_service, field_rescuee, field_secure_call}
+use Rattle.rules.specs.Numbers.{field_status}
 use Rattle.rules.specs.Numbers.{field_to}
 use Rattle.rules.specs.Numbers.{field_via, method_ack, method_callback, method_cancel, method_invite, method_message, method_notify, method_refer, tag_request, tag_response}
 use Rattle.rules.specs.Sequence.{sequence_of}
 use Rattle.rules.specs.Status.{status_of}
-use Rattle.rules.specs.Words.{content_types}
+use Rattle.rules.specs.Words.{call_modes, content_types, rescuees, services}
 use Rattle.rules.specs.declared.addresses.Address.TheVariants as addresses
 use Rattle.rules.specs.declared.addresses.Address.{Address}
 use Rattle.rules.specs.declared.sequences.Sequence.{Sequence}
@@ -58,9 +59,9 @@ from_caller s t = caller_in (address_of (field_text s t field_from))
 unfoldable pub to_caller : List ℕ → List ℕ → Bool
 to_caller s t = caller_in (address_of (field_text s t field_to))
 
--- the number of the Content-Type at v, 0 where there is none
-unfoldable pub content_at : List ℕ → ℕ → ℕ
-content_at s v = cond (eqb v 0) 0 (word_spelled content_types (spelling_at s v))
+-- the number among these words of what the value at v tells, 0 where there is none
+unfoldable pub word_at : List (List ℕ) → List ℕ → ℕ → ℕ
+word_at ws s v = cond (eqb v 0) 0 (word_spelled ws (spelling_at s v))
 
 -- the code of the Status at v, of a response; a request has none
 unfoldable pub code_of : List ℕ → ℕ → ℕ → ℕ
@@ -70,13 +71,21 @@ code_of s tag v = cond (eqb tag tag_response) (code_in (status_of (text_at s v))
 unfoldable pub secure_of : List ℕ → Setting → ℕ → Bool
 secure_of s k v = (eqb k.tag tag_request && eqb k.method method_invite) && same (bytes s v) (ascii "true")
 
--- what the rules see besides their value on the run of the tag: no method and no Content-Type yet
+-- what the rules see besides their value on the run of the tag: nothing but the tag yet
 abbrev pub first_setting : ℕ → Setting
-first_setting tag = record { tag = tag; method = 0; content = 0 }
+first_setting tag = record { tag = tag; method = 0; content = 0; mode = 0; rescuee = 0; service = 0 }
 
 -- what the rules of a request or a response see on the run of its method
 unfoldable pub setting_of : List ℕ → ℕ → List ℕ → Setting
-setting_of s tag t = record { tag = tag; method = method_of s t; content = content_at s (get_or t field_content_type 0) }
+setting_of s tag t =
+    record {
+      tag = tag;
+      method = method_of s t;
+      content = word_at content_types s (get_or t field_content_type 0);
+      mode = word_at call_modes s (get_or t field_call_mode 0);
+      rescuee = word_at rescuees s (get_or t field_rescuee 0);
+      service = word_at services s (get_or t field_request_service 0);
+    }
 
 -- Row 10.
 

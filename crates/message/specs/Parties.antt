@@ -2,7 +2,7 @@
 -- message m that was read of s. They are spelled where `message_of` says. Total on any text and any facts. Assumes nothing.
 use Rattle.std.specs.Prelude.{ℕ, List}
 use Rattle.escapes.specs.Rfc7159.{text}
-use Rattle.fields.specs.Spans.{cut}
+use Rattle.values.specs.Spans.{cut}
 use Rattle.message.specs.declared.facts.Message.{Message}
 
 -- the Call-ID

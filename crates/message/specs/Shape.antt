@@ -1,7 +1,7 @@
 -- 01 Reading, row 6: an array of two, a tag and then an object. Assumes nothing.
 use Prim.Native.Char.{code}
 use Rattle.std.specs.Prelude.{ℕ, eqb, get_or, ◌&&◌, cond, List, [], ◌∷◌}
-use Rattle.fields.specs.Value.{word_spelled}
+use Rattle.values.specs.Value.{word_spelled}
 use Rattle.json_text.specs.Places.{past, raw, elements}
 use Rattle.rules.specs.Names.{tags}
 

@@ -5,8 +5,9 @@ ghost use Rattle.message.specs.Checks.{asks, eight, lacks, missing};
 ghost use Rattle.message.specs.inner.Facts.{Fits, by_tag, nine_from, of_field, placed};
 
 use crate::refusals::Refusal;
-use fields::{Setting, judge, value_at};
+use fields::{Setting, judge};
 use rules::{REQUIRED, UNLISTED};
+use values::value_at;
 
 // What the fields are asked for by: the tag, or a request's method.
 #[derive(Clone, Copy)]

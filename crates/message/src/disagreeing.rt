@@ -6,11 +6,12 @@ ghost use Rattle.message.specs.inner.Facts.{FactsOf};
 
 use crate::facts::{Facts, side_of};
 use escapes::spells;
-use fields::{Setting, spelling_at};
+use fields::Setting;
 use rules::{
     ACK, CALL_MODE, CALLBACK, CANCEL, INVITE, MESSAGE, NOTIFY, REFER, REQUEST, REQUEST_SERVICE,
     RESPONSE, TEXT_CONTENT,
 };
+use values::spelling_at;
 
 // From and To on the same side.
 #[tactic(auto, unfolding(crate::specs::Message::same_side))]

@@ -6,8 +6,10 @@ ghost use Rattle.message.specs.inner.Facts.{Asked, EnvelopeSays, OpeningSays, Se
 use crate::checking::placed;
 use crate::facts::Facts;
 use crate::refusals::Refusal;
-use fields::{Setting, Trail, judge, judge_cseq, judge_party, judge_status, judge_via, value_at};
+use crate::settings::UNTOLD;
+use fields::{Setting, Trail, judge, judge_cseq, judge_party, judge_status, judge_via};
 use rules::{CALL_ID, CSEQ, DATE, FROM, RESPONSE, STATUS, TO, VIA};
+use values::value_at;
 
 // What the fields 1 to 3 tell: CSeq's number and method, To and From.
 #[derive(Clone, Copy)]
@@ -38,11 +40,7 @@ fn judge_sent(s: &[u8], tag: u8, at: &[usize; 27], end: &[usize; 27]) -> Result<
     requires { Asked s.now tag at.now × Ended s.now at.now end.now }
     ensures { SentSays s.now tag at.now result }
 {
-    let k = Setting {
-        tag,
-        method: 0,
-        content: 0,
-    };
+    let k = Setting { tag, ..UNTOLD };
     placed(judge(k, DATE, value_at(s, at[DATE], end[DATE])), at[DATE])?;
     placed(
         judge(k, CALL_ID, value_at(s, at[CALL_ID], end[CALL_ID])),

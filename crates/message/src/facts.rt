@@ -7,9 +7,10 @@ ghost use Rattle.message.specs.Message.{callee_span, caller_span, caller_in, mes
 ghost use Rattle.message.specs.inner.Facts.{FactsOf, PartiesOf, Placed};
 ghost use Rattle.fields.specs.Trail.{moved};
 
-use fields::{Setting, Span, Trail, no_trail, spelling_span, value_at};
+use fields::{Setting, Trail, no_trail};
 use octets::same;
 use rules::{Address, CALL_ID, CSEQ, FROM, INVITE, REQUEST, SECURE_CALL, TO, VIA};
+use values::{Span, spelling_span, value_at};
 
 const NOWHERE: Span = Span { start: 0, end: 0 };
 

@@ -10,6 +10,7 @@ mod envelopes;
 mod facts;
 mod gathering;
 mod parties;
+mod placing;
 mod reading;
 mod refusals;
 mod settings;
@@ -18,5 +19,6 @@ mod walking;
 
 pub use facts::Message;
 pub use parties::{call_id, callee_address, callee_fire, caller_address, caller_fire, user};
+pub use placing::places;
 pub use reading::{AMPLE, Reading, Report, read, read_and_count};
 pub use refusals::Refusal;

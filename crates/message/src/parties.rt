@@ -1,10 +1,10 @@
 // The texts that name a call and its two parties (01 Reading, To and From): those above get them here alone. The Call-ID and the addresses are parts
 // of the message that was read, as they are spelled there (02 §2); the user and the Fire-IDs are parts of an address's text.
 ghost use Rattle.std.specs.Prelude.{◌≡◌};
-ghost use Rattle.fields.specs.Spans.{cut};
+ghost use Rattle.values.specs.Spans.{cut};
 
 use crate::facts::Message;
-use fields::part_at;
+use values::part_at;
 
 // The Call-ID as it is spelled.
 pub fn call_id(s: &[u8], m: Message) -> &[u8]

@@ -12,7 +12,7 @@ use crate::envelopes::judge_envelope;
 use crate::facts::{Facts, Message, message_of, probe_of};
 use crate::gathering::gather;
 use crate::refusals::Refusal;
-use crate::settings::setting_of;
+use crate::settings::{UNTOLD, setting_of};
 use crate::shapes::shape_of;
 use crate::walking::walk_text;
 use fields::Setting;
@@ -60,11 +60,7 @@ fn settle_probe(s: &[u8], tag: u8, at: &[usize; 27], end: &[usize; 27]) -> Readi
     requires { (2 < tag) × ((tag < 5) × Ended s.now at.now end.now) }
     ensures { result ≡ unless (nine_from s.now true (first_setting tag) at.now 1) (Ok (probe_of tag)) }
 {
-    let k = Setting {
-        tag,
-        method: 0,
-        content: 0,
-    };
+    let k = Setting { tag, ..UNTOLD };
     check_rules(s, Run::Tag, k, at, end)?;
     Ok(probe_of(tag))
 }
@@ -74,11 +70,7 @@ fn judge(s: &[u8], tag: u8, at: &[usize; 27], end: &[usize; 27]) -> Reading
     requires { (0 < tag) × ((tag < 5) × Ended s.now at.now end.now) }
     ensures { result ≡ judged s.now tag at.now }
 {
-    let k = Setting {
-        tag,
-        method: 0,
-        content: 0,
-    };
+    let k = Setting { tag, ..UNTOLD };
     check_required(Run::Tag, k, at)?;
     if RESPONSE < tag {
         return settle_probe(s, tag, at, end);

@@ -1,5 +1,7 @@
 -- The answers as C sees them: document 01's numbers, and 0 for what is not there. Cited by every contract of `src/lib.rt`. Assumes nothing.
-use Rattle.std.specs.Prelude.{ℕ, Result, Ok, Err}
+use Rattle.std.specs.Option.{unwrap_or}
+use Rattle.std.specs.Prelude.{ℕ, true, false, is_some, length, slice_get, pos, List, Option, Result, Ok, Err}
+use Rattle.std.specs.Prelude.{Some, None as NoPosition}
 use Rattle.answers.specs.Answer.{Answer, refusal_number, refusal_place, refusal_reply, shown_of}
 use Rattle.answers.specs.declared.Word.TheVariants.{Pass, Repeat, Bye, Timeout, Idle, Freed, None}
 use Rattle.answers.specs.declared.Word.{Word}
@@ -7,9 +9,15 @@ use Rattle.message.specs.Refusal.{Reading, number, place}
 use Rattle.message.specs.declared.reading.Report.{Report}
 use Rattle.net119.specs.declared.flat.CountAnswer.{CountAnswer}
 use Rattle.net119.specs.declared.flat.EventAnswer.{EventAnswer}
+use Rattle.net119.specs.declared.flat.HomeAnswer.{HomeAnswer}
+use Rattle.net119.specs.declared.flat.PositionAnswer.{PositionAnswer}
+use Rattle.net119.specs.declared.flat.PositionsAnswer.{PositionsAnswer}
 use Rattle.net119.specs.declared.flat.ReadAnswer.{ReadAnswer}
 use Rattle.net119.specs.declared.flat.RemoveAnswer.{RemoveAnswer}
 use Rattle.net119.specs.declared.flat.WriteAnswer.{WriteAnswer}
+use Rattle.positions.specs.Positions.{home_of, positions_of}
+use Rattle.positions.specs.declared.objects.Home.{Home}
+use Rattle.positions.specs.declared.objects.Position.{Position}
 use Rattle.writing.specs.Outcome.{writing_number}
 use Rattle.writing.specs.declared.answers.Refusal.{Refusal}
 use Rattle.writing.specs.declared.answers.Taken.{Taken}
@@ -47,3 +55,43 @@ flat_written (Err r) = record { number = writing_number r; length = 0 }
 abbrev pub flat_removed : Result Taken Refusal → RemoveAnswer
 flat_removed (Ok t) = record { number = 0; length = t.length; hoststart = t.host.start; hostend = t.host.end }
 flat_removed (Err r) = record { number = writing_number r; length = 0; hoststart = 0; hostend = 0 }
+
+-- how many positions the message s has, and whether it has a home
+abbrev pub flat_positions : List ℕ → Reading → PositionsAnswer
+flat_positions s (Ok m) = record { number = 0; home = is_some (home_of s m); place = 0; count = length (positions_of s m) }
+flat_positions s (Err e) = record { number = number e; home = false; place = place e; count = 0 }
+
+-- none: of a message that is accepted, or that is refused by a number at a place
+abbrev pub no_position : ℕ → ℕ → PositionAnswer
+no_position n p = record { number = n; found = false; provider = 0; hasaccuracy = false; latitude = pos 0; longitude = pos 0; place = p; accuracy = 0 }
+
+abbrev pub no_home : ℕ → ℕ → HomeAnswer
+no_home n p = record { number = n; found = false; latitude = pos 0; longitude = pos 0; place = p }
+
+-- its position k, counted from 0, if it has so many
+abbrev pub flat_position : Option Position → PositionAnswer
+flat_position (Some p) =
+    record {
+      number = 0;
+      found = true;
+      provider = p.provider;
+      hasaccuracy = is_some p.accuracy;
+      latitude = p.latitude;
+      longitude = p.longitude;
+      place = 0;
+      accuracy = unwrap_or p.accuracy 0;
+    }
+flat_position NoPosition = no_position 0 0
+
+abbrev pub flat_position_in : List ℕ → ℕ → Reading → PositionAnswer
+flat_position_in s k (Ok m) = flat_position (slice_get (positions_of s m) k)
+flat_position_in s k (Err e) = no_position (number e) (place e)
+
+-- its home, if it has one
+abbrev pub flat_home : Option Home → HomeAnswer
+flat_home (Some h) = record { number = 0; found = true; latitude = h.latitude; longitude = h.longitude; place = 0 }
+flat_home NoPosition = no_home 0 0
+
+abbrev pub flat_home_in : List ℕ → Reading → HomeAnswer
+flat_home_in s (Ok m) = flat_home (home_of s m)
+flat_home_in s (Err e) = no_home (number e) (place e)

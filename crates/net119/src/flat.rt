@@ -1,9 +1,10 @@
 // The answers as C sees them: numbers of document 01, and 0 for what is not there.
 ghost use Rattle.std.specs.Prelude.{◌≡◌};
-ghost use Rattle.net119.specs.Flat.{flat_answer, flat_reading, flat_removed, flat_report, flat_written, flat_word};
+ghost use Rattle.net119.specs.Flat.{flat_answer, flat_reading, flat_home, flat_position, flat_removed, flat_report, no_home, no_position, flat_written, flat_word};
 
 use answers::{Answer, Word};
 use message::{Reading, Report};
+use positions::{Home, Position};
 use writing::{Refusal, Taken};
 
 // A reading: number 0, accepted; else the number and the place of the refusal.
@@ -50,6 +51,41 @@ pub struct RemoveAnswer {
     pub length: usize,
     pub hoststart: usize,
     pub hostend: usize,
+}
+
+// How many positions a message has, and whether it has a home: number 0; else the number and the place of the refusal.
+#[repr(C)]
+#[derive(Drop)]
+pub struct PositionsAnswer {
+    pub number: u8,
+    pub home: bool,
+    pub place: usize,
+    pub count: usize,
+}
+
+// A position, if there is one: its provider, its coordinates in whole millionths of a degree, and its accuracy in metres, if it has one.
+#[repr(C)]
+#[derive(Drop)]
+pub struct PositionAnswer {
+    pub number: u8,
+    pub found: bool,
+    pub provider: u8,
+    pub hasaccuracy: bool,
+    pub latitude: i32,
+    pub longitude: i32,
+    pub place: usize,
+    pub accuracy: u64,
+}
+
+// A home, if there is one: its coordinates.
+#[repr(C)]
+#[derive(Drop)]
+pub struct HomeAnswer {
+    pub number: u8,
+    pub found: bool,
+    pub latitude: i32,
+    pub longitude: i32,
+    pub place: usize,
 }
 
 impl From<Reading> for ReadAnswer {
@@ -154,6 +190,72 @@ impl From<Result<Taken, Refusal>> for RemoveAnswer {
                 hoststart: 0,
                 hostend: 0,
             },
+        }
+    }
+}
+
+// None: the message is accepted, number and place 0, or refused.
+pub fn no_position(number: u8, place: usize) -> PositionAnswer
+    ensures { result ≡ no_position number place }
+{
+    PositionAnswer {
+        number,
+        found: false,
+        provider: 0,
+        hasaccuracy: false,
+        latitude: 0,
+        longitude: 0,
+        place,
+        accuracy: 0,
+    }
+}
+
+impl From<Option<Position>> for PositionAnswer {
+    ghost from_gives = { λ x a. a ≡ flat_position x };
+
+    fn from(x: Option<Position>) -> PositionAnswer {
+        match x {
+            Some(p) => PositionAnswer {
+                number: 0,
+                found: true,
+                provider: p.provider,
+                hasaccuracy: p.accuracy.is_some(),
+                latitude: p.latitude,
+                longitude: p.longitude,
+                place: 0,
+                accuracy: p.accuracy.unwrap_or(0),
+            },
+            None => no_position(0, 0),
+        }
+    }
+}
+
+// The same of a home.
+pub fn no_home(number: u8, place: usize) -> HomeAnswer
+    ensures { result ≡ no_home number place }
+{
+    HomeAnswer {
+        number,
+        found: false,
+        latitude: 0,
+        longitude: 0,
+        place,
+    }
+}
+
+impl From<Option<Home>> for HomeAnswer {
+    ghost from_gives = { λ x a. a ≡ flat_home x };
+
+    fn from(x: Option<Home>) -> HomeAnswer {
+        match x {
+            Some(h) => HomeAnswer {
+                number: 0,
+                found: true,
+                latitude: h.latitude,
+                longitude: h.longitude,
+                place: 0,
+            },
+            None => no_home(0, 0),
         }
     }
 }

@@ -8,7 +8,7 @@ mod flat;
 ghost use Rattle.std.specs.Prelude.{◌≡◌, length};
 ghost use Rattle.keeper.specs.Keeping.{on_message, on_tick};
 ghost use Rattle.message.specs.Reading.{ample, reading, reporting};
-ghost use Rattle.net119.specs.Flat.{flat_answer, flat_reading, flat_removed, flat_report, flat_written};
+ghost use Rattle.net119.specs.Flat.{flat_answer, flat_home_in, flat_position_in, flat_positions, flat_reading, flat_removed, flat_report, flat_written};
 ghost use Rattle.table.specs.Blank.{blank_after, blank_answer, made_number};
 ghost use Rattle.table.specs.WellFormed.{well_formed};
 ghost use Rattle.writing.specs.Adding.{adding};
@@ -17,8 +17,13 @@ ghost use Rattle.writing.specs.Removing.{host_in, removing, host_shown};
 ghost use Rattle.writing.specs.Reply.{replying};
 ghost use Rattle.writing.specs.Texting.{texting};
 
-pub use flat::{CountAnswer, EventAnswer, ReadAnswer, RemoveAnswer, WriteAnswer};
+pub use flat::{
+    CountAnswer, EventAnswer, HomeAnswer, PositionAnswer, PositionsAnswer, ReadAnswer,
+    RemoveAnswer, WriteAnswer,
+};
+use flat::{no_home, no_position};
 use message::AMPLE;
+use positions::{accept, count, home, position};
 use writing::Path;
 
 // Reads a message, at the program's ceiling.
@@ -141,4 +146,44 @@ pub fn net119_text(out: &mut [u8], spelled: &[u8]) -> WriteAnswer
         × (out.new ≡ output_left out.old (texting spelled.now)) }
 {
     writing::text(out, spelled).into()
+}
+
+// How many positions a message has, and whether it has a home.
+pub fn net119_positions(message: &[u8]) -> PositionsAnswer
+    ensures { result ≡ flat_positions message.now (reading ample message.now) }
+{
+    match accept(message) {
+        Err(e) => PositionsAnswer {
+            number: e.number(),
+            home: false,
+            place: e.place(),
+            count: 0,
+        },
+        Ok(a) => PositionsAnswer {
+            number: 0,
+            home: home(message, &a).is_some(),
+            place: 0,
+            count: count(message, &a),
+        },
+    }
+}
+
+// One of them, counted from 0.
+pub fn net119_position(message: &[u8], index: usize) -> PositionAnswer
+    ensures { result ≡ flat_position_in message.now index (reading ample message.now) }
+{
+    match accept(message) {
+        Err(e) => no_position(e.number(), e.place()),
+        Ok(a) => position(message, &a, index).into(),
+    }
+}
+
+// The home.
+pub fn net119_home(message: &[u8]) -> HomeAnswer
+    ensures { result ≡ flat_home_in message.now (reading ample message.now) }
+{
+    match accept(message) {
+        Err(e) => no_home(e.number(), e.place()),
+        Ok(a) => home(message, &a).into(),
+    }
 }

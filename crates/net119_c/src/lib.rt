@@ -6,7 +6,7 @@
 ghost use Rattle.std.specs.Prelude.{◌≡◌, length};
 ghost use Rattle.keeper.specs.Keeping.{on_message, on_tick};
 ghost use Rattle.message.specs.Reading.{ample, reading, reporting};
-ghost use Rattle.net119.specs.Flat.{flat_answer, flat_reading, flat_removed, flat_report, flat_written};
+ghost use Rattle.net119.specs.Flat.{flat_answer, flat_home_in, flat_position_in, flat_positions, flat_reading, flat_removed, flat_report, flat_written};
 ghost use Rattle.table.specs.Blank.{blank_after, blank_answer, made_number};
 ghost use Rattle.table.specs.WellFormed.{well_formed};
 ghost use Rattle.writing.specs.Adding.{adding};
@@ -15,7 +15,10 @@ ghost use Rattle.writing.specs.Removing.{host_in, removing, host_shown};
 ghost use Rattle.writing.specs.Reply.{replying};
 ghost use Rattle.writing.specs.Texting.{texting};
 
-use net119::{CountAnswer, EventAnswer, ReadAnswer, RemoveAnswer, WriteAnswer};
+use net119::{
+    CountAnswer, EventAnswer, HomeAnswer, PositionAnswer, PositionsAnswer, ReadAnswer,
+    RemoveAnswer, WriteAnswer,
+};
 
 // Reads a message, at the program's ceiling.
 #[unsafe(no_mangle)]
@@ -132,4 +135,28 @@ pub extern "C" fn net119_text(out: &mut [u8], spelled: &[u8]) -> WriteAnswer
         × (out.new ≡ output_left out.old (texting spelled.now)) }
 {
     net119::net119_text(out, spelled)
+}
+
+// How many positions a message has, and whether it has a home.
+#[unsafe(no_mangle)]
+pub extern "C" fn net119_positions(message: &[u8]) -> PositionsAnswer
+    ensures { result ≡ flat_positions message.now (reading ample message.now) }
+{
+    net119::net119_positions(message)
+}
+
+// One of them, counted from 0.
+#[unsafe(no_mangle)]
+pub extern "C" fn net119_position(message: &[u8], index: usize) -> PositionAnswer
+    ensures { result ≡ flat_position_in message.now index (reading ample message.now) }
+{
+    net119::net119_position(message, index)
+}
+
+// The home.
+#[unsafe(no_mangle)]
+pub extern "C" fn net119_home(message: &[u8]) -> HomeAnswer
+    ensures { result ≡ flat_home_in message.now (reading ample message.now) }
+{
+    net119::net119_home(message)
 }

@@ -1,7 +1,7 @@
 -- A class at every byte of a text, one byte at a time. Assumes nothing.
 use Prim.Native.Nat.{ℕ, ◌≤◌, ◌<◌, ◌+◌}
 use Rattle.octets.proofs.TestLaws.{and_parts}
-use Rattle.octets.specs.Class.{all, among, is_alnum, is_digit, is_letter, is_lower, is_upper}
+use Rattle.octets.specs.Class.{all, among, digits_rule, is_alnum, is_digit, is_letter, is_lower, is_upper}
 use Rattle.std.specs.List.{list_all}
 use borrow.Author.Tests.{le-leb, lt-leb, leb-true}
 use lib.Dec.{leb}
@@ -63,3 +63,16 @@ pub all_append : (f : ℕ → Bool) (s t : List ℕ) → all f (s ++ t) ≡ (all
 unfolding all
 all_append f [] t = refl
 all_append f (x ∷ s) t = rw (all_append f s t) (sym (and_assoc (f x) (all f s) (all f t)))
+
+-- what the test of lo to hi digits means
+module _ (lo hi : ℕ) (s : List ℕ) where
+  pub digits_in : digits_rule lo hi s ≡ true → (lo ≤ length s) × (length s ≤ hi) × (all is_digit s ≡ true)
+  unfolding digits_rule
+  digits_in e =
+      let p = and_parts (among lo hi (length s)) (all is_digit s) e in
+      let n = among_in lo hi (length s) p.0 in
+      (n.0, n.1, p.1)
+
+  pub in_digits : lo ≤ length s → length s ≤ hi → all is_digit s ≡ true → digits_rule lo hi s ≡ true
+  unfolding digits_rule
+  in_digits h k e = rw (in_among lo hi (length s) h k, e)

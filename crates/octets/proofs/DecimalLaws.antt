@@ -128,10 +128,11 @@ digit-behind o at v {o'} {r} h g room e =
 
 -- What is written is read back.
 
-tens_snoc : (a : ℕ) (s : List ℕ) (x : ℕ) → tens a (s ++ (x ∷ [])) ≡ tens a s * 10 + (x - 48)
+-- digits behind digits
+pub tens_append : (a : ℕ) (s t : List ℕ) → tens a (s ++ t) ≡ tens (tens a s) t
 unfolding tens
-tens_snoc a [] x = refl
-tens_snoc a (y ∷ s) x = tens_snoc (a * 10 + (y - 48)) s x
+tens_append a [] t = refl
+tens_append a (x ∷ s) t = tens_append (a * 10 + (x - 48)) s t
 
 -- one digit d
 digit : (d : ℕ) → d < 10 → is_digit (48 + d) ≡ true
@@ -160,7 +161,7 @@ digits_of (suc n) v h = go (dec_lt v 10) (λ a. digits_of n (v / 10) (omega arit
         let d = higher (omega arith) in
         rw (le-ltb v 10 (omega arith)) (record {
           each = rw (all_append, d.each, digit (v % 10) (omega arith));
-          worth = rw (tens_snoc, d.worth) (omega arith);
+          worth = rw (tens_append, d.worth) (omega arith);
           some = rw length-append (omega arith);
           few = rw length-append (let f = d.few in omega arith);
         })

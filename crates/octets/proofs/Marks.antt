@@ -1,6 +1,6 @@
 -- The definitions on both sides of their bounds, and on small texts, computed: a wrong number in one of them fails here. Assumes nothing.
 use Rattle.octets.specs.Ascii.{ascii}
-use Rattle.octets.specs.Class.{among, is_digit, is_lower, is_upper}
+use Rattle.octets.specs.Class.{all, among, digits_rule, is_digit, is_lower, is_upper}
 use Rattle.octets.specs.Number.{bytes_of, big_endian, onto}
 use Rattle.octets.specs.Text.{same}
 use mathlib.Core.Bool.{false, true}
@@ -11,6 +11,16 @@ use mathlib.Core.Path.{◌≡◌, refl}
 pub digits : (is_digit 47 ≡ false) × (is_digit 48 ≡ true) × (is_digit 57 ≡ true) × (is_digit 58 ≡ false)
 unfolding is_digit among
 digits = (refl, refl, refl, refl)
+
+-- two to three digits, and neither one nor four, nor a letter among them
+pub digit_texts :
+    (digits_rule 2 3 (ascii "1") ≡ false)
+    × (digits_rule 2 3 (ascii "12") ≡ true)
+    × (digits_rule 2 3 (ascii "123") ≡ true)
+    × (digits_rule 2 3 (ascii "1234") ≡ false)
+    × (digits_rule 2 3 (ascii "12a") ≡ false)
+unfolding digits_rule all is_digit among
+digit_texts = (refl, refl, refl, refl, refl)
 
 -- `a` to `z`
 pub small : (is_lower 96 ≡ false) × (is_lower 97 ≡ true) × (is_lower 122 ≡ true) × (is_lower 123 ≡ false)

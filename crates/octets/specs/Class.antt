@@ -1,6 +1,6 @@
--- Classes of bytes, which the contracts of `src/classes.rt` cite. Assumes nothing.
+-- Classes of bytes, and texts of digits alone: what the contracts of `src/classes.rt` cite. Assumes nothing.
 use Prim.Native.Char.{code}
-use Rattle.std.specs.Prelude.{ℕ, Bool, true, ◌&&◌, ◌||◌, List, [], ◌∷◌, leb}
+use Rattle.std.specs.Prelude.{ℕ, Bool, true, ◌&&◌, ◌||◌, List, [], ◌∷◌, leb, length}
 
 -- from lo to hi, both included
 unfoldable pub among : ℕ → ℕ → ℕ → Bool
@@ -30,3 +30,7 @@ is_alnum b = is_digit b || is_letter b
 unfoldable pub all : (ℕ → Bool) → List ℕ → Bool
 all f [] = true
 all f (x ∷ xs) = f x && all f xs
+
+-- lo to hi digits, and nothing else
+unfoldable pub digits_rule : ℕ → ℕ → List ℕ → Bool
+digits_rule lo hi s = among lo hi (length s) && all is_digit s

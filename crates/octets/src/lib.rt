@@ -9,7 +9,7 @@ mod decimals;
 mod numbers;
 mod texts;
 
-pub use classes::{among, is_alnum, is_digit, is_lower};
+pub use classes::{among, is_alnum, is_digit, is_digits, is_lower};
 pub use copying::put;
 pub use decimals::{decimal, put_decimal};
 pub use numbers::{number_at, put_number, wide};

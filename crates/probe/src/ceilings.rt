@@ -14,7 +14,7 @@ pub struct Ceiling {
 }
 
 // By the word behind its name: any but a number of 32 bits is answered `?`, and the ceiling stays.
-pub fn set_ceiling(out: &mut [u8; 160100], ceiling: u32, word: &[u8]) -> Ceiling
+pub fn set_ceiling(out: &mut [u8; 800000], ceiling: u32, word: &[u8]) -> Ceiling
     ensures { Puts out.old (ceiling_text word.now) result.len out.new × (result.ceiling ≡ ceiling_after ceiling word.now) }
 {
     match number_to(word, 4294967295) {

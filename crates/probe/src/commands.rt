@@ -12,7 +12,7 @@ use showing::{ask, first, has_space, rest};
 
 // A command but `ceiling`, and its words.
 fn obey_plain(
-    out: &mut [u8; 160100],
+    out: &mut [u8; 800000],
     held: &mut [u8; 65536],
     size: usize,
     bytes: &mut [u8; 85000],
@@ -69,7 +69,7 @@ fn keep_ceiling(a: Answered, ceiling: u32) -> Finished
 
 // A command and its words.
 fn obey(
-    out: &mut [u8; 160100],
+    out: &mut [u8; 800000],
     held: &mut [u8; 65536],
     size: usize,
     bytes: &mut [u8; 85000],
@@ -95,7 +95,7 @@ fn obey(
 
 // Answers a line. One of more than 170,000 bytes is answered `?`.
 pub fn answer(
-    out: &mut [u8; 160100],
+    out: &mut [u8; 800000],
     held: &mut [u8; 65536],
     size: usize,
     bytes: &mut [u8; 85000],

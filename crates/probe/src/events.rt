@@ -10,7 +10,7 @@ use octets::put;
 use showing::{first, has_space, number, put_number, put_unknown, rest, take_bytes};
 
 // An acceptance's word and state, as in the program's lines.
-fn put_accepted(out: &mut [u8; 160100], a: Answer) -> usize
+fn put_accepted(out: &mut [u8; 800000], a: Answer) -> usize
     ensures { Puts out.old (accepted_text a) result out.new }
 {
     let behind = put(out, 0, b"ok");
@@ -18,7 +18,7 @@ fn put_accepted(out: &mut [u8; 160100], a: Answer) -> usize
 }
 
 // A refusal's number, place and reply.
-fn put_refused(out: &mut [u8; 160100], f: Refusal) -> usize
+fn put_refused(out: &mut [u8; 800000], f: Refusal) -> usize
     ensures { Puts out.old (event_text (Err f)) result out.new }
 {
     let before_number = put(out, 0, b"no ");
@@ -28,7 +28,7 @@ fn put_refused(out: &mut [u8; 160100], f: Refusal) -> usize
 }
 
 // What an event is answered.
-fn put_event(out: &mut [u8; 160100], a: Answer) -> usize
+fn put_event(out: &mut [u8; 800000], a: Answer) -> usize
     ensures { Puts out.old (event_text a) result out.new }
 {
     match a {
@@ -67,7 +67,7 @@ fn event(held: &mut [u8], size: usize, s: &[u8], time: u64, tick: bool, ceiling:
 
 // An event with the first n bytes of `bytes`, and writes its answer.
 fn happens(
-    out: &mut [u8; 160100],
+    out: &mut [u8; 800000],
     held: &mut [u8; 65536],
     size: usize,
     bytes: &[u8; 85000],
@@ -85,7 +85,7 @@ fn happens(
 
 // `msg TIME HEX` and `tick TIME HEX`.
 pub fn happen(
-    out: &mut [u8; 160100],
+    out: &mut [u8; 800000],
     held: &mut [u8; 65536],
     size: usize,
     bytes: &mut [u8; 85000],

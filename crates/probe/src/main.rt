@@ -1,4 +1,4 @@
-// The probe: one command a line, every answer in full: `read`, `blank`, `table`, `dump`, `msg`, `tick`, `ceiling`, `reply`, `add` and
+// The probe: one command a line, every answer in full: `read`, `positions`, `blank`, `table`, `dump`, `msg`, `tick`, `ceiling`, `reply`, `add` and
 // `remove`; anything else is answered `?`. It holds one table, at first 255 blank records, and a ceiling, at first 16,384.
 // Proved: what each line is answered, byte for byte, and the table and the ceiling that are held after it; what becomes of the open line
 // and of these turn by turn. The answer is then handed to `write`. Where a write or a read fails it says so on standard error and ends, and nothing
@@ -78,7 +78,7 @@ fn fetch(rt: &HostRuntime, buf: &mut [u8; 16384], size: usize, ceiling: u32, len
 
 // A line that is kept at the buffer's front, or as much of it as there is room for.
 fn answer_kept(
-    out: &mut [u8; 160100],
+    out: &mut [u8; 800000],
     held: &mut [u8; 65536],
     size: usize,
     bytes: &mut [u8; 85000],
@@ -114,7 +114,7 @@ fn told(rt: &HostRuntime, out: &[u8], a: Finished, from: usize, n: usize) -> Sta
 // The next line of the piece's rest, and its answer handed on; or what is left of the piece kept, where no line ends in it.
 fn piece(
     rt: &HostRuntime,
-    out: &mut [u8; 160100],
+    out: &mut [u8; 800000],
     held: &mut [u8; 65536],
     bytes: &mut [u8; 85000],
     room: &mut [u8; 40000],
@@ -161,7 +161,7 @@ fn piece(
 // One turn: a read where nothing of a piece is left, else a line of it.
 fn turn(
     rt: &HostRuntime,
-    out: &mut [u8; 160100],
+    out: &mut [u8; 800000],
     held: &mut [u8; 65536],
     bytes: &mut [u8; 85000],
     room: &mut [u8; 40000],
@@ -214,7 +214,7 @@ fn start(held: &mut [u8; 65536]) -> usize
 // down from a number that no run uses up.
 fn run(
     rt: &HostRuntime,
-    out: &mut [u8; 160100],
+    out: &mut [u8; 800000],
     held: &mut [u8; 65536],
     bytes: &mut [u8; 85000],
     room: &mut [u8; 40000],
@@ -248,7 +248,7 @@ fn run(
 // table and the ceiling.
 fn last(
     rt: &HostRuntime,
-    out: &mut [u8; 160100],
+    out: &mut [u8; 800000],
     held: &mut [u8; 65536],
     bytes: &mut [u8; 85000],
     room: &mut [u8; 40000],
@@ -279,7 +279,7 @@ fn last(
 }
 
 fn main(rt: HostRuntime) {
-    let mut out = [0u8; 160100];
+    let mut out = [0u8; 800000];
     let mut held = [0u8; 65536];
     let mut bytes = [0u8; 85000];
     let mut room = [0u8; 40000];

@@ -18,7 +18,7 @@ pub struct Answered {
 }
 
 // Answers `?`; the held table stays.
-pub fn answer_unknown(out: &mut [u8; 160100], size: usize) -> Answered
+pub fn answer_unknown(out: &mut [u8; 800000], size: usize) -> Answered
     ensures { Puts out.old unknown result.len out.new × (result.size ≡ size) }
 {
     Answered {
@@ -28,7 +28,7 @@ pub fn answer_unknown(out: &mut [u8; 160100], size: usize) -> Answered
 }
 
 // Writes the held table.
-pub fn dump(out: &mut [u8; 160100], held: &[u8; 65536], size: usize) -> usize
+pub fn dump(out: &mut [u8; 800000], held: &[u8; 65536], size: usize) -> usize
     requires { size ≤ 65536 }
     ensures { Puts out.old (dump_text (take size held.now)) result out.new }
 {
@@ -38,7 +38,7 @@ pub fn dump(out: &mut [u8; 160100], held: &[u8; 65536], size: usize) -> usize
 }
 
 // `ok`, or `no 1`.
-fn verdict(out: &mut [u8; 160100], good: bool) -> usize
+fn verdict(out: &mut [u8; 800000], good: bool) -> usize
     ensures { Puts out.old (verdict_text good) result out.new }
 {
     if good {
@@ -49,7 +49,7 @@ fn verdict(out: &mut [u8; 160100], good: bool) -> usize
 }
 
 // Writes whether the held table is well-formed.
-fn judge(out: &mut [u8; 160100], held: &[u8; 65536], size: usize) -> usize
+fn judge(out: &mut [u8; 800000], held: &[u8; 65536], size: usize) -> usize
     requires { size ≤ 65536 }
     ensures { Puts out.old (verdict_text (well_formed (take size held.now))) result out.new }
 {
@@ -66,7 +66,7 @@ pub fn make_blank(held: &mut [u8], n: usize, count: usize) -> bool
 }
 
 // `blank COUNT LENGTH`: where a number is over its limit, and where they are refused, the held table stays.
-pub fn blank(out: &mut [u8; 160100], held: &mut [u8; 65536], size: usize, words: &[u8]) -> Answered
+pub fn blank(out: &mut [u8; 800000], held: &mut [u8; 65536], size: usize, words: &[u8]) -> Answered
     requires { size ≤ 65536 }
     ensures { Turned (blank_done (take size held.old) words.now) out.old result.len out.new result.size held.new }
 {
@@ -101,7 +101,7 @@ fn take_image(held: &mut [u8; 65536], word: &[u8]) -> usize
 }
 
 // `table HEX`: the image is held as it is.
-pub fn hold(out: &mut [u8; 160100], held: &mut [u8; 65536], size: usize, word: &[u8]) -> Answered
+pub fn hold(out: &mut [u8; 800000], held: &mut [u8; 65536], size: usize, word: &[u8]) -> Answered
     requires { size ≤ 65536 }
     ensures { Turned (table_done (take size held.old) word.now) out.old result.len out.new result.size held.new }
 {

@@ -9,15 +9,15 @@ use Rattle.octets.specs.Ascii.{ascii}
 use Rattle.octets.specs.Class.{all, among, is_alnum, is_digit, is_letter, is_lower, is_upper}
 use Rattle.octets.specs.Text.{same, stands_at}
 use Rattle.rules.specs.Classes.{holds}
-use Rattle.rules.specs.Date.{date_rule, days_in, leap}
+use Rattle.rules.specs.Date.{date_rule, day_rule, days_in, leap}
 use Rattle.rules.specs.Asks.{is_in, method_asks, tag_asks}
 use Rattle.rules.specs.Names as names
 use Rattle.rules.specs.Names.{methods, tags}
 use Rattle.rules.specs.Numbers.{content_location, content_message_image, content_presence, content_text, content_text_image, tag_pong, tag_request, tag_response}
 use Rattle.rules.specs.Numbers.{method_ack, method_callback, method_cancel, method_invite, method_message, method_notify, method_refer}
-use Rattle.rules.specs.Numbers.{field_cseq, field_call_id, field_call_mode, field_content_type, field_from, field_request_service, field_secure_call, field_status, field_to}
-use Rattle.rules.specs.Numbers.{field_via}
-use Rattle.rules.specs.Words.{content_types}
+use Rattle.rules.specs.Numbers.{field_body, field_caller, field_cseq, field_call_id, field_call_mode, field_content_type, field_from, field_locations, field_request_service}
+use Rattle.rules.specs.Numbers.{field_rescuee, field_secure_call, field_status, field_to, field_via, mode_training, rescuee_third_party, service_ambulance}
+use Rattle.rules.specs.Words.{call_modes, content_types, rescuees, services}
 use Rattle.rules.specs.Pieces.{word_number, piece_end, digits, has_piece, word_number_from, reads, run_length, decimal_at, within}
 use Rattle.rules.specs.Sequence.{sequence_rule}
 use Rattle.rules.specs.Status.{status_rule}
@@ -37,6 +37,15 @@ sequences = (refl, (refl, refl))
 pub dates : (date_rule (ascii "2000-02-29T12:00:00+0900") ≡ true) × (date_rule (ascii "1900-02-29T12:00:00+0900") ≡ false)
 unfolding date_rule reads has_piece piece_end digits decimal_at days_in leap same stands_at among is_digit
 dates = (refl, refl)
+
+-- a day alone: 2000-02-29 yes; 1900-02-29, a year 0000 and a day with its time no
+pub day_texts :
+    (day_rule (ascii "2000-02-29") ≡ true)
+    × (day_rule (ascii "1900-02-29") ≡ false)
+    × (day_rule (ascii "0000-01-01") ≡ false)
+    × (day_rule (ascii "2000-02-29T12:00:00+0900") ≡ false)
+unfolding day_rule reads has_piece piece_end digits decimal_at days_in leap same stands_at among is_digit
+day_texts = (refl, refl, refl, refl)
 
 -- a rule takes lo to hi letters, and neither one fewer nor one more
 abbrev Takes : (List ℕ → Bool) → ℕ → ℕ → Type 0
@@ -155,8 +164,20 @@ pub field-names :
     × (word_number names.fields (ascii "Via") ≡ field_via)
     × (word_number names.fields (ascii "Status") ≡ field_status)
     × (word_number names.fields (ascii "Content-Type") ≡ field_content_type)
+    × (word_number names.fields (ascii "Body") ≡ field_body)
     × (word_number names.fields (ascii "Call-Mode") ≡ field_call_mode)
     × (word_number names.fields (ascii "Secure-Call") ≡ field_secure_call)
+    × (word_number names.fields (ascii "Rescuee") ≡ field_rescuee)
     × (word_number names.fields (ascii "Request-Service") ≡ field_request_service)
+    × (word_number names.fields (ascii "Locations") ≡ field_locations)
+    × (word_number names.fields (ascii "Caller") ≡ field_caller)
 unfolding word_number_from same
-field-names = (refl, refl, refl, refl, refl, refl, refl, refl, refl, refl)
+field-names = (refl, refl, refl, refl, refl, refl, refl, refl, refl, refl, refl, refl, refl, refl)
+
+-- what a call says of its Caller
+pub call-names :
+    (word_number call_modes (ascii "training") ≡ mode_training)
+    × (word_number rescuees (ascii "third-party") ≡ rescuee_third_party)
+    × (word_number services (ascii "ambulance") ≡ service_ambulance)
+unfolding word_number_from same
+call-names = (refl, refl, refl)

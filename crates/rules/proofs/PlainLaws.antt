@@ -12,21 +12,22 @@ use borrow.Author.Tests.{eq-eqb, eqb-false, eqb-true, le-leb, leb-false, leb-tru
 use lib.Dec.{eqb, leb, ltb}
 use lib.ListN.{drop, drop_of_length-le, get_or, length, length-drop, length-take, take, take-append-drop}
 use lib.Seq.{drop-cons, drop-drop, drop-length, get_or-drop, get_or-take, take-take}
-use Rattle.octets.proofs.ClassLaws.{all_append, among_in, digit_in}
+use Rattle.octets.proofs.ClassLaws.{all_append, among_in, digit_in, digits_in}
 use Rattle.octets.proofs.TestLaws.{Either, and_parts, either, or_split}
 use Rattle.octets.proofs.TextLaws.{same-eq, there}
 use Rattle.octets.specs.Ascii.{ascii}
-use Rattle.octets.specs.Class.{all, among, is_alnum, is_digit, is_letter, is_lower, is_upper}
+use Rattle.octets.specs.Class.{all, among, digits_rule, is_alnum, is_digit, is_letter, is_lower, is_upper}
 use Rattle.octets.specs.Text.{stands_at}
 use Rattle.rules.proofs.NameLaws.{Placed, found, none, nth}
 use Rattle.rules.proofs.PieceLaws.{stands-inside, stands_one, value_grows}
 use Rattle.rules.specs.Address.{address_rule, callee_rule, caller_rule}
 use Rattle.rules.specs.Classes.{holds}
-use Rattle.rules.specs.Date.{date, date_rule}
+use Rattle.rules.specs.Date.{date, date_rule, day, day_rule}
 use Rattle.rules.specs.Pieces.{Piece, count, decimal_at, digits, fixed, free, has_piece, number, piece_end, reads, run, run_length, within, word, word_number}
 use Rattle.rules.specs.Sequence.{sequence_rule}
 use Rattle.rules.specs.Status.{status_of, status_rule}
 use Rattle.rules.specs.Texts.{call_id_rule, desk_rule, destination_rule, fire_rule, host_rule, image_rule, language_rule, message_id_rule, message_tail, organization_rule}
+use Rattle.rules.specs.Texts.{user_rule}
 use Rattle.rules.specs.declared.classes.Class.{Class}
 use Rattle.rules.specs.declared.classes.Class.TheVariants.{Alnum, Digit, Fire, Graphic, Label, Lower, Name, Small}
 
@@ -148,13 +149,13 @@ digit-on s i e =
     let h : get_or s i 0 ≡ suc (get_or s i 0 - 1) = omega (arith, (digit_in (get_or s i 0) e).0) in
     rw (drop-cons s i 0 (there s i (get_or s i 0 - 1) h), class_plain Digit (get_or s i 0) e)
 
-digits-plain : (n : ℕ) (s : List ℕ) (at : ℕ) → digits n s at ≡ true → all is_plain (drop at s) ≡ all is_plain (drop (at + n) s)
+digits_at : (n : ℕ) (s : List ℕ) (at : ℕ) → digits n s at ≡ true → all is_plain (drop at s) ≡ all is_plain (drop (at + n) s)
 unfolding digits
-digits-plain zero s at e = let z : at ≡ at + 0 = omega arith in ap (λ (i : ℕ). all is_plain (drop i s)) z
-digits-plain (suc n) s at e =
+digits_at zero s at e = let z : at ≡ at + 0 = omega arith in ap (λ (i : ℕ). all is_plain (drop i s)) z
+digits_at (suc n) s at e =
     let p = and_parts (digits n s at) (is_digit (get_or s (at + n) 0)) e in
     let z : suc (at + n) ≡ at + suc n = omega arith in
-    digits-plain n s at p.0 ∙ digit-on s (at + n) p.1 ∙ ap (λ (i : ℕ). all is_plain (drop i s)) z
+    digits_at n s at p.0 ∙ digit-on s (at + n) p.1 ∙ ap (λ (i : ℕ). all is_plain (drop i s)) z
 
 -- a number of eleven digits, the first not 0, is ten thousand million at least: so one below that has ten at most
 module _ (s : List ℕ) (at : ℕ) where
@@ -250,7 +251,7 @@ piece-plain : (p : Piece) → Closed p → (s : List ℕ) (at : ℕ) → has_pie
 unfolding has_piece piece_end all
 piece-plain (fixed w) c s at e = fixed_plain w s at c e
 piece-plain (run lo hi k f) c s at e = run_at k s at
-piece-plain (number n lo hi) c s at e = digits-plain n s at (and_parts (digits n s at) _ e).0
+piece-plain (number n lo hi) c s at e = digits_at n s at (and_parts (digits n s at) _ e).0
 piece-plain (count hi) c s at e = run_at Digit s at
 piece-plain (word ws) c s at e = (word-plain ws c).plain (drop at s) e ∙ rw (drop-length s)
 piece-plain free c s at e = absurd c
@@ -350,6 +351,14 @@ pub date-plain : Plain date_rule
 unfolding date_rule
 date-plain = record { plain = λ t e. (date_pieces _).plain t e; short = λ t e. (date_pieces _).short t e }
 
+day_pieces : (last : ℕ) → Plain (λ t. reads (day last) t 0)
+unfolding all is_plain most_of most
+day_pieces last = pieces_plain (day last) (tt, (refl, (tt, (refl, (tt, tt))))) refl
+
+pub day-plain : Plain day_rule
+unfolding day_rule
+day-plain = record { plain = λ t e. (day_pieces _).plain t e; short = λ t e. (day_pieces _).short t e }
+
 pub call_id_plain : Plain call_id_rule
 unfolding call_id_rule most_of most
 call_id_plain = pieces_plain _ (tt, tt) refl
@@ -357,6 +366,10 @@ call_id_plain = pieces_plain _ (tt, tt) refl
 pub fire-plain : Plain fire_rule
 unfolding fire_rule most_of most
 fire-plain = pieces_plain _ (tt, tt) refl
+
+pub user_plain : Plain user_rule
+unfolding user_rule most_of most
+user_plain = pieces_plain _ (tt, tt) refl
 
 pub host-plain : Plain host_rule
 unfolding host_rule most_of most
@@ -393,6 +406,20 @@ message_id_plain = record {
 pub language_plain : Plain language_rule
 unfolding language_rule most_of most
 language_plain = pieces_plain _ (tt, tt) refl
+
+-- digits alone, few enough
+every_digit : (t : List ℕ) → all is_digit t ≡ true → all is_plain t ≡ true
+unfolding all
+every_digit [] e = refl
+every_digit (b ∷ t) e =
+    let p = and_parts (is_digit b) (all is_digit t) e in
+    rw (digit-plain b p.0) (every_digit t p.1)
+
+pub digits_plain : (lo hi : ℕ) → hi ≤ 255 → Plain (digits_rule lo hi)
+digits_plain lo hi h = record {
+  plain = λ t e. every_digit t (digits_in lo hi t e).2;
+  short = λ t e. omega (arith, (digits_in lo hi t e).1);
+}
 
 -- The two rules that end in free text.
 
@@ -439,7 +466,7 @@ status-four : (t : List ℕ) → length t ≤ 4 → status_rule t ≡ true → a
 unfolding all is_plain
 status-four t h e =
     let p = status_tests t e in
-    digits-plain 3 t 0 p.0 ∙ fixed_plain (32 ∷ []) t 3 refl p.1 ∙ rw (drop_of_length-le t {i = 4} h)
+    digits_at 3 t 0 p.0 ∙ fixed_plain (32 ∷ []) t 3 refl p.1 ∙ rw (drop_of_length-le t {i = 4} h)
 
 pub status-front : Front 4 status_rule
 status-front = record {

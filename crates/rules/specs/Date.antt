@@ -1,5 +1,5 @@
--- Date (01 Reading, 'Rules'): what the contracts of `src/dates.rt` cite. Assumes nothing.
-use Rattle.std.specs.Prelude.{◌%◌, ℕ, Bool, ◌&&◌, ◌||◌, not, cond, List, ◌∷◌, [], eqb, get_or}
+-- Date (01 Reading, 'Rules'), and a day alone (02 §4): what the contracts of `src/dates.rt` cite. Assumes nothing.
+use Rattle.std.specs.Prelude.{◌%◌, ℕ, Bool, ◌&&◌, ◌||◌, not, cond, List, ◌∷◌, [], ◌++◌, eqb, get_or}
 use Rattle.octets.specs.Ascii.{ascii}
 use Rattle.rules.specs.Pieces.{Piece, fixed, number, reads, decimal_at}
 
@@ -30,16 +30,28 @@ time =
     ∷ number 2 0 59
     ∷ zone
 
--- `YYYY-MM-DD`, year 0001 to 9999, in a month of so many days, and then the time
-abbrev pub date : ℕ → List Piece
-date last =
+-- `YYYY-MM-DD`, year 0001 to 9999, in a month of so many days
+abbrev pub day : ℕ → List Piece
+day last =
     number 4 1 9999
     ∷ fixed (ascii "-")
     ∷ number 2 1 12
     ∷ fixed (ascii "-")
     ∷ number 2 1 last
-    ∷ time
+    ∷ []
+
+-- a day, and then the time
+abbrev pub date : ℕ → List Piece
+date last = day last ++ time
+
+-- how many days the month at byte 5 has, in the year at byte 0
+abbrev pub last_day : List ℕ → ℕ
+last_day s = days_in (decimal_at 4 s 0) (decimal_at 2 s 5)
 
 -- a real Gregorian day: the month's days are those of the year and the month that stand before it
+unfoldable pub day_rule : List ℕ → Bool
+day_rule s = reads (day (last_day s)) s 0
+
+-- a real Gregorian day, and then the time
 unfoldable pub date_rule : List ℕ → Bool
-date_rule s = reads (date (days_in (decimal_at 4 s 0) (decimal_at 2 s 5))) s 0
+date_rule s = reads (date (last_day s)) s 0

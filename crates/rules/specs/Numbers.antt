@@ -71,14 +71,36 @@ field_status = 7
 abbrev pub field_content_type : ℕ
 field_content_type = 9
 
+abbrev pub field_body : ℕ
+field_body = 10
+
 abbrev pub field_call_mode : ℕ
 field_call_mode = 15
 
 abbrev pub field_secure_call : ℕ
 field_secure_call = 17
 
+abbrev pub field_rescuee : ℕ
+field_rescuee = 18
+
 abbrev pub field_request_service : ℕ
 field_request_service = 19
+
+abbrev pub field_locations : ℕ
+field_locations = 21
+
+abbrev pub field_caller : ℕ
+field_caller = 23
+
+-- of Call-Mode `training`, of Rescuee `third-party`, of Request-Service `ambulance`
+abbrev pub mode_training : ℕ
+mode_training = 2
+
+abbrev pub rescuee_third_party : ℕ
+rescuee_third_party = 2
+
+abbrev pub service_ambulance : ℕ
+service_ambulance = 1
 
 -- what a run asks of a field
 abbrev pub unlisted : ℕ

@@ -1,4 +1,4 @@
--- The fields whose text is one of a few words (01 Reading, 'Rules'), each word with a number from 1, 0 for any other text.
+-- The fields and members whose text is one of a few words (01 Reading, 'Rules'; 02 §4), each word with a number from 1, 0 for any other text.
 -- What the contracts of `src/words.rt` cite. Assumes nothing.
 use Rattle.std.specs.Prelude.{ℕ, List, ◌++◌, ◌∷◌, []}
 use Rattle.octets.specs.Ascii.{ascii}
@@ -46,3 +46,15 @@ rescuees = ascii "caller" ∷ ascii "third-party" ∷ []
 -- 19 Request-Service
 abbrev pub services : List (List ℕ)
 services = ascii "ambulance" ∷ ascii "fire" ∷ ascii "unknown" ∷ ascii "callback" ∷ []
+
+-- the providers of a caller's locations, in the order in which locations stand (02 §4)
+abbrev pub providers : List (List ℕ)
+providers = ascii "gps" ∷ ascii "network" ∷ ascii "preset" ∷ ascii "map" ∷ []
+
+-- those of a live location
+abbrev pub live_providers : List (List ℕ)
+live_providers = ascii "gps" ∷ ascii "network" ∷ []
+
+-- a person's sex
+abbrev pub sexes : List (List ℕ)
+sexes = ascii "male" ∷ ascii "female" ∷ []

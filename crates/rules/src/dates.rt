@@ -1,7 +1,7 @@
-// Date.
-ghost use Rattle.std.specs.Prelude.{◌≡◌};
-ghost use Rattle.rules.specs.Date.{date_rule, days_in, leap, time, zone};
-ghost use Rattle.rules.specs.Pieces.{reads};
+// Date, and a day alone.
+ghost use Rattle.std.specs.Prelude.{◌≡◌, ◌&&◌, List, ◌++◌};
+ghost use Rattle.rules.specs.Date.{date_rule, day, day_rule, days_in, last_day, leap, time, zone};
+ghost use Rattle.rules.specs.Pieces.{Piece, reads};
 
 use crate::pieces::{is_number, mark, number_at};
 
@@ -44,9 +44,9 @@ fn is_time(s: &[u8]) -> bool
         && is_zone(s)
 }
 
-// Whether a text keeps the rule of Date.
-pub fn is_date(s: &[u8]) -> bool
-    ensures { result ≡ date_rule s.now }
+// Whether a day stands in the first ten bytes; whatever stands behind it is read from there on.
+fn has_day(s: &[u8]) -> bool
+    ensures { (ps : List Piece) → reads (day (last_day s.now) ++ ps) s.now 0 ≡ (result && reads ps s.now 10) }
 {
     let last = days_in(number_at(s, 0, 4), number_at(s, 5, 2));
     is_number(s, 0, 4, 1, 9999)
@@ -54,5 +54,18 @@ pub fn is_date(s: &[u8]) -> bool
         && is_number(s, 5, 2, 1, 12)
         && mark(s, 7, b'-')
         && is_number(s, 8, 2, 1, last)
-        && is_time(s)
+}
+
+// Whether a text is a real day, and no more.
+pub fn is_day(s: &[u8]) -> bool
+    ensures { result ≡ day_rule s.now }
+{
+    has_day(s) && s.len() == 10
+}
+
+// Whether a text keeps the rule of Date.
+pub fn is_date(s: &[u8]) -> bool
+    ensures { result ≡ date_rule s.now }
+{
+    has_day(s) && is_time(s)
 }

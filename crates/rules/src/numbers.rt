@@ -78,9 +78,18 @@ pub const USER_AGENT: usize = 22;
 
 pub const CALLER: usize = 23;
 
+pub const OPTIONS: usize = 24;
+
 pub const DESTINATION: usize = 25;
 
 // What a run asks of a field.
 pub const UNLISTED: u8 = 0;
 
 pub const REQUIRED: u8 = 1;
+
+// Of Call-Mode, Rescuee and Request-Service.
+pub const TRAINING: u8 = 2;
+
+pub const THIRD_PARTY: u8 = 2;
+
+pub const AMBULANCE: u8 = 1;

@@ -1,7 +1,7 @@
 // The rules of single texts.
 ghost use Rattle.std.specs.Prelude.{◌≡◌};
 ghost use Rattle.rules.specs.Pieces.{reads};
-ghost use Rattle.rules.specs.Texts.{call_id_rule, desk_rule, destination_rule, fire_rule, host_rule, image_rule, language_rule, memo_rule, message_id_rule, message_tail, organization_rule, user_rule};
+ghost use Rattle.rules.specs.Texts.{call_id_rule, desk_rule, destination_rule, fire_rule, host_rule, image_rule, language_rule, memo_rule, message_id_rule, message_tail, organization_rule, points, user_rule};
 
 use crate::classes::Class;
 use crate::pieces::{is_run, mark, run_end, within};
@@ -90,10 +90,16 @@ pub fn is_image(s: &[u8]) -> bool
     stands_at(s, 0, b"https://")
 }
 
+// How many code points a text has.
+pub fn points(s: &[u8]) -> usize
+    ensures { result ≡ points s.now }
+{
+    s.iter().filter(|b| !among(128, 191, **b)).count()
+}
+
 // Refer-Memo: at most 128 code points, and no line break, which is a single byte in UTF-8.
 pub fn is_memo(s: &[u8]) -> bool
     ensures { result ≡ memo_rule s.now }
 {
-    s.iter().all(|b| !matches!(*b, b'\n' | b'\r'))
-        && s.iter().filter(|b| !among(128, 191, **b)).count() <= 128
+    s.iter().all(|b| !matches!(*b, b'\n' | b'\r')) && points(s) <= 128
 }

@@ -1,7 +1,7 @@
 // The fields whose text is one of a few words: the word's number from 1, and 0 for any other text.
 ghost use Rattle.std.specs.Prelude.{[], ◌∷◌, ◌≡◌, ◌+◌, length};
 ghost use Rattle.rules.specs.Pieces.{word_number, word_number_from};
-ghost use Rattle.rules.specs.Words.{availabilities, call_modes, call_tests, content_types, message_types, notify_types, presences, rescuees, services, truths};
+ghost use Rattle.rules.specs.Words.{availabilities, call_modes, call_tests, content_types, live_providers, message_types, notify_types, presences, providers, rescuees, services, sexes, truths};
 
 use crate::numbers::{
     LOCATION_CONTENT, MESSAGE_IMAGE_CONTENT, PRESENCE_CONTENT, REFER_CONTENT, TEXT_CONTENT,
@@ -115,4 +115,35 @@ pub fn service(s: &[u8]) -> u8
             word_or(s, b"unknown", 3, word_or(s, b"callback", 4, 0)),
         ),
     )
+}
+
+// The provider of a location, as the words stand in order.
+pub fn provider(s: &[u8]) -> u8
+    ensures { result ≡ word_number providers s.now }
+{
+    word_or(
+        s,
+        b"gps",
+        1,
+        word_or(
+            s,
+            b"network",
+            2,
+            word_or(s, b"preset", 3, word_or(s, b"map", 4, 0)),
+        ),
+    )
+}
+
+// The provider of a position in talk.
+pub fn live_provider(s: &[u8]) -> u8
+    ensures { result ≡ word_number live_providers s.now }
+{
+    either(s, b"gps", b"network")
+}
+
+// A person's sex.
+pub fn sex(s: &[u8]) -> u8
+    ensures { result ≡ word_number sexes s.now }
+{
+    either(s, b"male", b"female")
 }

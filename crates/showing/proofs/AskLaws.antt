@@ -3,6 +3,7 @@ use Prim.Native.Nat.{ℕ}
 use Rattle.octets.specs.Ascii.{ascii}
 use Rattle.octets.specs.Text.{same}
 use Rattle.showing.specs.Asked.{asked_text}
+use Rattle.showing.specs.Located.{positions_text}
 use Rattle.showing.specs.Readings.{read_text}
 use Rattle.showing.specs.Shown.{unknown}
 use Rattle.showing.specs.Writers.{edit_text, reply_line, text_line}
@@ -15,25 +16,29 @@ module _ (c : ℕ) (name words : List ℕ) where
   unfolding asked_text
   asks_read a = simp a
 
-  pub asks-reply : same name (ascii "read") ≡ false → same name (ascii "reply") ≡ true → reply_line words ≡ asked_text c name words
+  pub asks-positions : same name (ascii "read") ≡ false → same name (ascii "positions") ≡ true → positions_text words ≡ asked_text c name words
   unfolding asked_text
-  asks-reply a b = simp (a, b)
+  asks-positions a b = simp (a, b)
 
-  pub asks-add : same name (ascii "read") ≡ false → same name (ascii "reply") ≡ false → same name (ascii "add") ≡ true → edit_text true words ≡ asked_text c name words
-  unfolding asked_text
-  asks-add a b d = simp (a, b, d)
+  module _ (a : same name (ascii "read") ≡ false) (b : same name (ascii "positions") ≡ false) where
+    pub asks-reply : same name (ascii "reply") ≡ true → reply_line words ≡ asked_text c name words
+    unfolding asked_text
+    asks-reply d = simp (a, b, d)
 
-  pub asks-remove : same name (ascii "read") ≡ false → same name (ascii "reply") ≡ false → same name (ascii "add") ≡ false → same name (ascii "remove") ≡ true
-      → edit_text false words ≡ asked_text c name words
-  unfolding asked_text
-  asks-remove a b d e = simp (a, b, d, e)
+    pub asks-add : same name (ascii "reply") ≡ false → same name (ascii "add") ≡ true → edit_text true words ≡ asked_text c name words
+    unfolding asked_text
+    asks-add d e = simp (a, b, d, e)
 
-  pub asks-text : same name (ascii "read") ≡ false → same name (ascii "reply") ≡ false → same name (ascii "add") ≡ false → same name (ascii "remove") ≡ false
-      → same name (ascii "text") ≡ true → text_line words ≡ asked_text c name words
-  unfolding asked_text
-  asks-text a b d e f = simp (a, b, d, e, f)
+    pub asks-remove : same name (ascii "reply") ≡ false → same name (ascii "add") ≡ false → same name (ascii "remove") ≡ true → edit_text false words ≡ asked_text c name words
+    unfolding asked_text
+    asks-remove d e f = simp (a, b, d, e, f)
 
-  pub asks_else : same name (ascii "read") ≡ false → same name (ascii "reply") ≡ false → same name (ascii "add") ≡ false → same name (ascii "remove") ≡ false
-      → same name (ascii "text") ≡ false → unknown ≡ asked_text c name words
-  unfolding asked_text
-  asks_else a b d e f = simp (a, b, d, e, f)
+    pub asks-text : same name (ascii "reply") ≡ false → same name (ascii "add") ≡ false → same name (ascii "remove") ≡ false → same name (ascii "text") ≡ true
+        → text_line words ≡ asked_text c name words
+    unfolding asked_text
+    asks-text d e f g = simp (a, b, d, e, f, g)
+
+    pub asks_else : same name (ascii "reply") ≡ false → same name (ascii "add") ≡ false → same name (ascii "remove") ≡ false → same name (ascii "text") ≡ false
+        → unknown ≡ asked_text c name words
+    unfolding asked_text
+    asks_else d e f g = simp (a, b, d, e, f, g)

@@ -4,3 +4,4 @@ pub mod ReadingLaws
 pub mod WriterLaws
 pub mod AskLaws
 pub mod Marks
+pub mod LocatedLaws

@@ -2,7 +2,7 @@
 -- Assumes nothing.
 use Prim.Native.Nat.{ℕ, zero, suc, ◌+◌, ◌-◌, ◌*◌, ◌≤◌, ◌<◌}
 use Rattle.message.specs.Reading.{ample, reading}
-use Rattle.fields.specs.declared.spans.Span.{Span}
+use Rattle.values.specs.declared.spans.Span.{Span}
 use Rattle.octets.proofs.Chain.{At}
 use Rattle.octets.proofs.TestLaws.{and_parts}
 use Rattle.octets.specs.Splice.{written}

@@ -1,6 +1,7 @@
 pub mod Words
 pub mod Shown
 pub mod Readings
+pub mod Located
 pub mod Writers
 pub mod Asked
 pub mod inner

@@ -3,6 +3,7 @@ ghost use Rattle.std.specs.Prelude.{◌≤◌, length};
 ghost use Rattle.showing.specs.Asked.{asked_text};
 ghost use Rattle.showing.specs.Shown.{Puts};
 
+use crate::located::positions;
 use crate::readings::read;
 use crate::shown::put_unknown;
 use crate::writers::{edit, reply, text};
@@ -10,7 +11,7 @@ use octets::same;
 
 // Writes what a command shows, by its name and the words behind it; a `read` under a ceiling.
 pub fn ask(
-    out: &mut [u8; 160100],
+    out: &mut [u8; 800000],
     bytes: &mut [u8; 85000],
     room: &mut [u8; 40000],
     name: &[u8],
@@ -22,6 +23,9 @@ pub fn ask(
 {
     if same(name, b"read") {
         return read(out, bytes, words, ceiling);
+    }
+    if same(name, b"positions") {
+        return positions(out, bytes, words);
     }
     if same(name, b"reply") {
         return reply(out, bytes, room, words);

@@ -10,7 +10,7 @@ use message::{Reading, Report};
 use octets::put;
 
 // A reading without its count.
-fn put_reading(out: &mut [u8; 160100], verdict: Reading) -> usize
+fn put_reading(out: &mut [u8; 800000], verdict: Reading) -> usize
     ensures { Puts out.old (reading_text verdict) result out.new × (result ≤ 64) }
 {
     match verdict {
@@ -24,7 +24,7 @@ fn put_reading(out: &mut [u8; 160100], verdict: Reading) -> usize
 }
 
 // What a reading is answered.
-fn put_report(out: &mut [u8; 160100], report: Report) -> usize
+fn put_report(out: &mut [u8; 800000], report: Report) -> usize
     ensures { Puts out.old (report_text report) result out.new }
 {
     let reading = report.reading;
@@ -33,7 +33,7 @@ fn put_report(out: &mut [u8; 160100], report: Report) -> usize
 }
 
 // Reads the first n bytes as a message under a ceiling, and writes what it is answered.
-fn judge(out: &mut [u8; 160100], bytes: &[u8; 85000], n: usize, ceiling: u32) -> usize
+fn judge(out: &mut [u8; 800000], bytes: &[u8; 85000], n: usize, ceiling: u32) -> usize
     requires { n ≤ 85000 }
     ensures { Puts out.old (report_text (reporting ceiling (take n bytes.now))) result out.new }
 {
@@ -42,7 +42,7 @@ fn judge(out: &mut [u8; 160100], bytes: &[u8; 85000], n: usize, ceiling: u32) ->
 }
 
 // `read HEX`, under a ceiling.
-pub fn read(out: &mut [u8; 160100], bytes: &mut [u8; 85000], word: &[u8], ceiling: u32) -> usize
+pub fn read(out: &mut [u8; 800000], bytes: &mut [u8; 85000], word: &[u8], ceiling: u32) -> usize
     requires { length word.now ≤ 170000 }
     ensures { Puts out.old (read_text ceiling word.now) result out.new }
 {

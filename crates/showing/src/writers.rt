@@ -79,7 +79,7 @@ fn put_room(out: &mut [u8], at: usize, room: &[u8; 40000], n: usize) -> usize
 
 // A line: the answer and the room after it.
 fn put_written(
-    out: &mut [u8; 160100],
+    out: &mut [u8; 800000],
     w: Result<usize, Refusal>,
     room: &[u8; 40000],
     n: usize,
@@ -101,7 +101,7 @@ fn written_of(r: Result<Taken, Refusal>) -> Result<usize, Refusal>
 
 // The same with the next host, which is a part of the message s.
 fn put_removed(
-    out: &mut [u8; 160100],
+    out: &mut [u8; 800000],
     r: Result<Taken, Refusal>,
     room: &[u8; 40000],
     n: usize,
@@ -178,7 +178,7 @@ fn text_into(room: &mut [u8], n: usize, s: &[u8]) -> Result<usize, Refusal>
 
 // The line of a reply, into a room of n bytes.
 fn write_reply(
-    out: &mut [u8; 160100],
+    out: &mut [u8; 800000],
     room: &mut [u8; 40000],
     n: usize,
     s: &[u8],
@@ -195,7 +195,7 @@ fn write_reply(
 
 // The line of a message with our entry.
 fn write_add(
-    out: &mut [u8; 160100],
+    out: &mut [u8; 800000],
     room: &mut [u8; 40000],
     n: usize,
     s: &[u8],
@@ -213,7 +213,7 @@ fn write_add(
 
 // The line of a message without our entry.
 fn write_remove(
-    out: &mut [u8; 160100],
+    out: &mut [u8; 800000],
     room: &mut [u8; 40000],
     n: usize,
     s: &[u8],
@@ -230,7 +230,7 @@ fn write_remove(
 }
 
 // The line of a text, into a room of n bytes.
-fn write_text(out: &mut [u8; 160100], room: &mut [u8; 40000], n: usize, s: &[u8]) -> usize
+fn write_text(out: &mut [u8; 800000], room: &mut [u8; 40000], n: usize, s: &[u8]) -> usize
     requires { n ≤ 40000 }
     ensures { Puts out.old (wrote_line n (texting s.now)) result out.new }
 {
@@ -241,7 +241,7 @@ fn write_text(out: &mut [u8; 160100], room: &mut [u8; 40000], n: usize, s: &[u8]
 
 // The one or the other.
 fn write_edit(
-    out: &mut [u8; 160100],
+    out: &mut [u8; 800000],
     room: &mut [u8; 40000],
     adds: bool,
     n: usize,
@@ -261,7 +261,7 @@ fn write_edit(
 
 // `ROOM HEX`, where the date ends at d.
 fn reply_to(
-    out: &mut [u8; 160100],
+    out: &mut [u8; 800000],
     bytes: &mut [u8; 85000],
     room: &mut [u8; 40000],
     code: u16,
@@ -284,7 +284,7 @@ fn reply_to(
 
 // `DATE ROOM HEX`.
 fn reply_dated(
-    out: &mut [u8; 160100],
+    out: &mut [u8; 800000],
     bytes: &mut [u8; 85000],
     room: &mut [u8; 40000],
     code: u16,
@@ -301,7 +301,7 @@ fn reply_dated(
 
 // `reply CODE DATE ROOM HEX`.
 pub fn reply(
-    out: &mut [u8; 160100],
+    out: &mut [u8; 800000],
     bytes: &mut [u8; 85000],
     room: &mut [u8; 40000],
     words: &[u8],
@@ -317,7 +317,7 @@ pub fn reply(
 
 // `ROOM HEX`, where the path's words end at a, b and c.
 fn edit_to(
-    out: &mut [u8; 160100],
+    out: &mut [u8; 800000],
     bytes: &mut [u8; 85000],
     room: &mut [u8; 40000],
     adds: bool,
@@ -342,7 +342,7 @@ fn edit_to(
 
 // `ORG ROOM HEX`.
 fn edit_organization(
-    out: &mut [u8; 160100],
+    out: &mut [u8; 800000],
     bytes: &mut [u8; 85000],
     room: &mut [u8; 40000],
     adds: bool,
@@ -362,7 +362,7 @@ fn edit_organization(
 
 // `DEST ORG ROOM HEX`.
 fn edit_destination(
-    out: &mut [u8; 160100],
+    out: &mut [u8; 800000],
     bytes: &mut [u8; 85000],
     room: &mut [u8; 40000],
     adds: bool,
@@ -381,7 +381,7 @@ fn edit_destination(
 
 // `add HOST DEST ORG ROOM HEX` and `remove HOST DEST ORG ROOM HEX`.
 pub fn edit(
-    out: &mut [u8; 160100],
+    out: &mut [u8; 800000],
     bytes: &mut [u8; 85000],
     room: &mut [u8; 40000],
     adds: bool,
@@ -398,7 +398,7 @@ pub fn edit(
 
 // `text ROOM HEX`.
 pub fn text(
-    out: &mut [u8; 160100],
+    out: &mut [u8; 800000],
     bytes: &mut [u8; 85000],
     room: &mut [u8; 40000],
     words: &[u8],

@@ -1,14 +1,14 @@
 -- An accepted message with another Via in its place, one that keeps Via's rule, is accepted again, with the same facts (`via-changed`): frame says that
 -- the text is JSON, with its tag and all other members as they were, and the reading goes by those alone. Assumes nothing.
 use Rattle.std.proofs.Common.{Ok}
-use Rattle.fields.proofs.SpellingLaws.{left_cut}
+use Rattle.values.proofs.SpellingLaws.{left_cut}
 use Prim.Native.Nat.{ℕ, zero, suc, ◌+◌, ◌-◌, ◌≤◌, ◌<◌}
 use Rattle.frame.proofs.Forwarding.{Changed}
 use Rattle.frame.proofs.MessageShape.{swap_read}
 use Rattle.json_text.specs.Places.{part, bytes, raw, closing, behind, size, left, quoted, value_of, members, spell}
 use Rattle.fields.specs.Known.{empty, noted}
 use Rattle.message.specs.Shape.{tag_of, object_of}
-use Rattle.fields.specs.Value.{word_spelled}
+use Rattle.values.specs.Value.{word_spelled}
 use Rattle.fields.specs.Via.{via_rule}
 use Rattle.rules.specs.Names.{fields, tags}
 use Rattle.utf8.specs.Rfc3629.{verdict}

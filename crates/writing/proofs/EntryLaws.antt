@@ -8,7 +8,7 @@ use Rattle.frame.proofs.Standing.{Piece}
 use Rattle.frame.proofs.Written.{plainly, in_quotes, text-piece, plain-name}
 use Rattle.json_text.proofs.Listing.{name-is}
 use Rattle.json_text.specs.Places.{members, spell}
-use Rattle.fields.specs.Value.{is_string, spelling_of, text_of, ruled, word_spelled}
+use Rattle.values.specs.Value.{is_string, spelling_of, text_of, ruled, word_spelled}
 use Rattle.fields.specs.Via.{hop_rule, is_hop}
 use Rattle.octets.specs.Ascii.{ascii}
 use Rattle.octets.specs.Text.{same}

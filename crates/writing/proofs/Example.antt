@@ -9,13 +9,13 @@ use Rattle.json_text.specs.Places.{elements_from}
 use Rattle.json_text.specs.Places.{elements, is_ws}
 use Rattle.message.specs.Checks.{lacks, breaks, lowest, checked}
 use Rattle.fields.specs.Field.{keeps}
-use Rattle.fields.specs.Known.{number_at, has, note, noted, repeated}
+use Rattle.fields.specs.Known.{has, note, noted, repeated}
 use Rattle.message.specs.Message.{number_of, method_of, from_caller, to_caller, setting_of, same_side, wrong_side, wrong_number, sides_disagree, request_disagrees, disagrees}
 use Rattle.message.specs.Message.{message_of}
-use Rattle.fields.specs.Spans.{text_at}
+use Rattle.values.specs.Spans.{text_at}
 use Rattle.message.specs.Reading.{agreed, judged, known, reading, reporting, settled, shaped}
 use Rattle.message.specs.Shape.{tag_at, tag_of, object_of}
-use Rattle.fields.specs.Value.{is_string, is_array, spelling_of, text_of, freely, ruled, word_spelled}
+use Rattle.values.specs.Value.{is_string, is_array, spelling_of, text_of, freely, ruled, word_spelled, number_at}
 use Rattle.fields.specs.Via.{hop_places, hop_rule, hop_keeps, is_hop, via_rule}
 use Rattle.octets.specs.Ascii.{ascii}
 use Rattle.octets.specs.Class.{among, is_digit, is_lower, is_upper, is_letter, is_alnum, all}

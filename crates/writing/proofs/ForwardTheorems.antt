@@ -10,7 +10,7 @@ use Rattle.fields.specs.Hop.{host_of}
 use Rattle.message.specs.Message.{setting_of, message_of}
 use Rattle.message.specs.Reading.{ample, reading}
 use Rattle.message.specs.declared.facts.Message.{Message}
-use Rattle.fields.specs.declared.spans.Span.{Span}
+use Rattle.values.specs.declared.spans.Span.{Span}
 use Rattle.message.proofs.AcceptedRows.{Accepted, accepted-read, read_taken}
 use Rattle.message.proofs.AlikeLaws.{SameFacts, same_bytes, alike-facts}
 use Rattle.writing.proofs.ChangeLaws.{Again}

@@ -13,13 +13,13 @@ use Rattle.json_text.specs.Places.{past, raw, size, spaces, value_of}
 use Rattle.message.specs.Checks.{breaks, checked, lacks, lowest}
 use Rattle.fields.specs.Field.{keeps}
 use Rattle.fields.specs.Hop.{destination_of, hop_of, host_of}
-use Rattle.fields.specs.Known.{has, note, noted, number_at, repeated}
-use Rattle.message.specs.Message.{content_at, disagrees, from_caller, message_of, method_of, number_of, request_disagrees, same_side, setting_of, sides_disagree, to_caller}
+use Rattle.fields.specs.Known.{has, note, noted, repeated}
+use Rattle.message.specs.Message.{word_at, disagrees, from_caller, message_of, method_of, number_of, request_disagrees, same_side, setting_of, sides_disagree, to_caller}
 use Rattle.message.specs.Message.{probe_of, wrong_number, wrong_side}
 use Rattle.message.specs.Reading.{agreed, judged, known, reading, reporting, settled, shaped}
 use Rattle.message.specs.Shape.{object_of, tag_at, tag_of}
-use Rattle.fields.specs.Spans.{spelling_at, text_at}
-use Rattle.fields.specs.Value.{freely, is_array, is_string, ruled, spelling_of, text_of, word_spelled}
+use Rattle.values.specs.Spans.{spelling_at, text_at}
+use Rattle.values.specs.Value.{freely, is_array, is_string, ruled, spelling_of, text_of, word_spelled, number_at}
 use Rattle.fields.specs.Via.{hop_keeps, hop_places, hop_rule, is_hop, via_rule}
 use Rattle.octets.specs.Ascii.{ascii}
 use Rattle.octets.specs.Class.{all, among, is_alnum, is_digit, is_letter, is_lower, is_upper}
@@ -65,7 +65,7 @@ unfolding reading reporting tour json.begun json.begins octets char_at begins go
     call_id_rule
     destination_rule host_rule organization_rule reads run_length decimal_at digits within holds all among is_alnum is_digit is_letter is_lower is_upper pieces.has_piece
     pieces.piece_end
-    setting_of method_of number_of content_at sequence_of number_end sequence.cseq_number sequence.cseq_method settled agreed disagrees sides_disagree same_side wrong_side
+    setting_of method_of number_of word_at sequence_of number_end sequence.cseq_number sequence.cseq_method settled agreed disagrees sides_disagree same_side wrong_side
     wrong_number
     request_disagrees from_caller to_caller address_of user_end caller_end callee_end message_of adding add_to entry path_rule some is_ours spells host_of destination_of hop_of
     added stops_of

@@ -11,8 +11,8 @@ use Rattle.json_text.proofs.Listing.{Item, items, values, read_all, at_byte, at_
 use Rattle.json_text.proofs.ScanLaws.{Opener, Opened}
 use Rattle.json_text.specs.Places.{bytes, past, follows, members, elements_from, elements, spell}
 use Rattle.fields.specs.Hop.{hop_of, host_of}
-use Rattle.fields.specs.Spans.{spelling_at}
-use Rattle.fields.specs.Value.{is_array, spelling_of}
+use Rattle.values.specs.Spans.{spelling_at}
+use Rattle.values.specs.Value.{is_array, spelling_of}
 use Rattle.fields.specs.Via.{hop_places, is_hop, via_rule}
 use Rattle.octets.proofs.ClassLaws.{among_in, in_among}
 use Rattle.octets.proofs.TestLaws.{and_parts}

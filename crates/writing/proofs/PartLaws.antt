@@ -1,5 +1,5 @@
 -- Parts of parts: a part of a value stands in the message where the value does; and the last but one of a list. Assumes nothing.
-use Rattle.fields.proofs.SpellingLaws.{take_own}
+use Rattle.values.proofs.SpellingLaws.{take_own}
 use Prim.Native.Nat.{ℕ, zero, suc, ◌+◌, ◌-◌, ◌≤◌}
 use Rattle.frame.proofs.ArrayEdits.{but_last}
 use Rattle.json_text.specs.Places.{part, bytes, behind, prev_of}

@@ -2,7 +2,7 @@
 -- byte what it was. Over the public contracts of `reply`, `add`, `remove` and `text`. Assumes nothing.
 use Prim.Native.Nat.{ℕ}
 use Rattle.message.specs.Reading.{ample, reading}
-use Rattle.fields.specs.declared.spans.Span.{Span}
+use Rattle.values.specs.declared.spans.Span.{Span}
 use Rattle.std.specs.Prelude.{Result, Ok, Err}
 use Rattle.writing.specs.Adding.{adding}
 use Rattle.writing.specs.Outcome.{Outcome, refuse, write, fitted, answered, put, output_left, Writes}

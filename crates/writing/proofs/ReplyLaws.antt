@@ -15,7 +15,7 @@ use Rattle.json_text.specs.inner.Machine.{answer}
 use Rattle.json_text.specs.Places.{bytes, behind, past, raw, value_of, members, elements, spell}
 use Rattle.fields.specs.Field.{keeps}
 use Rattle.message.specs.Shape.{tag_of, object_of}
-use Rattle.fields.specs.Value.{is_string, ruled, word_spelled}
+use Rattle.values.specs.Value.{is_string, ruled, word_spelled}
 use Rattle.fields.specs.declared.judging.Setting.{Setting}
 use Rattle.octets.specs.Ascii.{ascii}
 use Rattle.octets.specs.Text.{same}

@@ -15,10 +15,10 @@ use Rattle.message.specs.Checks.{lacks, breaks}
 use Rattle.fields.specs.Field.{status_field, keeps}
 use Rattle.fields.specs.Known.{empty, noted}
 use Rattle.message.specs.Message.{method_of, number_of, from_caller, to_caller, code_of, setting_of, sides_disagree, response_disagrees, disagrees, message_of, first_setting}
-use Rattle.fields.specs.Spans.{text_at}
+use Rattle.values.specs.Spans.{text_at}
 use Rattle.message.specs.Reading.{ample, reading}
 use Rattle.message.specs.Shape.{object_of}
-use Rattle.fields.specs.Value.{is_string, text_of, freely, ruled, word_spelled}
+use Rattle.values.specs.Value.{is_string, text_of, freely, ruled, word_spelled}
 use Rattle.message.specs.declared.facts.Message.{Message}
 use Rattle.std.specs.Prelude.{Ok}
 use Rattle.octets.specs.Ascii.{ascii}

@@ -2,7 +2,7 @@
 use Prim.Native.Nat.{ℕ, zero, suc}
 use Rattle.frame.proofs.MessageShape.{swap_read}
 use Rattle.message.proofs.PairLaws.{Read, found, value_in, doubled, Nth}
-use Rattle.fields.specs.Value.{word_spelled}
+use Rattle.values.specs.Value.{word_spelled}
 use borrow.Author.Tests.{ne_eqb}
 use mathlib.Core.List.{List, [], ◌∷◌}
 use mathlib.Core.Path.{◌≡◌, refl, sym, ◌∙◌}

@@ -7,10 +7,10 @@ use Rattle.frame.specs.Edit.{stops_of}
 use Rattle.json_text.proofs.Listing.{Item, starts_at, stops_at, array-starts, array-stops}
 use Rattle.json_text.specs.Places.{part, bytes, behind, elements, last_of, prev_of}
 use Rattle.fields.proofs.TrailLaws.{host-within}
-use Rattle.fields.proofs.SpellingLaws.{spelled_cut}
+use Rattle.values.proofs.SpellingLaws.{spelled_cut}
 use Rattle.fields.specs.Hop.{host_of}
 use Rattle.message.specs.Message.{setting_of, message_of}
-use Rattle.fields.specs.Spans.{cut}
+use Rattle.values.specs.Spans.{cut}
 use Rattle.message.specs.Reading.{ample, reading}
 use Rattle.fields.specs.Trail.{host_span, host_start, host_end, trail_of, trail_in, moved}
 use Rattle.fields.specs.Via.{hop_places, is_hop}

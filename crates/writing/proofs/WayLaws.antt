@@ -4,7 +4,7 @@ use Rattle.frame.specs.Edit.{added, removed}
 use Rattle.json_text.specs.Places.{bytes}
 use Rattle.message.specs.Reading.{ample, reading}
 use Rattle.message.specs.declared.facts.Message.{Message}
-use Rattle.fields.specs.declared.spans.Span.{Span}
+use Rattle.values.specs.declared.spans.Span.{Span}
 use Rattle.rules.specs.Date.{date_rule}
 use Rattle.rules.specs.Status.{status_text}
 use Rattle.std.specs.Prelude.{Result, Ok, Err}

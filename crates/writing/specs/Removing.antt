@@ -4,9 +4,9 @@ use Rattle.std.specs.Prelude.{ℕ, eqb, ltb, length, not, cond, List, [], ◌≡
 use Rattle.frame.specs.Edit.{removed}
 use Rattle.json_text.specs.Places.{bytes, elements, part, last_of}
 use Rattle.message.specs.Reading.{ample, reading}
-use Rattle.fields.specs.Spans.{nowhere}
+use Rattle.values.specs.Spans.{nowhere}
 use Rattle.message.specs.declared.facts.Message.{Message}
-use Rattle.fields.specs.declared.spans.Span.{Span}
+use Rattle.values.specs.declared.spans.Span.{Span}
 use Rattle.message.specs.Refusal.{Reading}
 use Rattle.writing.specs.Adding.{path_rule}
 use Rattle.writing.specs.Outcome.{Outcome, refuse, write, on_read, answered, output_left}

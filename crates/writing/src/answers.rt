@@ -2,9 +2,9 @@
 ghost use Rattle.std.specs.Prelude.{◌≡◌};
 ghost use Rattle.writing.specs.Outcome.{writing_number};
 
-use fields::Span;
 use std::error::Error;
 use std::fmt;
+use values::Span;
 
 // Why there is none, by the numbers of document 01; 9 is a text's alone (02 §2).
 #[derive(Clone, Copy, Debug, PartialEq, Eq)]

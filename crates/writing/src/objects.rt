@@ -4,9 +4,10 @@ ghost use Rattle.writing.specs.Objects.{is_ours, objects, some};
 
 use crate::paths::Path;
 use escapes::spells;
-use fields::{hop_of, spelling_of};
+use fields::hop_of;
 use json_text::{element_at, part, skip, value_part};
 use octets::byte;
+use values::spelling_of;
 
 // Whether the object x has this host and this destination.
 pub fn is_ours(x: &[u8], path: Path) -> bool

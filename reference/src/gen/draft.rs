@@ -4,10 +4,12 @@
 use super::escapes;
 use super::misses::{self, Miss};
 use super::node::{Node, Spacing};
+use super::particulars;
 use super::rng::Rng;
 use super::texts;
 use crate::fields;
 use crate::message::{self, Side};
+use crate::particulars::Call;
 use crate::rules::{self, ContentType, Method};
 use crate::writing::OwnPath;
 
@@ -153,23 +155,24 @@ impl Plan {
 
     fn add_invite_fields(&self, rng: &mut Rng, draft: &mut Draft) {
         let service = *rng.pick(&rules::SERVICES);
-        let training = service != "callback" && rng.one_in(4);
+        let mode = match service != "callback" && rng.one_in(4) {
+            true => "training",
+            false => "emergency",
+        };
         let rescuee = *rng.pick(&rules::RESCUEES);
+        let call = Call::of(mode.as_bytes(), rescuee.as_bytes(), service.as_bytes());
         let language = *rng.pick(&["ja", "en", "zz", "aa"]);
         let secure = if self.secure { "true" } else { "false" };
         draft.set("Session-ID", Node::text(texts::call_id(rng)));
-        draft.set(
-            "Call-Mode",
-            Node::text(if training { "training" } else { "emergency" }),
-        );
+        draft.set("Call-Mode", Node::text(mode));
         draft.set("Call-Test", Node::raw(rng.pick(&rules::CALL_TESTS)));
         draft.set("Secure-Call", Node::raw(secure));
         draft.set("Rescuee", Node::text(rescuee));
         draft.set("Request-Service", Node::text(service));
         draft.set("Language", Node::text(language));
-        draft.set("Locations", locations(rng));
+        draft.set("Locations", particulars::locations(rng));
         draft.set("User-Agent", Node::text(texts::free(rng)));
-        draft.set("Caller", caller(rng));
+        draft.set("Caller", particulars::caller(rng, call));
         if rng.one_in(6) {
             draft.set("Referred-By", Node::text(texts::fire_id(rng)));
             draft.set("Refer-Memo", memo(rng));
@@ -235,34 +238,6 @@ fn hop(rng: &mut Rng, path: &OwnPath) -> Node {
     Node::Object(members)
 }
 
-fn locations(rng: &mut Rng) -> Node {
-    let count = rng.below(3);
-    let location = |rng: &mut Rng| {
-        Node::Object(vec![
-            Node::member("provider", Node::text(rng.pick(&["gps", "network", "map"]))),
-            Node::member(
-                "latitude",
-                Node::raw(rng.pick(&["34.688986", "-0.5", "1e1"])),
-            ),
-            Node::member("longitude", Node::raw("135.533802")),
-        ])
-    };
-    Node::Array((0..count).map(|_| location(rng)).collect())
-}
-
-fn caller(rng: &mut Rng) -> Node {
-    let mut members = vec![Node::member("region", Node::text("tokyo"))];
-    if rng.one_in(3) {
-        let contact = Node::Object(vec![Node::member("name", Node::text("山田花子"))]);
-        members.push(Node::member(
-            "emergency-contacts",
-            Node::Array(vec![contact]),
-        ));
-        members.push(Node::member("Via", Node::raw("null")));
-    }
-    Node::Object(members)
-}
-
 /// A ping or a pong, all right.
 pub fn ping_or_pong(rng: &mut Rng) -> Draft {
     let ping = rng.one_in(2);
@@ -296,6 +271,13 @@ impl Draft {
         self.fields
             .iter()
             .position(|(known, _)| known == name.as_bytes())
+    }
+
+    /// Lets `act` change the value of a field, if it is there.
+    pub fn change(&mut self, name: &str, act: impl FnOnce(&mut Node)) {
+        if let Some(index) = self.index(name) {
+            act(&mut self.fields[index].1);
+        }
     }
 
     fn get(&self, name: &str) -> Option<&Node> {
@@ -355,14 +337,15 @@ impl Draft {
 
     /// Spoils the draft in one way, for one of the rows 5 to 10.
     pub fn spoil(&mut self, rng: &mut Rng) {
-        match rng.below(20) {
+        match rng.below(24) {
             0 => self.spoil_envelope(rng),
             1..=2 => self.double_a_field(rng),
             3..=5 => self.drop_a_field(rng),
             6..=10 => self.break_a_field(rng),
             11 => self.nest(rng),
-            12..=15 => self.disagree(rng),
-            _ => self.miss_a_letter(rng),
+            12..=16 => self.disagree(rng),
+            17..=20 => self.miss_a_letter(rng),
+            _ => self.break_particulars(rng),
         }
     }
 
@@ -453,6 +436,19 @@ impl Draft {
         }
     }
 
+    /// Row 9 inside a value that has particulars (02 §4), or in any.
+    fn break_particulars(&mut self, rng: &mut Rng) {
+        let mut fields = vec![fields::LOCATIONS, fields::CALLER, fields::BODY];
+        fields.retain(|field| self.index(fields::NAMES[field - 1]).is_some());
+        if fields.is_empty() {
+            return self.break_a_field(rng);
+        }
+        let field = *rng.pick(&fields);
+        self.change(fields::NAMES[field - 1], |value| {
+            particulars::spoil(rng, field, value);
+        });
+    }
+
     /// Any field, but half the time one of the method's own if there is any.
     fn pick_a_field(&self, rng: &mut Rng) -> usize {
         let is_own = |index: &usize| {
@@ -469,15 +465,10 @@ impl Draft {
     /// Row 5 and its near side: a value so deep that eight or nine are open.
     fn nest(&mut self, rng: &mut Rng) {
         let levels = rng.between(5, 8);
-        let deep = nested(rng, levels);
-        match rng.below(3) {
-            0 if self.get("Caller").is_some() => {
-                self.set("Caller", Node::Object(vec![Node::member("a", deep)]));
-            }
-            1 if self.get("Locations").is_some() => {
-                self.set("Locations", Node::Array(vec![deep]));
-            }
-            _ => self.set("x-deep", deep),
+        let name = *rng.pick(&["Caller", "Locations", "x-deep"]);
+        match self.get(name) {
+            Some(_) => self.change(name, |value| particulars::hide(rng, value, levels - 1)),
+            None => self.set("x-deep", nested(rng, levels)),
         }
     }
 
@@ -502,6 +493,7 @@ impl Draft {
             _ if self.get("Call-Mode").is_some() => {
                 self.set("Call-Mode", Node::text("training"));
                 self.set("Request-Service", Node::text("callback"));
+                self.change("Caller", particulars::drop_contacts);
             }
             _ => {
                 let content_type = *rng.pick(&ContentType::IMAGES);
@@ -520,7 +512,7 @@ pub fn body(rng: &mut Rng, content_type: ContentType) -> Node {
         Plain => Node::text(texts::free(rng)),
         TextImage | MessageImage => Node::text(texts::image(rng)),
         Presence => Node::text(rng.pick(&rules::PRESENCES)),
-        Location => Node::Object(vec![Node::member("latitude", Node::raw("34.68952"))]),
+        Location => particulars::live_location(rng),
         Refer => {
             const STATUSES: &[&str] = &[
                 "180 Ringing",
@@ -606,7 +598,7 @@ fn bad_value(rng: &mut Rng, field: usize, old: &Node) -> Node {
         // The other method's are as wrong as those of none.
         CONTENT_TYPE if rng.one_in(2) => rng.one_of(&ContentType::NAMES),
         CONTENT_TYPE => texts::bad_content_type(rng),
-        BODY => bad_body(rng, old),
+        BODY if !matches!(old, Node::Object(_)) => bad_body(rng, old),
         REFER_TO | REFERRED_BY => texts::bad_fire_id(rng),
         REFER_MEMO => match rng.below(5) {
             0 => texts::memo(rng, 129),
@@ -622,7 +614,12 @@ fn bad_value(rng: &mut Rng, field: usize, old: &Node) -> Node {
         RESCUEE => b"third_party".to_vec(),
         REQUEST_SERVICE => b"police".to_vec(),
         LANGUAGE => rng.one_of(&["j", "jpn", "JA", "j1", ""]),
-        LOCATIONS | OPTIONS => {
+        BODY | LOCATIONS | CALLER => {
+            let mut value = old.clone();
+            particulars::spoil(rng, field, &mut value);
+            return value;
+        }
+        OPTIONS => {
             const LISTS: &[&str] = &[
                 "{}",
                 "\"[]\"",
@@ -634,7 +631,7 @@ fn bad_value(rng: &mut Rng, field: usize, old: &Node) -> Node {
             ];
             return Node::raw(rng.pick(LISTS));
         }
-        USER_AGENT | CALLER => return any_value(rng),
+        USER_AGENT => return any_value(rng),
         _ => [texts::bad_fire_id(rng), b".callee".to_vec()].concat(),
     };
     Node::text(text)

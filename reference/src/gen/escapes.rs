@@ -157,7 +157,7 @@ fn by_number(rng: &mut Rng, unit: u16) -> Vec<u8> {
 }
 
 /// A text with a lone surrogate among its letters, often as the last.
-fn put_lone(rng: &mut Rng, spelled: &[u8]) -> Vec<u8> {
+pub fn put_lone(rng: &mut Rng, spelled: &[u8]) -> Vec<u8> {
     let mut letters = letters(rng, spelled, Share::One);
     let at = match rng.one_in(3) {
         true => letters.len(),

@@ -11,7 +11,9 @@ mod letters;
 mod log;
 mod misses;
 mod node;
+mod particulars;
 mod photos;
+mod positions;
 mod questions;
 mod raw;
 mod rng;
@@ -57,6 +59,12 @@ pub fn ceiling_lines(seed: u64, count: u64, output: impl Write) -> io::Result<()
 pub fn letter_lines(seed: u64, count: u64, output: impl Write) -> io::Result<()> {
     let mut letters = letters::Letters::new(seed);
     write_lines(seed, count, output, || letters.line())
+}
+
+/// So many lines for `probe` that read particulars.
+pub fn particular_lines(seed: u64, count: u64, output: impl Write) -> io::Result<()> {
+    let mut rng = Rng::new(seed);
+    write_lines(seed, count, output, || positions::line(&mut rng))
 }
 
 /// So many lines for `json`.
@@ -137,6 +145,10 @@ mod tests {
         made(|out| letter_lines(seed, count, out))
     }
 
+    fn particular_script(seed: u64, count: u64) -> Vec<u8> {
+        made(|out| particular_lines(seed, count, out))
+    }
+
     fn json_script(seed: u64, count: u64) -> Vec<u8> {
         made(|out| json_lines(seed, count, out))
     }
@@ -153,12 +165,14 @@ mod tests {
         assert_eq!(utf8_script(5, 500), utf8_script(5, 500));
         assert_eq!(ceiling_script(5, 500), ceiling_script(5, 500));
         assert_eq!(letter_script(5, 500), letter_script(5, 500));
+        assert_eq!(particular_script(5, 500), particular_script(5, 500));
         assert_eq!(json_script(5, 500), json_script(5, 500));
         assert_eq!(rule_script(5, 500), rule_script(5, 500));
         assert_ne!(photo_script(5, 500), photo_script(6, 500));
         assert_ne!(utf8_script(5, 500), utf8_script(6, 500));
         assert_ne!(ceiling_script(5, 500), ceiling_script(6, 500));
         assert_ne!(letter_script(5, 500), letter_script(6, 500));
+        assert_ne!(particular_script(5, 500), particular_script(6, 500));
         assert_ne!(json_script(5, 500), json_script(6, 500));
         assert_ne!(rule_script(5, 500), rule_script(6, 500));
         assert_ne!(keep_log(5, 500), keep_log(6, 500));
@@ -176,6 +190,7 @@ mod tests {
                 utf8_script(seed, 300),
                 ceiling_script(seed, 150),
                 letter_script(seed, 300),
+                particular_script(seed, 300),
                 json_script(seed, 300),
                 rule_script(seed, 300),
             ] {
@@ -353,8 +368,13 @@ mod tests {
 
     /// The messages that the lines of a script read.
     fn messages_read(script: &[u8]) -> Vec<String> {
+        messages_of(script, b"read ")
+    }
+
+    /// The messages of all lines of a command of one word.
+    fn messages_of(script: &[u8], command: &[u8]) -> Vec<String> {
         let lines = script.split(|byte| *byte == b'\n');
-        let words = lines.filter_map(|line| line.strip_prefix(b"read "));
+        let words = lines.filter_map(|line| line.strip_prefix(command));
         let messages = words.filter_map(|word| String::from_utf8(hex::decode(word)?).ok());
         messages.collect()
     }
@@ -439,6 +459,32 @@ mod tests {
         for field in misses::FIELDS {
             let count = letters.iter().filter(|letter| **letter == field).count();
             assert!(count >= 20, "{field}: {count}");
+        }
+    }
+
+    #[test]
+    fn particulars_reach_their_fields() {
+        let script = particular_script(1, 4000);
+        let answers = written(Probe::new(), &script);
+        let located = answers_to(&script, &answers, |line| line.starts_with(b"positions "));
+        reaches(
+            &located,
+            &[
+                ("ok", 1000),
+                ("ok home ", 100),
+                ("ok -", 50),
+                ("no 7 ", 10),
+                ("no 8 ", 20),
+                ("no 9 ", 1000),
+                ("no 10 ", 50),
+            ],
+        );
+        let messages = messages_of(&script, b"positions ");
+        let places = messages.iter().filter_map(|m| place_of_9(m.as_bytes()));
+        let fields: Vec<usize> = places.map(|(field, _)| field).collect();
+        for wanted in [fields::BODY, fields::LOCATIONS, fields::CALLER] {
+            let count = fields.iter().filter(|field| **field == wanted).count();
+            assert!(count >= 200, "{wanted}: {count}");
         }
     }
 

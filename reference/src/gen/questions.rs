@@ -318,7 +318,7 @@ fn near_status(rng: &mut Rng) -> Vec<u8> {
 }
 
 /// A word in other letters, cut, gone on, or stuck to another of its kind.
-fn near_word(rng: &mut Rng, words: &[&str]) -> Vec<u8> {
+pub fn near_word(rng: &mut Rng, words: &[&str]) -> Vec<u8> {
     let mut text = rng.one_of(words);
     let at = rng.below(text.len() + 1);
     match rng.below(7) {

@@ -197,6 +197,16 @@ fn odd_line(rng: &mut Rng) -> Vec<u8> {
         "READ 5b5d",
         "reads 5b5d",
         "read\t5b5d",
+        "positions",
+        "positions ",
+        "positions -",
+        "positions 5b5d",
+        "positions 5B5D",
+        "positions 5b5d ",
+        "positions  5b5d",
+        "positions 5b5d 1",
+        "position 5b5d",
+        "Positions 5b5d",
         "ceiling",
         "ceiling ",
         "ceiling -",
@@ -303,7 +313,7 @@ fn odd_line(rng: &mut Rng) -> Vec<u8> {
 /// Lines at and over each limit of size.
 fn long_line(rng: &mut Rng) -> Vec<u8> {
     let over = rng.below(2);
-    match rng.below(11) {
+    match rng.below(12) {
         0 => read(vec![b'['; MAX_BYTES + over]),
         1 => read(vec![b' '; MAX_LENGTH + over]),
         2 => words("msg", &[&1usize, &Hex(vec![b' '; MAX_BYTES + over])]),
@@ -326,6 +336,7 @@ fn long_line(rng: &mut Rng) -> Vec<u8> {
         7 => read(ceilings::crowd(rng)),
         8 => text(vec![b'\\'; MAX_BYTES + over], MAX_ROOM),
         9 => text(b"\\u0041".repeat(MAX_BYTES / 6), MAX_ROOM + over),
+        10 => positions(vec![b'['; MAX_BYTES + over]),
         _ => {
             let plan = Plan::random(rng);
             let mut bytes = flow::message(rng, &plan);
@@ -340,7 +351,10 @@ fn read_line(rng: &mut Rng) -> Vec<u8> {
         true => raw::text(rng),
         false => message(rng),
     };
-    read(bytes)
+    match rng.one_in(8) {
+        true => positions(bytes),
+        false => read(bytes),
+    }
 }
 
 /// A message to read: right, or spoiled for one of the rows or more.
@@ -388,6 +402,11 @@ pub fn message(rng: &mut Rng) -> Vec<u8> {
 /// The line that reads these bytes.
 pub fn read(bytes: Vec<u8>) -> Vec<u8> {
     words("read", &[&Hex(bytes)])
+}
+
+/// The line that shows the positions in a message of these bytes.
+pub fn positions(bytes: Vec<u8>) -> Vec<u8> {
+    words("positions", &[&Hex(bytes)])
 }
 
 /// The line that sets this ceiling.

@@ -539,6 +539,41 @@ pub fn memo(rng: &mut Rng, count: usize) -> Vec<u8> {
     unit.repeat(count).into()
 }
 
+/// A length that is at either end of its range now and then.
+pub fn seldom_at_an_end(rng: &mut Rng, low: usize, high: usize) -> usize {
+    match rng.below(16) {
+        0 => low,
+        1 => high,
+        _ => rng.between(low, high.min(low + 8)),
+    }
+}
+
+/// A text of `low` to `high` code points of a kind or two, some spelled with
+/// escapes.
+pub fn points(rng: &mut Rng, low: usize, high: usize) -> Vec<u8> {
+    const UNITS: &[&str] = &[
+        "a",
+        "Z",
+        " ",
+        "語",
+        "山",
+        "カ",
+        "é",
+        "\u{1f600}",
+        "\\n",
+        "\\/",
+        "\\\\",
+        "\\u8a9e",
+        "\\u0000",
+        "\\ud83d\\uDE00",
+    ];
+    // Half of the time of those alone that people write.
+    let units = if rng.one_in(2) { UNITS } else { &UNITS[..6] };
+    let few = [*rng.pick(units), *rng.pick(units)];
+    let count = seldom_at_an_end(rng, low, high);
+    (0..count).flat_map(|_| rng.pick(&few).bytes()).collect()
+}
+
 /// Free text for a Body, a User-Agent or an option.
 pub fn free(rng: &mut Rng) -> Vec<u8> {
     const FREE: &[&str] = &[

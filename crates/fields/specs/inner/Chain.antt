@@ -1,8 +1,8 @@
 -- The rules of the fields from 4 on as the code goes through them, by tests on the field's number. `chain-keeps` of proofs/ChainLaws.antt ties them to
 -- the list in Field.antt. Assumes nothing.
 use Rattle.std.specs.Prelude.{ℕ, eqb, leb, ltb, Bool, true, ◌&&◌, ◌||◌, cond, List}
-use Rattle.fields.specs.Field.{names_image, one_of, strings_field}
-use Rattle.fields.specs.Value.{is_string, is_array, is_object, freely, ruled}
+use Rattle.fields.specs.Field.{names_image, strings_field}
+use Rattle.values.specs.Value.{is_string, freely, ruled, one_of}
 use Rattle.fields.specs.Via.{via_rule}
 use Rattle.fields.specs.declared.judging.Setting.{Setting}
 use Rattle.rules.specs.Date.{date_rule}
@@ -53,25 +53,26 @@ on_text k n t =
     (plain_rule n t)))
 
 -- the fields whose value is taken by its own bytes or by its kind: 16 Call-Test the number written 0 or 1; 17 Secure-Call true or false;
--- 21 Locations an array; 22 User-Agent a string; 23 Caller an object, and 10 Body, a location; 24 Options an array of strings
+-- 22 User-Agent a string; 24 Options an array of strings
 unfoldable pub kind_rule : ℕ → List ℕ → Bool
 kind_rule n v =
     cond (eqb n 16) (one_of call_tests v)
     (cond (eqb n 17) (one_of truths v)
-    (cond (eqb n 21) (is_array v)
     (cond (eqb n 22) (is_string v)
-    (cond (eqb n 23) (is_object v)
-    (cond (eqb n 10) (is_object v)
-    (strings_field v))))))
+    (strings_field v)))
 
 -- whether field n is one of those
-unfoldable pub by_kind : Setting → ℕ → Bool
-by_kind k n = (eqb n 10 && eqb k.content content_location) || ((leb 16 n && ltb n 18) || (leb 21 n && ltb n 25))
+unfoldable pub by_kind : ℕ → Bool
+by_kind n = (leb 16 n && ltb n 18) || (eqb n 22 || eqb n 24)
 
--- the rule of field n
+-- whether the value of field n has to hold particulars, which are judged by their own faults: 21, 23, and 10 where it is a location
+unfoldable pub holds_particulars : Setting → ℕ → Bool
+holds_particulars k n = eqb n 21 || (eqb n 23 || (eqb n 10 && eqb k.content content_location))
+
+-- the rule of any other field n
 unfoldable pub chain : Setting → ℕ → List ℕ → Bool
 chain k n v =
     cond (eqb n 6) (via_rule v)
     (cond (eqb n 13) (ruled memo_rule v)
-    (cond (by_kind k n) (kind_rule n v)
+    (cond (by_kind n) (kind_rule n v)
     (freely (on_text k n) v)))

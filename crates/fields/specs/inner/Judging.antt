@@ -3,7 +3,7 @@
 use Rattle.std.specs.Prelude.{ℕ, cond, List, Result, Ok, Err}
 use Rattle.fields.specs.Field.{keeps, letter_at, fault_at}
 use Rattle.fields.specs.Trail.{trail_of}
-use Rattle.fields.specs.Value.{text_of, freely, ruled}
+use Rattle.values.specs.Value.{text_of, freely, ruled}
 use Rattle.fields.specs.Via.{via_rule}
 use Rattle.fields.specs.declared.judging.Setting.{Setting}
 use Rattle.json_text.specs.Places.{elements}

@@ -6,7 +6,7 @@ use Rattle.std.specs.Prelude.{ℕ, ◌+◌, ◌-◌, ◌<◌, eqb, get_or, Bool,
 use Rattle.fields.specs.Field.{keeps, fault_at}
 use Rattle.fields.specs.Trail.{trail_in}
 use Rattle.fields.specs.declared.judging.Setting.{Setting}
-use Rattle.fields.specs.declared.spans.Span.{Span}
+use Rattle.values.specs.declared.spans.Span.{Span}
 use Rattle.json_text.specs.Places.{bytes}
 use Rattle.message.specs.Checks.{breaks, lowest, nine}
 use Rattle.message.specs.Message.{callee_span, caller_span, code_of, field_text, first_setting, method_of, number_of, user_span}

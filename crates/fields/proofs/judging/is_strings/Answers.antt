@@ -1,7 +1,7 @@
 use Prim.Native.Nat.{ℕ, ◌+◌, ◌-◌}
 use lib.ListN.{length}
 use Rattle.fields.proofs.FieldLaws.{quotes, not_list, empty_list, list_from, every_more, every-none, every-stops}
-use Rattle.fields.proofs.ValueLaws.{array-there}
+use Rattle.values.proofs.ValueLaws.{array-there}
 use Rattle.fields.proofs.judging.is_strings.Goals as goal
 use Rattle.json_text.proofs.TurnLaws.{one_element, no_element, comma, no-comma}
 use Rattle.json_text.specs.Places.{elements_from}

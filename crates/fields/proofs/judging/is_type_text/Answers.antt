@@ -1,9 +1,9 @@
 -- `fields::judging::is_type_text` meets its contract. Each exit puts in the tests that led there, and takes what its callee ensures. Assumes nothing.
 use Rattle.fields.proofs.judging.is_type_text.Goals as goal
-use Rattle.fields.specs.Field.{one_of}
 use Rattle.fields.specs.inner.Chain.{on_type}
 use Rattle.rules.proofs.NameLaws.{some_number}
 use Rattle.rules.specs.Words.{notify_types}
+use Rattle.values.specs.Value.{one_of}
 use borrow.Author.Tests.{ne_eqb}
 use lib.Dec.{ltb}
 use mathlib.Core.Path.{ap, ◌∙◌}

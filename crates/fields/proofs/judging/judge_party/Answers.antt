@@ -3,9 +3,9 @@ use Prim.Native.Nat.{◌+◌}
 use Rattle.escapes.specs.Placing.{place_of}
 use Rattle.escapes.specs.Rfc7159.{text}
 use Rattle.fields.proofs.JudgingLaws.{party_untold, party_kept, party_broken}
-use Rattle.fields.proofs.SpelledLaws.{err_told, or_told}
 use Rattle.fields.proofs.judging.judge_party.Goals as goal
 use Rattle.fields.specs.Field.{letter_reach}
+use Rattle.values.proofs.SpelledLaws.{err_told, or_told}
 use borrow.Author.Rules.{rules}
 use mathlib.Core.Path.{◌≡◌, refl, sym, ◌∙◌}
 

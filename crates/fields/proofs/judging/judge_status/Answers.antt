@@ -1,7 +1,7 @@
 -- `fields::judging::judge_status` meets its contract. One law of `JudgingLaws` for each way out. Assumes nothing.
 use Rattle.fields.proofs.JudgingLaws.{status-untold, code-told}
-use Rattle.fields.proofs.ValueLaws.{text-is}
 use Rattle.fields.proofs.judging.judge_status.Goals as goal
+use Rattle.values.proofs.ValueLaws.{text-is}
 use mathlib.Core.Path.{sym, ◌∙◌}
 
 pub returns-then-not-is_string : goal.returns-then-not-is_string

@@ -1,7 +1,7 @@
 -- `fields::judging::keeps_memo` meets its contract. By its text where it has no escape, and else by its measure. Assumes nothing.
-use Rattle.fields.proofs.ValueLaws.{measured-memo, no-memo, plain-memo}
 use Rattle.fields.proofs.judging.keeps_memo.Goals as goal
 use Rattle.fields.proofs.judging.keeps_memo.Goals.{then-not-m, else-not-m}
+use Rattle.values.proofs.ValueLaws.{measured-memo, no-memo, plain-memo}
 use mathlib.Core.Path.{sym, ◌∙◌}
 
 pub returns-then-not-is_string : goal.returns-then-not-is_string

@@ -1,6 +1,6 @@
 -- `fields::judging::keeps_text` meets its contract. As it is spelled, and else decoded. Assumes nothing.
 use Rattle.fields.proofs.TriedLaws.{text_tried}
-use Rattle.fields.proofs.ValueLaws.{string-text, no-string}
+use Rattle.values.proofs.ValueLaws.{string-text, no-string}
 use Rattle.fields.proofs.judging.keeps_text.Goals as goal
 use Rattle.fields.specs.inner.Chain.{on_text}
 use Rattle.escapes.specs.Rfc7159.{text}

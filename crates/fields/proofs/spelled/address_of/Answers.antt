@@ -1,12 +1,12 @@
 -- `fields::spelled::address_of` meets its contract. As it is spelled, and else decoded. Assumes nothing.
 use Rattle.escapes.specs.Rfc7159.{text}
 use Rattle.fields.proofs.FieldLaws.{address_kept}
-use Rattle.fields.proofs.SpelledLaws.{own-text, within_same, or_told}
 use Rattle.fields.proofs.TriedLaws.{broken_address}
 use Rattle.fields.proofs.spelled.address_of.Goals as goal
 use Rattle.rules.proofs.PlainLaws.{address_plain}
 use Rattle.rules.specs.Address.{address_of}
 use Rattle.std.specs.Prelude.{None}
+use Rattle.values.proofs.SpelledLaws.{own-text, within_same, or_told}
 use borrow.Author.Rules.{rules}
 use lib.ListN.{take}
 use mathlib.Core.Path.{◌≡◌, ap, sym, ◌∙◌}

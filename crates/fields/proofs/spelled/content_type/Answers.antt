@@ -5,7 +5,7 @@ use borrow.Author.Rules.{rules}
 use native.Mathlib.Omega.{arith}
 use lib.ListN.{take}
 use mathlib.Core.Path.{◌≡◌}
-use Rattle.fields.proofs.SpelledLaws.{word-decoded, word-own}
+use Rattle.values.proofs.SpelledLaws.{word-decoded, word-own}
 use Rattle.fields.proofs.TriedLaws.{type_words}
 use Rattle.fields.proofs.spelled.content_type.Goals as goal
 use Rattle.rules.specs.Words.{content_types}

@@ -4,7 +4,7 @@ use Rattle.rules.specs.Pieces.{word_number}
 use borrow.Author.Rules.{rules}
 use lib.ListN.{take}
 use mathlib.Core.Path.{◌≡◌}
-use Rattle.fields.proofs.SpelledLaws.{word-decoded, word_none, word-own}
+use Rattle.values.proofs.SpelledLaws.{word-decoded, word_none, word-own}
 use Rattle.fields.proofs.TriedLaws.{field_words}
 use Rattle.fields.proofs.spelled.field.Goals as goal
 use Rattle.rules.specs.Names.{fields}

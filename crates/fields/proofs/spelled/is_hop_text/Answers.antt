@@ -1,5 +1,5 @@
 -- `fields::spelled::is_hop_text` meets its contract. As it is spelled, and else decoded. Assumes nothing.
-use Rattle.fields.proofs.SpelledLaws.{tried_plain}
+use Rattle.values.proofs.SpelledLaws.{tried_plain}
 use Rattle.fields.proofs.TriedLaws.{hop-plain}
 use Rattle.fields.proofs.spelled.is_hop_text.Goals as goal
 use Rattle.escapes.specs.Rfc7159.{text}

@@ -1,12 +1,12 @@
 -- `fields::spelled::sequence_of` meets its contract. As it is spelled, and else decoded. Assumes nothing.
 use Rattle.escapes.specs.Rfc7159.{text}
 use Rattle.fields.proofs.FieldLaws.{sequence-kept}
-use Rattle.fields.proofs.SpelledLaws.{own-text, within_same, or_told}
 use Rattle.fields.proofs.TriedLaws.{broken-sequence}
 use Rattle.fields.proofs.spelled.sequence_of.Goals as goal
 use Rattle.rules.proofs.PlainLaws.{sequence-plain}
 use Rattle.rules.specs.Sequence.{sequence_of}
 use Rattle.std.specs.Prelude.{None}
+use Rattle.values.proofs.SpelledLaws.{own-text, within_same, or_told}
 use borrow.Author.Rules.{rules}
 use lib.ListN.{take}
 use mathlib.Core.Path.{◌≡◌, ap, sym, ◌∙◌}

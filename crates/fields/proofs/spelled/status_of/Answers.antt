@@ -1,10 +1,10 @@
 -- `fields::spelled::status_of` meets its contract. As it is spelled, and else decoded: the front decides. Assumes nothing.
 use Rattle.escapes.specs.Rfc7159.{text}
 use Rattle.fields.proofs.FieldLaws.{status-kept}
-use Rattle.fields.proofs.SpelledLaws.{front-own, front_same, or_told}
 use Rattle.fields.proofs.spelled.status_of.Goals as goal
 use Rattle.rules.proofs.PlainLaws.{code-front, status-front}
 use Rattle.rules.specs.Status.{status_of}
+use Rattle.values.proofs.SpelledLaws.{front-own, front_same, or_told}
 use borrow.Author.Rules.{rules}
 use lib.ListN.{take}
 use mathlib.Core.Path.{◌≡◌, sym, ◌∙◌}

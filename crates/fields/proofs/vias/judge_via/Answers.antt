@@ -1,11 +1,11 @@
 use Prim.Native.Nat.{◌-◌}
 use Rattle.fields.proofs.JudgingLaws.{via-broken, via-kept}
 use Rattle.fields.proofs.TrailLaws.{walk-starts, walk-over, walk-full, walk-broken, walk-again, walk-shut}
-use Rattle.fields.proofs.ValueLaws.{array-there}
 use Rattle.fields.proofs.ViaLaws.{not-array, no-object}
 use Rattle.fields.proofs.vias.judge_via.Goals as goal
 use Rattle.json_text.proofs.TurnLaws.{no_element}
 use Rattle.octets.proofs.TextLaws.{there}
+use Rattle.values.proofs.ValueLaws.{array-there}
 use borrow.Author.Rules.{rules}
 use lib.ListN.{length}
 use mathlib.Core.Path.{sym, ◌∙◌}

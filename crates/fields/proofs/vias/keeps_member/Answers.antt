@@ -1,14 +1,14 @@
 -- `fields::vias::keeps_member` meets its contract. A string is under the rule, and nothing else. Assumes nothing.
 use Prim.Native.Nat.{ℕ}
-use Rattle.fields.proofs.SpelledLaws.{ruled-is}
-use Rattle.fields.proofs.SpellingLaws.{own-bytes}
 use Rattle.fields.proofs.TriedLaws.{hop-plain}
-use Rattle.fields.proofs.ValueLaws.{string-text}
 use Rattle.fields.proofs.ViaLaws.{is-there}
 use Rattle.fields.proofs.vias.keeps_member.Goals as goal
 use Rattle.fields.specs.Via.{hop_rule}
-use Rattle.fields.specs.inner.Asked.{Own}
 use Rattle.json_text.specs.Places.{part}
+use Rattle.values.proofs.SpelledLaws.{ruled-is}
+use Rattle.values.proofs.SpellingLaws.{own-bytes}
+use Rattle.values.proofs.ValueLaws.{string-text}
+use Rattle.values.specs.inner.Asked.{Own}
 use mathlib.Core.List.{List}
 use mathlib.Core.Path.{refl, sym, ap, subst, ◌∙◌}
 use native.Mathlib.Omega.{arith}

@@ -7,10 +7,10 @@ use Rattle.fields.proofs.vias.object_at.Goals.{
   else-keeps_member-via-then-keeps_member+else-keeps_member-2,
   else-keeps_member-via-else-keeps_member,
 }
-use Rattle.fields.specs.Spans.{spelling_span}
 use Rattle.fields.specs.Via.{hop_keeps}
 use Rattle.fields.specs.inner.Gathering.{begin_of}
 use Rattle.octets.proofs.TextLaws.{there}
+use Rattle.values.specs.Spans.{spelling_span}
 use mathlib.Core.Path.{sym, ap, ◌∙◌}
 
 pub returns-then-byte-ne123 : goal.returns-then-byte-ne123

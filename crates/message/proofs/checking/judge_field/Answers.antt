@@ -1,8 +1,8 @@
 -- `message::checking::judge_field` meets its contract. One law of `CheckLaws` for each way out. Assumes nothing.
 use Rattle.message.specs.inner.Facts.{by_tag}
 use Prim.Native.Nat.{ℕ}
-use Rattle.fields.proofs.SpellingLaws.{own-bytes}
-use Rattle.fields.specs.inner.Asked.{Own}
+use Rattle.values.proofs.SpellingLaws.{own-bytes}
+use Rattle.values.specs.inner.Asked.{Own}
 use Rattle.message.proofs.CheckLaws.{absent, present, unlisted}
 use Rattle.message.proofs.checking.judge_field.Goals as goal
 use lib.ListN.{get_or}

@@ -1,15 +1,15 @@
 -- `message::envelopes::judge_opening` meets its contract. A field that is kept passes row 9 on, a broken one ends it. Assumes nothing.
 use Prim.Native.Nat.{ℕ}
 use Rattle.fields.proofs.JudgingLaws.{cseq_fault, cseq-tells, party_fault, party_tells}
-use Rattle.fields.proofs.SpellingLaws.{own-bytes}
 use Rattle.fields.specs.Field.{keeps}
-use Rattle.fields.specs.inner.Asked.{Own}
 use Rattle.message.proofs.CheckLaws.{kept}
 use Rattle.message.proofs.EnvelopeLaws.{inside, method-told, number-told, party_told, passing, refusing}
 use Rattle.message.proofs.envelopes.judge_opening.Goals as goal
 use Rattle.message.specs.Message.{first_setting}
 use Rattle.message.specs.inner.Facts.{OpeningSays}
 use Rattle.std.specs.Prelude.{Err}
+use Rattle.values.proofs.SpellingLaws.{own-bytes}
+use Rattle.values.specs.inner.Asked.{Own}
 use borrow.Author.Rules.{rules}
 use lib.ListN.{get_or}
 use mathlib.Core.List.{List}

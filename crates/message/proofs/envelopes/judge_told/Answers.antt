@@ -1,11 +1,11 @@
 -- `message::envelopes::judge_told` meets its contract. A field that is kept passes row 9 on, a broken one ends it. Assumes nothing.
 use Prim.Native.Nat.{ℕ}
 use Rattle.fields.proofs.JudgingLaws.{status_fault}
-use Rattle.fields.proofs.SpellingLaws.{own-bytes}
-use Rattle.fields.specs.inner.Asked.{Own}
 use Rattle.message.proofs.CheckLaws.{fits}
 use Rattle.message.proofs.EnvelopeLaws.{no_code, told, untold}
 use Rattle.message.proofs.envelopes.judge_told.Goals as goal
+use Rattle.values.proofs.SpellingLaws.{own-bytes}
+use Rattle.values.specs.inner.Asked.{Own}
 use lib.ListN.{get_or}
 use mathlib.Core.List.{List}
 use mathlib.Core.Path.{subst, sym, ◌∙◌}

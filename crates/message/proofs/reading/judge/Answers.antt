@@ -1,6 +1,5 @@
 -- `message::reading::judge` meets its contract. By its definition and what the callees ensure. Assumes nothing.
 use Prim.Native.Nat.{ℕ}
-use Rattle.fields.specs.Spans.{text_at}
 use Rattle.message.proofs.CheckLaws.{none-missing, refused}
 use Rattle.message.proofs.EnvelopeLaws.{asked}
 use Rattle.message.proofs.FactLaws.{method-few, setting-tag}
@@ -9,6 +8,7 @@ use Rattle.message.specs.Message.{method_of, first_setting}
 use Rattle.message.specs.Reading.{judged}
 use Rattle.message.specs.inner.Facts.{FactsOf}
 use Rattle.std.specs.Prelude.{Err}
+use Rattle.values.specs.Spans.{text_at}
 use borrow.Author.Rules.{rules}
 use borrow.Author.Tests.{le-ltb, lt-ltb}
 use lib.ListN.{get_or}

@@ -1,13 +1,12 @@
--- `dates::is_date` meets its contract: the definition opened, and the tests put in. Assumes nothing.
+-- `dates::is_date` meets its contract: behind the day stands the time. Assumes nothing.
 use Rattle.rules.proofs.dates.is_date.Goals as goal
-use Rattle.rules.specs.Date.{date_rule}
-use Rattle.rules.specs.Pieces.{piece_end, has_piece, reads}
+use Rattle.rules.specs.Date.{date_rule, time}
 use Rattle.std.proofs.Common.{arith}
 
-pub returns-then-is_number-3 : goal.returns-then-is_number-3
-unfolding date_rule reads has_piece piece_end
-returns-then-is_number-3 c = grind arith
+pub returns-then-has_day : goal.returns-then-has_day
+unfolding date_rule
+returns-then-has_day c = grind (arith, c.has_day.ensures time)
 
-pub returns-else-is_number-3 : goal.returns-else-is_number-3
-unfolding date_rule reads has_piece piece_end
-returns-else-is_number-3 c = grind arith
+pub returns-else-has_day : goal.returns-else-has_day
+unfolding date_rule
+returns-else-has_day c = grind (arith, c.has_day.ensures time)

@@ -1,6 +1,6 @@
 -- `writing::objects::is_ours` meets its contract: host and destination are spelled at the places that `hop_of` finds. Assumes nothing.
 use Rattle.fields.specs.Hop.{host_of, destination_of}
-use Rattle.fields.specs.Spans.{spelling_at}
+use Rattle.values.specs.Spans.{spelling_at}
 use Rattle.writing.proofs.objects.is_ours.Goals as goal
 use Rattle.writing.specs.Objects.{is_ours}
 use mathlib.Core.Path.{sym, ◌∙◌}

@@ -1,7 +1,0 @@
--- `fields::spans::part_at` meets its contract. By its definition and what the callees ensure. Assumes nothing.
-use Rattle.fields.proofs.spans.part_at.Goals as goal
-use Rattle.fields.specs.Spans.{cut}
-
-pub returns : goal.returns
-unfolding cut
-returns c = c.part.ensures

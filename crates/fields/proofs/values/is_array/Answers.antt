@@ -1,7 +1,0 @@
--- `fields::values::is_array` meets its contract. By its definition and what the callees ensure. Assumes nothing.
-use Rattle.fields.proofs.values.is_array.Goals as goal
-use Rattle.fields.specs.Value.{is_array}
-
-pub returns : goal.returns
-unfolding is_array
-returns c = cc

@@ -1,7 +1,0 @@
--- `fields::values::is_string` meets its contract. By its definition and what the callees ensure. Assumes nothing.
-use Rattle.fields.proofs.values.is_string.Goals as goal
-use Rattle.fields.specs.Value.{is_string}
-
-pub returns : goal.returns
-unfolding is_string
-returns c = cc

@@ -1,7 +1,0 @@
--- `fields::values::spelling_of` meets its contract. By its definition and what the callees ensure. Assumes nothing.
-use Rattle.fields.proofs.values.spelling_of.Goals as goal
-use Rattle.fields.specs.Value.{spelling_of}
-
-pub returns : goal.returns
-unfolding spelling_of
-returns c = cc

@@ -1,0 +1,3 @@
+pub mod SpellingLaws
+pub mod SpelledLaws
+pub mod ValueLaws
